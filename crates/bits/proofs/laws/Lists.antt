@@ -1,0 +1,85 @@
+-- Laws, not definitions: lists that are tabulated, and lists that a loop fills from the front.
+-- Assumes nothing.
+use mathlib.Core.Path.{_≡_, refl, sym, ap, ap₂, _∙_}
+use mathlib.Core.List.{List, [], _∷_, _++_}
+use Prim.Native.Nat.{ℕ, zero, suc, _+_, _-_, _≤_, _<_, suc-le-suc}
+use native.Mathlib.Nat.{le-of-suc-le-suc, not-suc-le-zero, zero-lt-suc}
+use native.Mathlib.Decide.{decLt}
+use native.Mathlib.Numerals.{add-one}
+use native.Mathlib.Omega.{arith}
+use lib.Dec.{lit<}
+use lib.ListN.{getD, length, set, take, drop, length-append, List·getD-append, List·getD-eq-default}
+use lib.Seq.{ext-getD, take-suc-set, take-all, getD-append-add}
+use Rattle.bits.specs.Lists.{at, tabulate}
+
+-- ---- tabulated lists
+pub length-tabulate : {A : Type 0} (n : ℕ) (f : ℕ → A) → length (tabulate n f) ≡ n
+unfolding tabulate
+length-tabulate zero f = refl
+length-tabulate (suc n) f = ap suc (length-tabulate n (λ k. f (suc k)))
+
+pub getD-tabulate : {A : Type 0} (n : ℕ) (f : ℕ → A) (d : A) (i : ℕ) → i < n → getD (tabulate n f) i d ≡ f i
+unfolding tabulate
+getD-tabulate zero f d i h = absurd (not-suc-le-zero h)
+getD-tabulate (suc n) f d zero h = refl
+getD-tabulate (suc n) f d (suc i) h = getD-tabulate n (λ k. f (suc k)) d i (le-of-suc-le-suc h)
+
+pub at-tabulate : (n : ℕ) (f : ℕ → ℕ) (i : ℕ) → i < n → at (tabulate n f) i ≡ f i
+at-tabulate n f i h = getD-tabulate n f 0 i h
+
+pub tabulate-ext : {A : Type 0} (n : ℕ) (f g : ℕ → A) → ((i : ℕ) → i < n → f i ≡ g i) → tabulate n f ≡ tabulate n g
+unfolding tabulate
+tabulate-ext zero f g h = refl
+tabulate-ext (suc n) f g h =
+    ap₂ (λ a l. a ∷ l) (h zero (zero-lt-suc n)) (tabulate-ext n (λ k. f (suc k)) (λ k. g (suc k)) (λ i b. h (suc i) (suc-le-suc b)))
+
+pub tabulate-snoc : {A : Type 0} (n : ℕ) (f : ℕ → A) → tabulate (suc n) f ≡ tabulate n f ++ (f n ∷ [])
+unfolding tabulate
+tabulate-snoc zero f = refl
+tabulate-snoc (suc n) f = ap (λ l. f zero ∷ l) (tabulate-snoc n (λ k. f (suc k)))
+
+-- A list is its elements, tabulated.
+pub tabulate-at : (n : ℕ) (s : List ℕ) → length s ≡ n → tabulate n (at s) ≡ s
+tabulate-at n s e =
+    ext-getD 0 (tabulate n (at s)) s (length-tabulate n _ ∙ sym e)
+    (λ i h. at-tabulate n (at s) i (omega (arith, length-tabulate n (at s))))
+
+-- Two lists with the same n elements.
+pub ext-at : (n : ℕ) (a b : List ℕ) → length a ≡ n → length b ≡ n → ((i : ℕ) → i < n → at a i ≡ at b i) → a ≡ b
+ext-at n a b p q e = ext-getD 0 a b (p ∙ sym q) (λ i h. e i (omega arith))
+
+-- ---- an element past the end is 0
+pub at-past : (l : List ℕ) (i : ℕ) → length l ≤ i → at l i ≡ 0
+at-past l i h = List·getD-eq-default l 0 {n = i} h
+
+-- ---- every element is below a bound
+abbrev pub Below : ℕ → List ℕ → Type 0
+Below b l = (i : ℕ) → at l i < b
+
+pub tabulate-below : (b n : ℕ) (f : ℕ → ℕ) → 0 < b → ((i : ℕ) → i < n → f i < b) → Below b (tabulate n f)
+tabulate-below b n f p h i = elim (decLt i n) [
+  | yes l ↦ rw (at-tabulate n f i l) (h i l)
+  | no l ↦ rw (at-past (tabulate n f) i (omega (arith, length-tabulate n f))) p
+]
+
+pub append-below : (b : ℕ) (u v : List ℕ) → Below b u → Below b v → Below b (u ++ v)
+append-below b u v p q i = elim (decLt i (length u)) [
+  | yes h ↦ rw (List·getD-append u v 0 i h) (p i)
+  | no h ↦
+      let e : i ≡ length u + (i - length u) = omega arith in
+      rw (e, getD-append-add u v (i - length u) 0) (q (i - length u))
+]
+
+-- ---- a list that is filled from the front: element i is f i
+pub fill-more : (t : List ℕ) (i : ℕ) (f : ℕ → ℕ) (v : ℕ) → i < length t → take i t ≡ tabulate i f → v ≡ f i
+    → take (i + 1) (set t i v) ≡ tabulate (i + 1) f
+fill-more t i f v h p q =
+    ap (λ (n : ℕ). take n (set t i v)) (add-one i)
+    ∙ take-suc-set t i v h
+    ∙ ap₂ (λ (l : List ℕ) (x : ℕ). l ++ (x ∷ [])) p q
+    ∙ sym (tabulate-snoc i f)
+    ∙ ap (λ (n : ℕ). tabulate n f) (sym (add-one i))
+
+pub fill-all : (n : ℕ) (t : List ℕ) (i : ℕ) (f : ℕ → ℕ) → length t ≡ n → i ≡ n → take i t ≡ tabulate i f → t ≡ tabulate n f
+fill-all n t i f l e p =
+    sym (take-all n t (omega arith)) ∙ ap (λ (k : ℕ). take k t) (sym e) ∙ p ∙ ap (λ (k : ℕ). tabulate k f) e

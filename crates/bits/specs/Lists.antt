@@ -1,0 +1,13 @@
+-- Lists of numbers. Definitions only; their laws are in proofs/laws/Lists.antt.
+use mathlib.Core.List.{List, [], _∷_}
+use Prim.Native.Nat.{ℕ, zero, suc}
+use lib.ListN.{getD}
+
+-- Element i of a list of numbers, 0 past its end.
+abbrev pub at : List ℕ → ℕ → ℕ
+at l i = getD l i 0
+
+-- The list f 0, f 1, .., f (n - 1).
+unfoldable pub tabulate : {A : Type 0} → ℕ → (ℕ → A) → List A
+tabulate zero f = []
+tabulate (suc n) f = f zero ∷ tabulate n (λ k. f (suc k))

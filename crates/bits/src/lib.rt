@@ -1,0 +1,4 @@
+// Bit vectors and bit matrices.
+pub fn one() -> u64 {
+    1
+}
