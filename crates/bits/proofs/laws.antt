@@ -6,3 +6,4 @@ pub mod Vectors
 pub mod Matrices
 pub mod Elimination
 pub mod Inverses
+pub mod Words

@@ -5,3 +5,4 @@ pub mod Bytes
 pub mod Matrices
 pub mod Elimination
 pub mod Inverses
+pub mod Words

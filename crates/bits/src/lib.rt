@@ -1,4 +1,4 @@
-// Bit vectors and bit matrices.
-pub fn one() -> u64 {
-    1
-}
+// Bit vectors and bit matrices of up to 128 rows: one code for every width. The definitions are those of specs/.
+mod elimination;
+pub mod matrix;
+pub mod vector;

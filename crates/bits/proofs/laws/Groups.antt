@@ -6,6 +6,7 @@ use mathlib.Core.Path.{_≡_, refl, sym, ap, ap₂, _∙_, subst}
 use Prim.Native.Nat.{ℕ, zero, suc, _+_, _-_, _*_, _/_, _%_, _^_, _≤_, _<_}
 use native.Mathlib.Decide.{decLt, ℕ-discrete}
 use native.Mathlib.Nat.{mod-lt, mul-suc, mul-zero, sub-self, div-one, add-comm}
+use native.Mathlib.Numerals.{add-one}
 use native.Mathlib.Omega.{arith}
 use borrow.Author.Tests.{eq-eqb, ne-eqb}
 use lib.Arith.{digits-lt}
@@ -71,6 +72,11 @@ joined-xor k zero f g a b = refl
 joined-xor k (suc n) f g a b =
     ap (λ (x : ℕ). x * 2 ^ k + bitXor (f n) (g n)) (joined-xor k n f g (λ i h. a i (omega arith)) (λ i h. b i (omega arith)))
     ∙ sym (xor-block k (joined k n f) (joined k n g) (f n) (g n) (a n (omega arith)) (b n (omega arith)))
+
+-- One group more, as a loop has it.
+pub joined-next : (k n : ℕ) (f : ℕ → ℕ) → joined k (n + 1) f ≡ joined k n f * 2 ^ k + f n
+unfolding joined
+joined-next k n f = ap (λ (x : ℕ). joined k x f) (add-one n)
 
 -- Each group of a joined number is the one that was joined.
 pub group-joined : (k n : ℕ) (f : ℕ → ℕ) → ((i : ℕ) → i < n → f i < 2 ^ k) → (i : ℕ) → i < n → group k n i (joined k n f) ≡ f i

@@ -140,9 +140,9 @@ unique n m b c fits cfits long e =
     let same : ((w : ℕ) → w < 2 ^ n → product n c w ≡ product n b w) → c ≡ b =
     λ p. ext-at n c b long (U .long) (rows-same n (at c) (at b) cfits (U .fits) p) in (
       λ left. same (λ w hw.
-      ap (product n c) (sym (U .right w hw)) ∙ left (product n b w) (product-lt n (at b) w)),
+          ap (product n c) (sym (U .right w hw)) ∙ left (product n b w) (product-lt n (at b) w)),
       λ right. same (λ w hw.
-      sym (U .left (product n c w) (product-lt n (at c) w)) ∙ ap (product n b) (right w hw)),
+          sym (U .left (product n c w) (product-lt n (at c) w)) ∙ ap (product n b) (right w hw)),
     )
 
 -- ---- what the code shows: rows that are an inverse of m, or a vector other than 0 that m takes to 0
