@@ -7,3 +7,5 @@ pub mod Matrices
 pub mod Elimination
 pub mod Inverses
 pub mod Words
+pub mod Work
+pub mod Bytes

@@ -6,3 +6,4 @@ pub mod Matrices
 pub mod Elimination
 pub mod Inverses
 pub mod Words
+pub mod Work

@@ -1,5 +1,5 @@
 -- Lists of numbers. Definitions only; their laws are in proofs/laws/Lists.antt.
-use mathlib.Core.List.{List, [], _∷_}
+use mathlib.Core.List.{List, [], _∷_, _++_}
 use Prim.Native.Nat.{ℕ, zero, suc}
 use lib.ListN.{getD}
 
@@ -11,3 +11,8 @@ at l i = getD l i 0
 unfoldable pub tabulate : {A : Type 0} → ℕ → (ℕ → A) → List A
 tabulate zero f = []
 tabulate (suc n) f = f zero ∷ tabulate n (λ k. f (suc k))
+
+-- The lists t 0, t 1, .., t (n - 1), one after the other.
+unfoldable pub concat : ℕ → (ℕ → List ℕ) → List ℕ
+concat zero t = []
+concat (suc n) t = concat n t ++ t n

@@ -2,8 +2,9 @@
 -- (document 01, "Bits, lists, matrices"). Definitions only.
 use mathlib.Core.List.{List}
 use mathlib.Core.Path.{_≡_}
-use Prim.Native.Nat.{ℕ, _^_, _<_}
-use Rattle.bits.specs.Lists.{at, tabulate}
+use Prim.Native.Nat.{ℕ, _+_, _*_, _^_, _<_}
+use Rattle.bits.specs.Bytes.{number, bytesOf}
+use Rattle.bits.specs.Lists.{at, tabulate, concat}
 use Rattle.bits.specs.Vectors.{vector, unit, dot}
 
 -- The product of the n rows f 0, f 1, .. and a vector: bit i is the parity of row i and the vector.
@@ -29,3 +30,10 @@ Undoes n u m = (v : ℕ) → v < 2 ^ n → u (m v) ≡ v
 -- A matrix has an inverse: some map, whatever it is, undoes its product.
 abbrev pub Invertible : ℕ → List ℕ → Type 0
 Invertible n m = (u : ℕ → ℕ) × Undoes n u (product n m)
+
+-- The matrix of 8 w rows that bytes write, w bytes to a row; and the bytes that write a matrix.
+unfoldable pub matrixOf : ℕ → List ℕ → List ℕ
+matrixOf w s = tabulate (8 * w) (λ i. number w (λ j. at s (i * w + j)))
+
+unfoldable pub matrixBytes : ℕ → List ℕ → List ℕ
+matrixBytes w m = concat (8 * w) (λ i. bytesOf w (at m i))

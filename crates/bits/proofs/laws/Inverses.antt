@@ -24,7 +24,7 @@ pub record Found (n k : ℕ) (f : ℕ → ℕ) (i p : ℕ) : Type 0 where
   pub has : p < n → bit n k (f p) ≡ 1
   pub before : (j : ℕ) → i ≤ j → j < p → bit n k (f j) ≡ 0
 
-pivot-found : (n k : ℕ) (f : ℕ → ℕ) (d i : ℕ) → i + d ≡ n → Found n k f i (pivotFrom n k f d i)
+pub pivot-found : (n k : ℕ) (f : ℕ → ℕ) (d i : ℕ) → i + d ≡ n → Found n k f i (pivotFrom n k f d i)
 unfolding pivotFrom
 pivot-found n k f zero i e =
     record { from = omega arith; upto = omega arith; has = λ h. absurd (omega arith); before = λ j a b. absurd (omega arith) }

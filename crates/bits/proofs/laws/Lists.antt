@@ -1,16 +1,17 @@
 -- Laws, not definitions: lists that are tabulated, and lists that a loop fills from the front.
 -- Assumes nothing.
-use mathlib.Core.Path.{_≡_, refl, sym, ap, ap₂, _∙_}
-use mathlib.Core.List.{List, [], _∷_, _++_}
-use Prim.Native.Nat.{ℕ, zero, suc, _+_, _-_, _≤_, _<_, suc-le-suc}
-use native.Mathlib.Nat.{le-of-suc-le-suc, not-suc-le-zero, zero-lt-suc}
+use mathlib.Core.Path.{_≡_, refl, sym, ap, ap₂, _∙_, subst}
+use mathlib.Core.List.{List, [], _∷_, _++_, append-assoc}
+use Prim.Native.Nat.{ℕ, zero, suc, _+_, _-_, _*_, _≤_, _<_, suc-le-suc}
+use native.Mathlib.Nat.{le-of-suc-le-suc, not-suc-le-zero, zero-lt-suc, zero-mul, suc-mul}
 use native.Mathlib.Decide.{decLt}
 use native.Mathlib.Numerals.{add-one}
 use native.Mathlib.Omega.{arith}
-use lib.Dec.{lit<}
+use borrow.Rule.Slice.PartMut.{putMid, postOf}
+use lib.Arith.{digits-lt}
 use lib.ListN.{getD, length, set, take, drop, length-append, List·getD-append, List·getD-eq-default}
-use lib.Seq.{ext-getD, take-suc-set, take-all, getD-append-add}
-use Rattle.bits.specs.Lists.{at, tabulate}
+use lib.Seq.{ext-getD, take-suc-set, take-all, take-at, length-take-le, getD-append-add}
+use Rattle.bits.specs.Lists.{at, tabulate, concat}
 
 -- ---- tabulated lists
 pub length-tabulate : {A : Type 0} (n : ℕ) (f : ℕ → A) → length (tabulate n f) ≡ n
@@ -83,3 +84,44 @@ fill-more t i f v h p q =
 pub fill-all : (n : ℕ) (t : List ℕ) (i : ℕ) (f : ℕ → ℕ) → length t ≡ n → i ≡ n → take i t ≡ tabulate i f → t ≡ tabulate n f
 fill-all n t i f l e p =
     sym (take-all n t (omega arith)) ∙ ap (λ (k : ℕ). take k t) (sym e) ∙ p ∙ ap (λ (k : ℕ). tabulate k f) e
+
+-- ---- lists one after the other
+pub concat-next : (n : ℕ) (t : ℕ → List ℕ) → concat (n + 1) t ≡ concat n t ++ t n
+unfolding concat
+concat-next n t = ap (λ (k : ℕ). concat k t) (add-one n)
+
+pub concat-same : (n : ℕ) (s t : ℕ → List ℕ) → ((i : ℕ) → i < n → s i ≡ t i) → concat n s ≡ concat n t
+unfolding concat
+concat-same zero s t e = refl
+concat-same (suc n) s t e = ap₂ (λ u v. u ++ v) (concat-same n s t (λ i h. e i (omega arith))) (e n (omega arith))
+
+module _ (w : ℕ) (t : ℕ → List ℕ) where
+  pub length-concat : (n : ℕ) → ((i : ℕ) → i < n → length (t i) ≡ w) → length (concat n t) ≡ n * w
+  unfolding concat
+  length-concat zero l = sym (zero-mul w)
+  length-concat (suc n) l =
+      length-append (concat n t) (t n)
+      ∙ ap₂ (λ (x y : ℕ). x + y) (length-concat n (λ i h. l i (omega arith))) (l n (omega arith))
+      ∙ sym (suc-mul n w)
+
+  -- Element j of list i.
+  pub at-concat : (n : ℕ) → ((i : ℕ) → i < n → length (t i) ≡ w) → (i j : ℕ) → i < n → j < w → at (concat n t) (i * w + j) ≡ at (t i) j
+  unfolding concat
+  at-concat zero l i j h k = absurd (omega arith)
+  at-concat (suc n) l i j h k = elim (decLt i n) [
+    | yes p ↦
+        List·getD-append (concat n t) (t n) 0 (i * w + j)
+        (subst (λ (x : ℕ). i * w + j < x) (sym (length-concat n (λ i h. l i (omega arith)))) (digits-lt p k))
+        ∙ at-concat n (λ i h. l i (omega arith)) i j p k
+    | no p ↦
+        let e : i ≡ n = omega arith in
+        ap (λ (x : ℕ). at (concat n t ++ t n) (x + j)) (ap (λ (x : ℕ). x * w) e ∙ sym (length-concat n (λ i h. l i (omega arith))))
+        ∙ getD-append-add (concat n t) (t n) j 0
+        ∙ ap (λ (x : ℕ). at (t x) j) (sym e)
+  ]
+
+-- ---- a part that was lent and came back: what then stands up to its end
+pub take-put : (a k e : ℕ) (xs ys : List ℕ) → a ≤ length xs → a + length ys ≡ e → take e (putMid a k xs ys) ≡ take a xs ++ ys
+take-put a k e xs ys h l =
+    ap (take e) (sym (append-assoc (take a xs) ys (postOf a k xs)))
+    ∙ take-at (take a xs ++ ys) (postOf a k xs) e (length-append (take a xs) ys ∙ ap (λ (n : ℕ). n + length ys) (length-take-le a xs h) ∙ l)

@@ -5,7 +5,7 @@ use mathlib.Core.Logic.{_≢_}
 use mathlib.Core.Path.{_≡_, refl, sym, ap, ap₂, _∙_, subst}
 use Prim.Native.Nat.{ℕ, zero, suc, _+_, _-_, _*_, _/_, _%_, _^_, _≤_, _<_}
 use native.Mathlib.Decide.{ℕ-discrete}
-use native.Mathlib.Nat.{mul-assoc, mul-add, one-mul, mod-eq-of-lt, zero-add, add-zero, add-comm, add-mul-div-right, add-mul-mod-self-right}
+use native.Mathlib.Nat.{mul-assoc, mul-add, one-mul, mod-eq-of-lt, zero-add, add-zero, add-comm, add-mul-div-right, add-mul-mod-self-right, suc-mul, mul-le-mul-right}
 use native.Mathlib.Numerals.{add-one}
 use native.Mathlib.Omega.{arith}
 use lib.Bits.{bitAnd, bitXor, and-block, xor-block, and-lt}
@@ -163,3 +163,7 @@ rowsOf-length n m = length-tabulate n (rowAt m)
 pub at-rowsOf : (n : ℕ) (m : List ℕ) (i : ℕ) → i < n → at (rowsOf n m) i ≡ rowAt m i
 unfolding rowsOf
 at-rowsOf n m i h = at-tabulate n (rowAt m) i h
+
+-- Row i of n rows of w bytes lies within them.
+pub row-inside : (i w n : ℕ) → i < n → i * w + w ≤ n * w
+row-inside i w n h = subst (λ (x : ℕ). x ≤ n * w) (suc-mul i w) (mul-le-mul-right w h)
