@@ -9,3 +9,5 @@ pub mod Inverses
 pub mod Words
 pub mod Work
 pub mod Bytes
+pub mod Nibbles
+pub mod Encodings

@@ -5,5 +5,7 @@ pub mod Bytes
 pub mod Matrices
 pub mod Elimination
 pub mod Inverses
+pub mod Nibbles
+pub mod Encodings
 pub mod Words
 pub mod Work
