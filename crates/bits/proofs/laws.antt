@@ -11,3 +11,5 @@ pub mod Work
 pub mod Bytes
 pub mod Nibbles
 pub mod Encodings
+pub mod Products
+pub mod Cases
