@@ -1,3 +1,5 @@
+pub mod Filled
+pub mod XorAll
 pub mod OnBytes
 pub mod Field
 pub mod Inverse

@@ -1,0 +1,82 @@
+-- Laws, not definitions: of the answers case by case, and that one call undoes the other.
+-- Assumes nothing.
+use mathlib.Core.Path.{_≡_, refl, sym, ap, _∙_}
+use mathlib.Core.Bool.{Bool, true, false}
+use mathlib.Core.List.{List}
+use Prim.Native.Nat.{ℕ}
+use lib.Dec.{eqb}
+use lib.ListN.{length}
+use native.Mathlib.Omega.{arith}
+use borrow.Author.Tests.{eq-eqb, ne-eqb, eqb-true}
+use Rattle.bits.specs.Bytes.{Bytes, Block}
+use Rattle.aes.specs.Cipher.{encipherOf, decipherOf}
+use Rattle.aes.specs.Answers.{unless, left, answerOf, enciphered, deciphered}
+use Rattle.aes.specs.Theorems.{ThereAndBack, BackAndThere}
+use Rattle.aes.specs.declared.Answer.{Answer}
+use Rattle.aes.specs.declared.Answer.the-variants.{Done, KeyLength, BlockLength}
+use Rattle.aes.proofs.laws.Cipher.{encipher-block, decipher-block, decipher-encipher, encipher-decipher}
+
+-- ---- The answer, test by test.
+module _ (key from into : List ℕ) where
+  pub bad-key : (length key ≡ 16 → ⊥) → KeyLength ≡ answerOf key from into
+  unfolding answerOf
+  bad-key h = simp (ne-eqb (length key) 16 h)
+
+  pub bad-from : length key ≡ 16 → (length from ≡ 16 → ⊥) → BlockLength ≡ answerOf key from into
+  unfolding answerOf
+  bad-from k h = simp (eq-eqb (length key) 16 k, ne-eqb (length from) 16 h)
+
+  pub bad-into : length key ≡ 16 → length from ≡ 16 → (length into ≡ 16 → ⊥) → BlockLength ≡ answerOf key from into
+  unfolding answerOf
+  bad-into k f h = simp (eq-eqb (length key) 16 k, eq-eqb (length from) 16 f, ne-eqb (length into) 16 h)
+
+  pub good : length key ≡ 16 → length from ≡ 16 → length into ≡ 16 → Done ≡ answerOf key from into
+  unfolding answerOf
+  good k f h = simp (eq-eqb (length key) 16 k, eq-eqb (length from) 16 f, eq-eqb (length into) 16 h)
+
+-- ---- What an accepted call was lent.
+pub record Lengths (key from into : List ℕ) : Type 0 where
+  pub of-key : length key ≡ 16
+  pub of-from : length from ≡ 16
+  pub of-into : length into ≡ 16
+
+pub accepted : (key from into : List ℕ) → answerOf key from into ≡ Done → Lengths key from into
+unfolding answerOf
+accepted key from into = go (eqb (length key) 16) (eqb (length from) 16) (eqb (length into) 16) refl refl refl
+  where
+    go : (a b d : Bool) → eqb (length key) 16 ≡ a → eqb (length from) 16 ≡ b → eqb (length into) 16 ≡ d
+        → unless a KeyLength (unless b BlockLength (unless d BlockLength Done)) ≡ Done → Lengths key from into
+    go true true true p q r e = record { of-key = eqb-true _ _ p; of-from = eqb-true _ _ q; of-into = eqb-true _ _ r }
+    go false b d p q r e = let z : _≡_ {A = ℕ} 0 1 = cc in absurd (omega arith)
+    go true false d p q r e = let z : _≡_ {A = ℕ} 0 1 = cc in absurd (omega arith)
+    go true true false p q r e = let z : _≡_ {A = ℕ} 0 1 = cc in absurd (omega arith)
+
+-- ---- One call undoes the other.
+module _ (key from into : List ℕ) (e : answerOf key from into ≡ Done) where
+  pub enciphers : enciphered key from into ≡ encipherOf 4 key from
+  unfolding enciphered
+  enciphers = rw e
+
+  pub deciphers : deciphered key from into ≡ decipherOf 4 key from
+  unfolding deciphered
+  deciphers = rw e
+
+pub there-and-back : ThereAndBack
+there-and-back key from into again k f e l =
+    let a = accepted key from into e in
+    let b : Block from = record { long = a .of-from; bytes = f } in
+    let x : List ℕ = encipherOf 4 key from in
+    let g = good key x again (a .of-key) (encipher-block 4 key from k b .long) l in
+    ap (λ (z : List ℕ). deciphered key z again) (enciphers key from into e)
+    ∙ deciphers key x again (sym g)
+    ∙ decipher-encipher 4 key from k b
+
+pub back-and-there : BackAndThere
+back-and-there key from into again k f e l =
+    let a = accepted key from into e in
+    let b : Block from = record { long = a .of-from; bytes = f } in
+    let x : List ℕ = decipherOf 4 key from in
+    let g = good key x again (a .of-key) (decipher-block 4 key from k b .long) l in
+    ap (λ (z : List ℕ). enciphered key z again) (deciphers key from into e)
+    ∙ enciphers key x again (sym g)
+    ∙ encipher-decipher 4 key from k b
