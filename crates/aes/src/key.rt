@@ -20,7 +20,12 @@ fn temp_of(t: [u8; 4], i: usize) -> [u8; 4]
     ensures { λ r. ⌜ r ≡ temp 4 i t ⌝ }
 {
     if i % 4 == 0 {
-        [field::sub(t[1]) ^ rcon_at(i / 4), field::sub(t[2]), field::sub(t[3]), field::sub(t[0])]
+        [
+            field::sub(t[1]) ^ rcon_at(i / 4),
+            field::sub(t[2]),
+            field::sub(t[3]),
+            field::sub(t[0]),
+        ]
     } else {
         t
     }

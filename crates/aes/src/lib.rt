@@ -4,11 +4,11 @@ mod key;
 mod rounds;
 mod state;
 
-use block::{load, store};
-
+use block::load;
+use block::store;
 pub use key::expand_key;
-pub use rounds::{cipher, inv_cipher};
-
+pub use rounds::cipher;
+pub use rounds::inv_cipher;
 ghost use mathlib.Core.Path.{_≡_};
 ghost use Rattle.aes.specs.Answers.{causeOf, secondOf, answerOf, enciphered, deciphered};
 

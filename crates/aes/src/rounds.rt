@@ -1,6 +1,11 @@
 // The cipher and the inverse cipher of ten rounds: FIPS 197, sections 5.1 and 5.3.
-use crate::state::{add_round_key, inv_mix_columns, inv_shift_rows, inv_sub_bytes, mix_columns, shift_rows, sub_bytes};
-
+use crate::state::add_round_key;
+use crate::state::inv_mix_columns;
+use crate::state::inv_shift_rows;
+use crate::state::inv_sub_bytes;
+use crate::state::mix_columns;
+use crate::state::shift_rows;
+use crate::state::sub_bytes;
 ghost use mathlib.Core.Path.{_≡_};
 ghost use Rattle.aes.specs.Cipher.{Cipher, InvCipher};
 

@@ -2,18 +2,23 @@
 -- Assumes nothing.
 use mathlib.Core.Path.{_≡_, refl, sym, ap, _∙_}
 use mathlib.Core.Bool.{Bool, true, false}
-use mathlib.Core.List.{List}
+use mathlib.Core.List.{List, [], _∷_}
+use mathlib.Core.Logic.{inl, inr}
 use Prim.Native.Nat.{ℕ}
 use lib.Dec.{eqb}
 use lib.ListN.{length}
 use native.Mathlib.Omega.{arith}
+use denote.Enum.Declared.{tagOf}
+use types.Run.{OneOf}
 use borrow.Author.Tests.{eq-eqb, ne-eqb, eqb-true}
 use Rattle.bits.specs.Bytes.{Bytes, Block}
+use Rattle.aes.specs.Key.{KeyExpansion}
 use Rattle.aes.specs.Cipher.{encipherOf, decipherOf}
 use Rattle.aes.specs.Answers.{unless, left, answerOf, enciphered, deciphered}
 use Rattle.aes.specs.Theorems.{ThereAndBack, BackAndThere}
 use Rattle.aes.specs.declared.Answer.{Answer}
 use Rattle.aes.specs.declared.Answer.the-variants.{Done, KeyLength, BlockLength}
+use Rattle.aes.proofs.Answer.{the-type}
 use Rattle.aes.proofs.laws.Cipher.{encipher-block, decipher-block, decipher-encipher, encipher-decipher}
 
 -- ---- The answer, test by test.
@@ -50,6 +55,27 @@ accepted key from into = go (eqb (length key) 16) (eqb (length from) 16) (eqb (l
     go false b d p q r e = let z : _≡_ {A = ℕ} 0 1 = cc in absurd (omega arith)
     go true false d p q r e = let z : _≡_ {A = ℕ} 0 1 = cc in absurd (omega arith)
     go true true false p q r e = let z : _≡_ {A = ℕ} 0 1 = cc in absurd (omega arith)
+
+-- ---- What each return of a call comes to, from what it called.
+module _ (key from into : List ℕ) {a : Answer} (e : a ≡ answerOf key from into) where
+  -- The match found another answer than Done, whose tag is 0.
+  pub refused : (x : List ℕ) → OneOf (1 ∷ 2 ∷ []) (tagOf the-type a) → into ≡ left (answerOf key from into) x into
+  refused x o = kept a o ∙ ap (λ (z : Answer). left z x into) e
+    where
+      kept : (b : Answer) → OneOf (1 ∷ 2 ∷ []) (tagOf the-type b) → into ≡ left b x into
+      kept Done (inl h) = absurd (omega arith)
+      kept Done (inr h) = absurd (omega arith)
+      kept KeyLength o = refl
+      kept BlockLength o = refl
+
+  pub lent : a ≡ Done → Lengths key from into
+  lent d = accepted key from into (sym e ∙ d)
+
+  pub done : (f : List ℕ → List ℕ → List ℕ) {k w s t o : List ℕ} → a ≡ Done → k ≡ key → w ≡ KeyExpansion 4 k → s ≡ from → t ≡ f w s → o ≡ t
+      → o ≡ left (answerOf key from into) (f (KeyExpansion 4 key) from) into
+  done f {o = o} d p q r u v =
+      let y : o ≡ f (KeyExpansion 4 key) from = cc in
+      y ∙ ap (λ (z : Answer). left z (f (KeyExpansion 4 key) from) into) (sym d ∙ e)
 
 -- ---- One call undoes the other.
 module _ (key from into : List ℕ) (e : answerOf key from into ≡ Done) where
