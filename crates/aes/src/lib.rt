@@ -51,10 +51,11 @@ fn judged(key: &[u8], block_in: &[u8], block_out: &[u8]) -> Answer
     if block_in.len() != 16 {
         return Answer::BlockLength;
     }
-    if block_out.len() != 16 {
-        return Answer::BlockLength;
+    if block_out.len() == 16 {
+        Answer::Done
+    } else {
+        Answer::BlockLength
     }
-    Answer::Done
 }
 
 // Enciphers a block under a key; a refused call leaves block_out as it was.

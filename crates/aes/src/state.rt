@@ -1,9 +1,9 @@
 // The transformations of the state: FIPS 197, sections 5.1 and 5.3.
 ghost use mathlib.Core.Path.{_≡_};
-ghost use Prim.Native.Nat.{_<_};
+ghost use Prim.Native.Nat.{_+_, _*_, _%_, _<_};
 ghost use Rattle.bits.specs.Groups.{xorAll};
 ghost use Rattle.field.specs.Field.{mul};
-ghost use Rattle.aes.specs.State.{cell, entry, mixBy, SubBytes, ShiftRows, MixColumns, AddRoundKey, InvSubBytes, InvShiftRows, InvMixColumns};
+ghost use Rattle.aes.specs.State.{cell, state, entry, mixBy, SubBytes, ShiftRows, MixColumns, AddRoundKey, InvSubBytes, InvShiftRows, InvMixColumns};
 ghost use Rattle.aes.specs.Key.{keyOf};
 
 // The matrices of MixColumns and InvMixColumns, row after row.
@@ -37,32 +37,33 @@ pub fn inv_sub_bytes(s: [u8; 16]) -> [u8; 16]
     t
 }
 
-// Row r turned to the left by r places.
-pub fn shift_rows(s: [u8; 16]) -> [u8; 16]
-    ensures { λ r. ⌜ r ≡ ShiftRows s ⌝ }
+// Row r turned to the left by `by` times r places.
+fn turn_rows(s: [u8; 16], by: usize) -> [u8; 16]
+    requires { ⌜ by < 4 ⌝ }
+    ensures { λ t. ⌜ t ≡ state (λ r c. cell s r ((c + by * r) % 4)) ⌝ }
 {
     let mut t = [0u8; 16];
     let mut i = 0;
     while i < 16 {
         let r = i % 4;
-        t[i] = s[r + 4 * ((i / 4 + r) % 4)];
+        t[i] = s[r + 4 * ((i / 4 + by * r) % 4)];
         i += 1;
     }
     t
 }
 
-// Row r turned to the right by r places.
+// Row r turned to the left by r places.
+pub fn shift_rows(s: [u8; 16]) -> [u8; 16]
+    ensures { λ r. ⌜ r ≡ ShiftRows s ⌝ }
+{
+    turn_rows(s, 1)
+}
+
+// Row r turned to the right by r places, which is to the left by 3r.
 pub fn inv_shift_rows(s: [u8; 16]) -> [u8; 16]
     ensures { λ r. ⌜ r ≡ InvShiftRows s ⌝ }
 {
-    let mut t = [0u8; 16];
-    let mut i = 0;
-    while i < 16 {
-        let r = i % 4;
-        t[i] = s[r + 4 * ((i / 4 + (4 - r)) % 4)];
-        i += 1;
-    }
-    t
+    turn_rows(s, 3)
 }
 
 // Row r of the matrix m times column c of the state.

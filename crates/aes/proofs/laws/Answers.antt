@@ -78,31 +78,22 @@ module _ (key from into : List ℕ) {a : Answer} (e : a ≡ answerOf key from in
       y ∙ ap (λ (z : Answer). left z (f (KeyExpansion 4 key) from) into) (sym d ∙ e)
 
 -- ---- One call undoes the other.
-module _ (key from into : List ℕ) (e : answerOf key from into ≡ Done) where
-  pub enciphers : enciphered key from into ≡ encipherOf 4 key from
-  unfolding enciphered
-  enciphers = rw e
-
-  pub deciphers : deciphered key from into ≡ decipherOf 4 key from
-  unfolding deciphered
-  deciphers = rw e
+module _ (key from into again : List ℕ) (e : answerOf key from into ≡ Done) (l : length again ≡ 16) (p : Bytes from) where
+  -- A function of blocks and one that undoes it, as what two calls under one key leave.
+  round-trip : (f g : List ℕ → List ℕ) → (Block from → Block (f from)) → (Block from → g (f from) ≡ from)
+      → let x : List ℕ = left (answerOf key from into) (f from) into in left (answerOf key x again) (g x) again ≡ from
+  round-trip f g h u =
+      let a = accepted key from into e in
+      let b : Block from = record { long = a .of-from; bytes = p } in
+      let d = good key (f from) again (a .of-key) (h b .long) l in
+      rw (e, ← d) (u b)
 
 pub there-and-back : ThereAndBack
-there-and-back key from into again k f e l =
-    let a = accepted key from into e in
-    let b : Block from = record { long = a .of-from; bytes = f } in
-    let x : List ℕ = encipherOf 4 key from in
-    let g = good key x again (a .of-key) (encipher-block 4 key from k b .long) l in
-    ap (λ (z : List ℕ). deciphered key z again) (enciphers key from into e)
-    ∙ deciphers key x again (sym g)
-    ∙ decipher-encipher 4 key from k b
+unfolding enciphered deciphered
+there-and-back key from into again k p e l =
+    round-trip key from into again e l p (encipherOf 4 key) (decipherOf 4 key) (encipher-block 4 key from k) (decipher-encipher 4 key from k)
 
 pub back-and-there : BackAndThere
-back-and-there key from into again k f e l =
-    let a = accepted key from into e in
-    let b : Block from = record { long = a .of-from; bytes = f } in
-    let x : List ℕ = decipherOf 4 key from in
-    let g = good key x again (a .of-key) (decipher-block 4 key from k b .long) l in
-    ap (λ (z : List ℕ). enciphered key z again) (deciphers key from into e)
-    ∙ enciphers key x again (sym g)
-    ∙ encipher-decipher 4 key from k b
+unfolding enciphered deciphered
+back-and-there key from into again k p e l =
+    round-trip key from into again e l p (decipherOf 4 key) (encipherOf 4 key) (decipher-block 4 key from k) (encipher-decipher 4 key from k)

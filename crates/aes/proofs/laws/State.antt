@@ -6,12 +6,14 @@ use Prim.Native.Nat.{ℕ, _+_, _-_, _*_, _/_, _%_, _<_}
 use native.Mathlib.Omega.{arith}
 use lib.Dec.{lit<}
 use lib.Bits.{bitXor, xor-lt}
-use lib.ListN.{length}
+use lib.ListN.{length, set}
+use native.Mathlib.Nat.{le-of-lt, lt-of-le-of-lt, mul-le-mul-left}
 use Rattle.bits.specs.Lists.{at, tabulate}
 use Rattle.bits.specs.Bytes.{Bytes, Block}
 use Rattle.bits.proofs.laws.Lists.{length-tabulate, at-tabulate, tabulate-ext, tabulate-at, tabulate-below}
 use Rattle.bits.proofs.laws.Xor.{xor-back}
 use Rattle.field.specs.Sbox.{sboxOf, invSboxOf}
+use Rattle.field.proofs.laws.Filled.{Filled, filled-more}
 use Rattle.field.proofs.laws.Sbox.{sbox-lt, inv-sbox-lt, inv-sbox-sbox, sbox-inv-sbox}
 use Rattle.aes.specs.State.{cell, state, SubBytes, ShiftRows, AddRoundKey, InvSubBytes, InvShiftRows}
 
@@ -60,6 +62,13 @@ each-back : (f g : ℕ → ℕ) → ((x : ℕ) → x < 256 → g (f x) ≡ x) �
 each-back f g h s b =
     is-block _ s (b .long) (λ r c p q. ap g (cell-state (λ i j. f (cell s i j)) r c p q) ∙ h (cell s r c) (b .bytes (r + 4 * c)))
 
+-- A loop that fills a state so.
+pub each-more : (f : ℕ → ℕ) (s : List ℕ) {t : List ℕ} {i v : ℕ} → Filled 16 (λ k. f (cell s (k % 4) (k / 4))) t i → i < 16 → v ≡ f (at s i)
+    → Filled 16 (λ k. f (cell s (k % 4) (k / 4))) (set t i v) (i + 1)
+each-more f s {i = i} g h e =
+    let p : i ≡ i % 4 + 4 * (i / 4) = omega arith in
+    filled-more g h (e ∙ ap (λ (k : ℕ). f (at s k)) p)
+
 pub sub-block : (s : List ℕ) → Block s → Block (SubBytes s)
 unfolding SubBytes
 sub-block = each-block sboxOf sbox-lt
@@ -82,6 +91,18 @@ turned-back : (f g : ℕ → ℕ → ℕ) → ((r c : ℕ) → r < 4 → c < 4 �
 turned-back f g h s e =
     is-block _ s e
     (λ r c p q. cell-state (λ i j. cell s i (f i j)) r (g r c) p (h r c p q .0) ∙ ap (cell s r) (h r c p q .1))
+
+-- A number of places as the code has it.
+pub turn-lt : (by r : ℕ) → by < 4 → r < 4 → by * r < 16
+turn-lt by r h l = lt-of-le-of-lt (mul-le-mul-left by (le-of-lt l)) (omega arith)
+
+pub turn-left : (s : List ℕ) → state (λ r c. cell s r ((c + 1 * r) % 4)) ≡ ShiftRows s
+unfolding ShiftRows
+turn-left s = state-ext _ _ (λ r c p q. ap (cell s r) (omega arith))
+
+pub turn-right : (s : List ℕ) → state (λ r c. cell s r ((c + 3 * r) % 4)) ≡ InvShiftRows s
+unfolding InvShiftRows
+turn-right s = state-ext _ _ (λ r c p q. ap (cell s r) (omega arith))
 
 pub shift-block : (s : List ℕ) → Block s → Block (ShiftRows s)
 unfolding ShiftRows

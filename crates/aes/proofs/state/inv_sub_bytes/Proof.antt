@@ -1,11 +1,10 @@
 -- `aes::state::inv_sub_bytes` meets its contract: byte after byte, invSboxOf of the byte of the state. Assumes nothing.
-use mathlib.Core.Path.{refl, ap, _∙_}
+use mathlib.Core.Path.{refl}
 use Prim.Native.Nat.{_-_, _/_, _%_}
-use Rattle.bits.specs.Lists.{at}
 use Rattle.field.specs.Sbox.{invSboxOf}
-use Rattle.field.proofs.laws.Filled.{Filled, filled-none, filled-more, filled-all}
+use Rattle.field.proofs.laws.Filled.{Filled, filled-none, filled-all}
 use Rattle.aes.specs.State.{cell, state, InvSubBytes}
-use Rattle.aes.proofs.laws.State.{place}
+use Rattle.aes.proofs.laws.State.{each-more}
 use borrow.Author.Needs.{needs}
 use native.Mathlib.Omega.{arith}
 use Rattle.aes.proofs.state.inv_sub_bytes.Statement.{statement}
@@ -36,8 +35,7 @@ loop-less : tie.Need-loop-less Inv-loop μ-loop
 loop-less c = omega arith
 
 loop-again : tie.Need-loop-again Inv-loop μ-loop
-loop-again c = filled-more (c .before .before .loop .inv) (omega arith)
-    (c .inv-sub .ensures ∙ ap (λ k. invSboxOf (at (c .before .before .before .args .t1) k)) (place (c .before .before .loop .i)))
+loop-again c = each-more invSboxOf (c .before .before .before .args .t1) (c .before .before .loop .inv) (omega arith) (c .inv-sub .ensures)
 
 returns : tie.Need-returns Inv-loop μ-loop
 unfolding InvSubBytes state
