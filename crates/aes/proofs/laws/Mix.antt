@@ -14,7 +14,7 @@ use Rattle.bits.proofs.laws.Xor.{Linear, agree}
 use Rattle.field.specs.Field.{xtime, times, mul}
 use Rattle.field.proofs.laws.Field.{mul-xor, mul-lt}
 use Rattle.field.proofs.laws.XorAll.{xor-all-ext, xor-all-lt, xor-all-swap, xor-all-linear, xor-all-one, linear-xor-all}
-use Rattle.aes.specs.State.{cell, state, entry, mixBy, mixRows, invMixRows, MixColumns, InvMixColumns}
+use Rattle.aes.specs.State.{cell, entry, mixBy, mixRows, invMixRows, MixColumns, InvMixColumns}
 use Rattle.aes.proofs.laws.State.{cell-state, is-block, block}
 
 -- The product of two matrices, row r and column p, at x; and the identity's.

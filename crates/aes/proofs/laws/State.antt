@@ -8,7 +8,7 @@ use lib.Dec.{lit<}
 use lib.Bits.{bitXor, xor-lt}
 use lib.ListN.{length, set}
 use native.Mathlib.Nat.{le-of-lt, lt-of-le-of-lt, mul-le-mul-left}
-use Rattle.bits.specs.Lists.{at, tabulate}
+use Rattle.bits.specs.Lists.{at}
 use Rattle.bits.specs.Bytes.{Bytes, Block}
 use Rattle.bits.proofs.laws.Lists.{length-tabulate, at-tabulate, tabulate-ext, tabulate-at, tabulate-below}
 use Rattle.bits.proofs.laws.Xor.{xor-back}
