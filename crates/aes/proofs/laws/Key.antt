@@ -35,10 +35,10 @@ unfolding rconTable right rcon xtime
 rcon-at j h = eqb→eq _ _ (checked.at right rconTable tt j h)
 
 -- ---- What becomes of temp, with a key of four words.
-pub temp-turn : (i : ℕ) (t : List ℕ) → i % 4 ≡ 0
-    → temp 4 i t ≡ bitXor (sboxOf (at t 1)) (rcon (i / 4)) ∷ sboxOf (at t 2) ∷ sboxOf (at t 3) ∷ sboxOf (at t 0) ∷ []
+pub temp-turn : (i : ℕ) (t : List ℕ) {a b c d r : ℕ} → i % 4 ≡ 0 → a ≡ sboxOf (at t 1) → r ≡ rcon (i / 4) → b ≡ sboxOf (at t 2)
+    → c ≡ sboxOf (at t 3) → d ≡ sboxOf (at t 0) → bitXor a r ∷ b ∷ c ∷ d ∷ [] ≡ temp 4 i t
 unfolding temp xorWord SubWord RotWord Rcon tabulate
-temp-turn i t e = rw (eq-eqb (i % 4) 0 e) (simp xor-zero-r)
+temp-turn i t e pa pr pb pc pd = rw (eq-eqb (i % 4) 0 e, pa, pr, pb, pc, pd) (simp xor-zero-r)
 
 pub temp-keep : (i : ℕ) (t : List ℕ) → (i % 4 ≡ 0 → ⊥) → temp 4 i t ≡ t
 unfolding temp

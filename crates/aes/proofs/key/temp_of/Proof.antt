@@ -34,8 +34,9 @@ sub-requires-4 c κs = search needs
 
 returns : tie.Need-returns
 returns c =
-    let k = c .before .before .before .before .before in
-    cc (temp-turn (k .before .args .i) (k .before .args .t1) (k .if1 .taken))
+    let k = c .before .before .before .before in
+    temp-turn _ _ (k .before .if1 .taken) (k .sub .ensures) (c .before .before .before .rcon-at .ensures)
+    (c .before .before .sub2 .ensures) (c .before .sub3 .ensures) (c .sub4 .ensures)
 
 returns-2 : tie.Need-returns-2
 returns-2 c = sym (temp-keep (c .before .args .i) (c .before .args .t1) (c .if1 .left))
