@@ -10,7 +10,7 @@ use lib.Pow.{pow-pos}
 use Rattle.bits.specs.Lists.{at, tabulate}
 use Rattle.bits.specs.Vectors.{bit, unit}
 use Rattle.bits.specs.Matrices.{productBy, product, identity, RowsFit, Undoes, Invertible}
-use Rattle.bits.specs.Elimination.{leftStep, rightStep, choose, pivotFrom, Inversion, inverse, singular, unlessZero, columns, invert}
+use Rattle.bits.specs.Elimination.{leftStep, rightStep, choose, pivotFrom, Inversion, inverse, singular, unlessZero, columns, invert, inverseOf}
 use Rattle.bits.specs.Inverses.{UndoesBothWays, Answered, Refused, Exact, Unique}
 use Rattle.bits.proofs.laws.Lists.{at-tabulate, length-tabulate, ext-at}
 use Rattle.bits.proofs.laws.Vectors.{bit-lt, dot-unit, unit-lt, bit-ext}
@@ -163,3 +163,10 @@ not-inverted n m v fits K = go (invert n m) refl
     go : (r : Inversion) → invert n m ≡ r → r ≡ singular
     go (inverse b) e = absurd (no-kernel n (at m) v K (product n b) (answered n m b fits e .left))
     go singular e = refl
+
+-- ---- the rows of the inverse, of a matrix that has one
+pub inverse-undoes : (n : ℕ) (m : List ℕ) → RowsFit n (at m) → Invertible n m → UndoesBothWays n m (inverseOf n m)
+unfolding inverseOf
+inverse-undoes n m fits has =
+    let B = exact n m fits has in
+    rw (B .1) (answered n m (B .0) fits (B .1))

@@ -1,0 +1,6 @@
+pub mod OnBytes
+pub mod Field
+pub mod Inverse
+pub mod Tables
+pub mod Sbox
+pub mod Cases
