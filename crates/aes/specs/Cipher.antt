@@ -1,0 +1,33 @@
+-- FIPS 197, sections 5.1 and 5.3: the cipher and the inverse cipher, of nr rounds over the round keys w. Definitions only.
+use Prim.Native.Nat.{ℕ, zero, suc, _-_}
+use mathlib.Core.List.{List}
+use Rattle.aes.specs.State.{SubBytes, ShiftRows, MixColumns, AddRoundKey, InvSubBytes, InvShiftRows, InvMixColumns}
+use Rattle.aes.specs.Key.{keyOf, KeyExpansion, roundsOf}
+
+-- Rounds 1 to r, none of them the last one.
+unfoldable pub rounds : List ℕ → ℕ → List ℕ → List ℕ
+rounds w zero s = s
+rounds w (suc r) s = AddRoundKey (MixColumns (ShiftRows (SubBytes (rounds w r s)))) (keyOf w (suc r))
+
+-- 5.1, Cipher: round key 0, rounds 1 to nr - 1, and a last round without MixColumns.
+unfoldable pub Cipher : ℕ → List ℕ → List ℕ → List ℕ
+Cipher nr w s =
+    AddRoundKey (ShiftRows (SubBytes (rounds w (nr - 1) (AddRoundKey s (keyOf w 0))))) (keyOf w nr)
+
+-- Rounds r, r - 1, .., 1 of the inverse cipher.
+unfoldable pub invRounds : List ℕ → ℕ → List ℕ → List ℕ
+invRounds w zero s = s
+invRounds w (suc r) s =
+    invRounds w r (InvMixColumns (AddRoundKey (InvSubBytes (InvShiftRows s)) (keyOf w (suc r))))
+
+-- 5.3, InvCipher.
+unfoldable pub InvCipher : ℕ → List ℕ → List ℕ → List ℕ
+InvCipher nr w s =
+    AddRoundKey (InvSubBytes (InvShiftRows (invRounds w (nr - 1) (AddRoundKey s (keyOf w nr))))) (keyOf w 0)
+
+-- AES with a key of nk words, and its inverse.
+unfoldable pub encipherOf : ℕ → List ℕ → List ℕ → List ℕ
+encipherOf nk key s = Cipher (roundsOf nk) (KeyExpansion nk key) s
+
+unfoldable pub decipherOf : ℕ → List ℕ → List ℕ → List ℕ
+decipherOf nk key s = InvCipher (roundsOf nk) (KeyExpansion nk key) s

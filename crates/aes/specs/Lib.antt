@@ -1,0 +1,5 @@
+pub mod State
+pub mod Key
+pub mod Cipher
+pub mod Answers
+pub mod Theorems

@@ -1,0 +1,8 @@
+pub mod Filled
+pub mod XorAll
+pub mod OnBytes
+pub mod Field
+pub mod Inverse
+pub mod Tables
+pub mod Sbox
+pub mod Cases

@@ -1,0 +1,35 @@
+-- Laws, not definitions: of a loop that fills n places of a list from the front, place i with f i, one a turn.
+-- Assumes nothing.
+use mathlib.Core.Path.{_≡_, refl, _∙_}
+use mathlib.Core.List.{List}
+use Prim.Native.Nat.{ℕ, _+_, _≤_, _<_}
+use native.Mathlib.Omega.{arith}
+use lib.ListN.{length, set, take, length-set}
+use Rattle.bits.specs.Lists.{at, tabulate}
+use Rattle.bits.proofs.laws.Lists.{fill-more, fill-all, tabulate-at}
+
+-- The loop's invariant: the first i of the n places of t are filled.
+pub record Filled (n : ℕ) (f : ℕ → ℕ) (t : List ℕ) (i : ℕ) : Type 0 where
+  pub within : i ≤ n
+  pub long : length t ≡ n
+  pub front : take i t ≡ tabulate i f
+
+pub filled-none : (n : ℕ) (f : ℕ → ℕ) (t : List ℕ) → length t ≡ n → Filled n f t 0
+unfolding tabulate
+filled-none n f t l = record { within = omega arith; long = l; front = refl }
+
+pub filled-more : {n : ℕ} {f : ℕ → ℕ} {t : List ℕ} {i v : ℕ} → Filled n f t i → i < n → v ≡ f i → Filled n f (set t i v) (i + 1)
+filled-more {f = f} {t = t} {i = i} {v = v} g h e =
+    let l = length-set t i v in
+    record {
+      within = omega arith;
+      long = omega arith;
+      front = fill-more t i f v (omega arith) (g .front) e;
+    }
+
+pub filled-all : {n : ℕ} {f : ℕ → ℕ} {t : List ℕ} {i : ℕ} → Filled n f t i → n ≤ i → t ≡ tabulate n f
+filled-all {n} {f} {t} {i} g h = fill-all n t i f (g .long) (omega arith) (g .front)
+
+-- A list that is copied.
+pub copied : {n : ℕ} {s t : List ℕ} {i : ℕ} → Filled n (at s) t i → n ≤ i → length s ≡ n → t ≡ s
+copied {n} {s} g h l = filled-all g h ∙ tabulate-at n s l

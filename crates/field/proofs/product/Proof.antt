@@ -1,0 +1,67 @@
+-- `field::product` meets its contract. The invariant: the sum, with what the bits left of y give, is the product. Assumes nothing.
+use mathlib.Core.Path.{_≡_, refl, sym, ap, ap₂, _∙_}
+use Prim.Native.Nat.{ℕ, suc, _-_, _*_, _%_, _/_, _≤_}
+use lib.Bits.{bitXor, xor-zero-r}
+use Rattle.field.specs.Field.{xtime, times, mul}
+use Rattle.bits.proofs.laws.Xor.{xor-assoc}
+use native.Mathlib.Omega.{arith}
+use borrow.Author.Needs.{needs}
+use Rattle.field.proofs.product.Statement.{statement}
+use Rattle.field.proofs.product.Tie as tie
+
+abbrev Inv-loop : tie.InvT-loop
+Inv-loop a b x₀ y₀ sum₀ left₀ x y sum left = (left ≤ 8) × (bitXor sum (times left x y) ≡ mul a b)
+
+abbrev μ-loop : tie.MeasureT-loop
+μ-loop a b x₀ y₀ sum₀ left₀ x y sum left = left
+
+loop-holds : tie.Need-loop-holds Inv-loop μ-loop
+unfolding mul
+loop-holds c = (omega arith, refl)
+
+share-requires : tie.Need-share-requires Inv-loop μ-loop
+share-requires c κs = search needs
+
+xtimes-requires : tie.Need-xtimes-requires Inv-loop μ-loop
+xtimes-requires c κs = search needs
+
+sub-left : tie.Need-sub-left Inv-loop μ-loop
+sub-left c = omega arith
+
+loop-less : tie.Need-loop-less Inv-loop μ-loop
+loop-less c = omega arith
+
+loop-again : tie.Need-loop-again Inv-loop μ-loop
+unfolding times
+loop-again c =
+    let n = c .before .before .before .loop .left in
+    let e : n ≡ suc (n - 1) = omega arith in
+    let x = c .before .before .before .loop .x in
+    let y = c .before .before .before .loop .y in
+    let z = c .before .before .before .loop .sum in (
+      omega arith,
+      xor-assoc z _ _
+          ∙ ap (bitXor z) (ap₂ (λ (p q : ℕ). bitXor p (times (n - 1) q (y / 2))) (c .before .share .ensures) (c .xtimes .ensures))
+          ∙ ap (λ (k : ℕ). bitXor z (times k x y)) (sym e)
+          ∙ c .before .before .before .loop .inv .1,
+    )
+
+returns : tie.Need-returns Inv-loop μ-loop
+unfolding times
+returns c =
+    let e : c .before .loop .left ≡ 0 = omega arith in
+    sym (xor-zero-r _) ∙ ap (λ k. bitXor (c .before .loop .sum) (times k (c .before .loop .x) (c .before .loop .y))) (sym e) ∙ c .before .loop .inv .1
+
+pub product-spec : {M : Type 1} → statement M
+product-spec =
+    tie.close
+    (tie.spec
+    Inv-loop
+    μ-loop
+    loop-holds
+    share-requires
+    xtimes-requires
+    sub-left
+    loop-less
+    loop-again
+    returns)
