@@ -1,6 +1,6 @@
 -- The inverse of a bit matrix by Gauss-Jordan elimination, as a definition over the number n of rows. What it answers is said
 -- without it in Inverses.antt. Here f and g are functions from a row's number to the row. Definitions only.
-use mathlib.Core.List.{List}
+use mathlib.Core.List.{List, []}
 use Prim.Native.Nat.{ℕ, zero, suc, _-_, _*_}
 use lib.Bits.{bitXor}
 use Rattle.bits.specs.Lists.{at, tabulate}
@@ -65,3 +65,11 @@ columns n (suc d) k a b =
 unfoldable pub invert : ℕ → List ℕ → Inversion
 unfolding columns
 invert n m = columns n n 0 m (identity n)
+
+-- The rows of the inverse; none where there is no inverse.
+abbrev pub answeredRows : Inversion → List ℕ
+answeredRows (inverse b) = b
+answeredRows singular = []
+
+unfoldable pub inverseOf : ℕ → List ℕ → List ℕ
+inverseOf n m = answeredRows (invert n m)

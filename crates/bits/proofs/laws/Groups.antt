@@ -10,10 +10,11 @@ use native.Mathlib.Numerals.{add-one}
 use native.Mathlib.Omega.{arith}
 use borrow.Author.Tests.{eq-eqb, ne-eqb}
 use lib.Arith.{digits-lt}
-use lib.Bits.{bitXor, xor-lt, xor-shr, xor-mod, xor-block, xor-zero-l, xor-zero-r}
+use lib.Bits.{bitXor, xor-lt, xor-shr, xor-mod, xor-block, xor-self, xor-zero-r}
 use lib.Dec.{eqb}
 use lib.Pow.{pow-pos, pow-add, shr-shr, shr-lt, high, low, split}
 use Rattle.bits.specs.Groups.{joined, group, xorAll}
+use Rattle.bits.proofs.laws.Xor.{Linear}
 
 pub below-suc : {i n : ℕ} → i < suc n → (i < n) ⊎ (i ≡ n)
 below-suc {i} {n} h = elim (decLt i n) [ yes p ↦ inl p | no q ↦ inr (omega arith) ]
@@ -113,12 +114,14 @@ unfolding xorAll
 xorAll-same zero f g e = refl
 xorAll-same (suc n) f g e = ap₂ bitXor (xorAll-same n f g (λ i h. e i (omega arith))) (e n (omega arith))
 
--- A map that takes 0 to 0 and xors to xors.
-pub xorAll-map : (u : ℕ → ℕ) → u 0 ≡ 0 → ((a b : ℕ) → u (bitXor a b) ≡ bitXor (u a) (u b)) → (n : ℕ) (f : ℕ → ℕ)
-    → u (xorAll n f) ≡ xorAll n (λ i. u (f i))
+-- A linear map takes the xor of numbers to the xor of what it makes of them.
+pub linear-zero : (u : ℕ → ℕ) → Linear u → u 0 ≡ 0
+linear-zero u l = l 0 0 ∙ xor-self (u 0)
+
+pub xorAll-linear : (u : ℕ → ℕ) → Linear u → (n : ℕ) (f : ℕ → ℕ) → u (xorAll n f) ≡ xorAll n (λ i. u (f i))
 unfolding xorAll
-xorAll-map u z l zero f = z
-xorAll-map u z l (suc n) f = l (xorAll n f) (f n) ∙ ap (λ (x : ℕ). bitXor x (u (f n))) (xorAll-map u z l n f)
+xorAll-linear u l zero f = linear-zero u l
+xorAll-linear u l (suc n) f = l (xorAll n f) (f n) ∙ ap (λ (x : ℕ). bitXor x (u (f n))) (xorAll-linear u l n f)
 
 pub xorAll-lt : (k n : ℕ) (f : ℕ → ℕ) → ((i : ℕ) → i < n → f i < 2 ^ k) → xorAll n f < 2 ^ k
 unfolding xorAll

@@ -10,7 +10,7 @@ use lib.Pow.{pow-pos}
 use Rattle.bits.specs.Lists.{at, tabulate}
 use Rattle.bits.specs.Vectors.{bit, unit}
 use Rattle.bits.specs.Matrices.{productBy, product, identity, RowsFit, Undoes, Invertible}
-use Rattle.bits.specs.Elimination.{leftStep, rightStep, choose, pivotFrom, Inversion, inverse, singular, unlessZero, columns, invert}
+use Rattle.bits.specs.Elimination.{leftStep, rightStep, choose, pivotFrom, Inversion, inverse, singular, unlessZero, columns, invert, inverseOf}
 use Rattle.bits.specs.Inverses.{UndoesBothWays, Answered, Refused, Exact, Unique}
 use Rattle.bits.proofs.laws.Lists.{at-tabulate, length-tabulate, ext-at}
 use Rattle.bits.proofs.laws.Vectors.{bit-lt, dot-unit, unit-lt, bit-ext}
@@ -163,3 +163,17 @@ not-inverted n m v fits K = go (invert n m) refl
     go : (r : Inversion) → invert n m ≡ r → r ≡ singular
     go (inverse b) e = absurd (no-kernel n (at m) v K (product n b) (answered n m b fits e .left))
     go singular e = refl
+
+-- ---- the rows of the inverse, of a matrix that has one
+module _ (n : ℕ) (m : List ℕ) (fits : RowsFit n (at m)) (has : Invertible n m) where
+  both-ways : UndoesBothWays n m (inverseOf n m)
+  unfolding inverseOf
+  both-ways =
+      let I = exact n m fits has in
+      subst (λ (r : Inversion). UndoesBothWays n m (Rattle.bits.specs.Elimination.answeredRows r)) (sym (I .1)) (answered n m (I .0) fits (I .1))
+
+  pub inverse-left : (v : ℕ) → v < 2 ^ n → product n (inverseOf n m) (product n m v) ≡ v
+  inverse-left v h = both-ways .left v h
+
+  pub inverse-right : (v : ℕ) → v < 2 ^ n → product n m (product n (inverseOf n m) v) ≡ v
+  inverse-right v h = both-ways .right v h

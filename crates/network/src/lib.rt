@@ -1,0 +1,2 @@
+// Snapshot of the types.
+pub mod stage;
