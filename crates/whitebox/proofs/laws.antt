@@ -1,3 +1,4 @@
 pub mod States
 pub mod Words
 pub mod Values
+pub mod Calls

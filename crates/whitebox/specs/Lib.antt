@@ -5,3 +5,5 @@ pub mod Tables
 pub mod States
 pub mod Values
 pub mod Ciphers
+pub mod Calls
+pub mod PlainCount
