@@ -4,3 +4,8 @@ pub mod Layers
 pub mod Steps
 pub mod Network
 pub mod Places
+pub mod Labels
+pub mod Rule
+pub mod InRange
+pub mod Parts
+pub mod Sizes

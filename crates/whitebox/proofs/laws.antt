@@ -2,3 +2,4 @@ pub mod States
 pub mod Words
 pub mod Values
 pub mod Calls
+pub mod Set
