@@ -3,3 +3,4 @@ pub mod Words
 pub mod Values
 pub mod Calls
 pub mod Set
+pub mod InRange

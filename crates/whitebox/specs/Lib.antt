@@ -7,3 +7,4 @@ pub mod Values
 pub mod Ciphers
 pub mod Calls
 pub mod PlainCount
+pub mod InRange
