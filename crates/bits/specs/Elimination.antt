@@ -67,9 +67,9 @@ unfolding columns
 invert n m = columns n n 0 m (identity n)
 
 -- The rows of the inverse; none where there is no inverse.
-abbrev pub answeredRows : Inversion → List ℕ
-answeredRows (inverse b) = b
-answeredRows singular = []
+abbrev pub rowsIn : Inversion → List ℕ
+rowsIn (inverse b) = b
+rowsIn singular = []
 
 unfoldable pub inverseOf : ℕ → List ℕ → List ℕ
-inverseOf n m = answeredRows (invert n m)
+inverseOf n m = rowsIn (invert n m)

@@ -165,15 +165,8 @@ not-inverted n m v fits K = go (invert n m) refl
     go singular e = refl
 
 -- ---- the rows of the inverse, of a matrix that has one
-module _ (n : ℕ) (m : List ℕ) (fits : RowsFit n (at m)) (has : Invertible n m) where
-  both-ways : UndoesBothWays n m (inverseOf n m)
-  unfolding inverseOf
-  both-ways =
-      let I = exact n m fits has in
-      subst (λ (r : Inversion). UndoesBothWays n m (Rattle.bits.specs.Elimination.answeredRows r)) (sym (I .1)) (answered n m (I .0) fits (I .1))
-
-  pub inverse-left : (v : ℕ) → v < 2 ^ n → product n (inverseOf n m) (product n m v) ≡ v
-  inverse-left v h = both-ways .left v h
-
-  pub inverse-right : (v : ℕ) → v < 2 ^ n → product n m (product n (inverseOf n m) v) ≡ v
-  inverse-right v h = both-ways .right v h
+pub inverse-undoes : (n : ℕ) (m : List ℕ) → RowsFit n (at m) → Invertible n m → UndoesBothWays n m (inverseOf n m)
+unfolding inverseOf
+inverse-undoes n m fits has =
+    let B = exact n m fits has in
+    rw (B .1) (answered n m (B .0) fits (B .1))

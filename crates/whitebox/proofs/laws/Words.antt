@@ -14,7 +14,7 @@ use Rattle.bits.specs.Lists.{at, tabulate}
 use Rattle.bits.specs.Matrices.{product}
 use Rattle.bits.proofs.laws.Bytes.{at-bytesOf, byte-lt, numberOf-lt, xor-of-placed, bytesOf-bytes}
 use Rattle.bits.proofs.laws.Groups.{group-xor, group-joined, joined-lt, joined-same, joined-group, joined-xorAll, xorAll-same, xorAll-linear, xor-placed}
-use Rattle.bits.proofs.laws.Inverses.{inverse-left}
+use Rattle.bits.proofs.laws.Inverses.{inverse-undoes}
 use Rattle.bits.proofs.laws.Lists.{at-tabulate, tabulate-ext}
 use Rattle.bits.proofs.laws.Matrices.{product-lt, product-xor}
 use Rattle.bits.proofs.laws.Xor.{Linear}
@@ -39,7 +39,7 @@ under-byte n w j m b x y = ap (product 8 b) (byte-product n w j m x y) ∙ produ
 
 -- What is undone, of a matrix that has an inverse.
 undone : (n : ℕ) (m : List ℕ) → GoodMatrix n m → (v : ℕ) → v < 2 ^ n → product n (inverseOf n m) (product n m v) ≡ v
-undone n m g v h = inverse-left n m (g .fits) (g .has) v h
+undone n m g v h = inverse-undoes n m (g .fits) (g .has) .left v h
 
 module _ (P : Parts) (fine : Fine P) (C : Codings) (sound : Sound C) where
   under-at : (r : ℕ) (s : List ℕ) (j : ℕ) → j < 16 → at (underBytes C r s) j ≡ product 8 (byteMatrixAt C r j) (at s j)

@@ -1,0 +1,11 @@
+use bundle::answer::Refusal;
+
+pub enum Coded {
+    Done,
+    Bundle(Refusal),
+    BlockLength,
+}
+
+pub fn none() -> u64 {
+    0
+}
