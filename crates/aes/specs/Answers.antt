@@ -33,14 +33,14 @@ answerOf key from into =
     (unless (eqb (length from) 16) BlockLength (unless (eqb (length into) 16) BlockLength Done))
 
 -- What a lent block holds at the end: x where the call is accepted, else the bytes that it held.
-abbrev pub left : Answer → List ℕ → List ℕ → List ℕ
-left Done x held = x
-left KeyLength x held = held
-left BlockLength x held = held
+abbrev pub outcome : Answer → List ℕ → List ℕ → List ℕ
+outcome Done x held = x
+outcome KeyLength x held = held
+outcome BlockLength x held = held
 
 -- The block that `encipher` leaves, and the one that `decipher` leaves.
 unfoldable pub enciphered : List ℕ → List ℕ → List ℕ → List ℕ
-enciphered key from into = left (answerOf key from into) (encipherOf 4 key from) into
+enciphered key from into = outcome (answerOf key from into) (encipherOf 4 key from) into
 
 unfoldable pub deciphered : List ℕ → List ℕ → List ℕ → List ℕ
-deciphered key from into = left (answerOf key from into) (decipherOf 4 key from) into
+deciphered key from into = outcome (answerOf key from into) (decipherOf 4 key from) into

@@ -4,9 +4,10 @@ ghost use Prim.Native.Nat.{_<_};
 ghost use lib.ListN.{take};
 ghost use Rattle.aes.specs.Key.{rcon, wordAt, xorWord, temp, KeyExpansion};
 
-// The first byte of Rcon[j].
+// The first bytes of the round constants; Rcon begins at 1.
 const RCON: [u8; 11] = [0, 1, 2, 4, 8, 16, 32, 64, 128, 27, 54];
 
+// The first byte of Rcon[j].
 fn rcon_at(j: usize) -> u8
     requires { ⌜ j < 11 ⌝ }
     ensures { λ r. ⌜ r ≡ rcon j ⌝ }

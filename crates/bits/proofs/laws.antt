@@ -1,6 +1,8 @@
 pub mod Lists
+pub mod Filled
 pub mod Xor
 pub mod Checked
+pub mod XorAll
 pub mod Groups
 pub mod Vectors
 pub mod Matrices

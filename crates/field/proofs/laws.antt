@@ -1,5 +1,3 @@
-pub mod Filled
-pub mod XorAll
 pub mod OnBytes
 pub mod Field
 pub mod Inverse

@@ -1,4 +1,5 @@
--- FIPS 197, section 4: the field GF(2^8), its elements the numbers below 256, bit i of a number being the coefficient of x^i.
+-- FIPS 197, section 4 (sections are cited as in the edition of 2023): the field GF(2^8), its elements the numbers below 256, bit i of a
+-- number being the coefficient of x^i.
 -- The sum is xor (4.1), `bitXor` of lib.Bits. Definitions only.
 use Prim.Native.Nat.{ℕ, zero, suc, _*_, _/_, _%_}
 use mathlib.Core.Bool.{cond}

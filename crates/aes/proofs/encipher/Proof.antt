@@ -26,23 +26,32 @@ expand-key-requires : tie.Need-expand-key-requires
 expand-key-requires c κs = search needs
 
 load-requires-2 : tie.Need-load-requires-2
-load-requires-2 c κs = lent _ _ _ (c .before .before .before .before .before .judged .ensures) (c .before .before .before .enum-told .given .1) .of-from
+load-requires-2 c κs =
+    let k = c .before .before .before in
+    lent _ _ _ (k .before .before .judged .ensures) (k .enum-told .given .1) .of-from
 
 cipher-requires : tie.Need-cipher-requires
 cipher-requires c κs = search needs
 
 store-requires : tie.Need-store-requires
-store-requires c κs = lent _ _ _ (c .before .before .before .before .before .before .before .judged .ensures) (c .before .before .before .before .before .enum-told .given .1) .of-into
+store-requires c κs =
+    let k = c .before .before .before .before .before in
+    lent _ _ _ (k .before .before .judged .ensures) (k .enum-told .given .1) .of-into
 
 same-length-2 : tie.Need-same-length-2
 same-length-2 c = search needs
 
 returns-2 : tie.Need-returns-2
 unfolding enciphered encipherOf
-returns-2 c = (
-  c .before .before .before .before .before .before .before .before .before .before .judged .ensures,
-  done _ _ _ (c .before .before .before .before .before .before .before .before .before .before .judged .ensures) (Cipher 10) (c .before .before .before .before .before .before .before .before .enum-told .given .1) (c .before .before .before .before .before .before .load .ensures) (c .before .before .before .before .before .expand-key .ensures) (c .before .before .before .before .load2 .ensures) (c .before .before .before .cipher .ensures) (c .before .before .store .ensures),
-)
+returns-2 c =
+    let k = c .before .before .before in
+    let l = k .before .before .before in
+    let t = l .before .before in (
+      t .before .before .judged .ensures,
+      done _ _ _ (t .before .before .judged .ensures) (Cipher 10) (t .enum-told .given .1)
+          (l .load .ensures) (k .before .before .expand-key .ensures) (k .before .load2 .ensures) (k .cipher .ensures)
+          (c .before .before .store .ensures),
+    )
 
 pub encipher-spec : {M : Type 1} → statement M
 encipher-spec =

@@ -14,7 +14,7 @@ use borrow.Author.Tests.{eq-eqb, ne-eqb, eqb-true}
 use Rattle.bits.specs.Bytes.{Bytes, Block}
 use Rattle.aes.specs.Key.{KeyExpansion}
 use Rattle.aes.specs.Cipher.{encipherOf, decipherOf}
-use Rattle.aes.specs.Answers.{unless, left, answerOf, enciphered, deciphered}
+use Rattle.aes.specs.Answers.{unless, outcome, answerOf, enciphered, deciphered}
 use Rattle.aes.specs.Theorems.{ThereAndBack, BackAndThere}
 use Rattle.aes.specs.declared.Answer.{Answer}
 use Rattle.aes.specs.declared.Answer.the-variants.{Done, KeyLength, BlockLength}
@@ -59,10 +59,10 @@ accepted key from into = go (eqb (length key) 16) (eqb (length from) 16) (eqb (l
 -- ---- What each return of a call comes to, from what it called.
 module _ (key from into : List ℕ) {a : Answer} (e : a ≡ answerOf key from into) where
   -- The match found another answer than Done, whose tag is 0.
-  pub refused : (x : List ℕ) → OneOf (1 ∷ 2 ∷ []) (tagOf the-type a) → into ≡ left (answerOf key from into) x into
-  refused x o = kept a o ∙ ap (λ (z : Answer). left z x into) e
+  pub refused : (x : List ℕ) → OneOf (1 ∷ 2 ∷ []) (tagOf the-type a) → into ≡ outcome (answerOf key from into) x into
+  refused x o = kept a o ∙ ap (λ (z : Answer). outcome z x into) e
     where
-      kept : (b : Answer) → OneOf (1 ∷ 2 ∷ []) (tagOf the-type b) → into ≡ left b x into
+      kept : (b : Answer) → OneOf (1 ∷ 2 ∷ []) (tagOf the-type b) → into ≡ outcome b x into
       kept Done (inl h) = absurd (omega arith)
       kept Done (inr h) = absurd (omega arith)
       kept KeyLength o = refl
@@ -72,16 +72,16 @@ module _ (key from into : List ℕ) {a : Answer} (e : a ≡ answerOf key from in
   lent d = accepted key from into (sym e ∙ d)
 
   pub done : (f : List ℕ → List ℕ → List ℕ) {k w s t o : List ℕ} → a ≡ Done → k ≡ key → w ≡ KeyExpansion 4 k → s ≡ from → t ≡ f w s → o ≡ t
-      → o ≡ left (answerOf key from into) (f (KeyExpansion 4 key) from) into
+      → o ≡ outcome (answerOf key from into) (f (KeyExpansion 4 key) from) into
   done f {o = o} d p q r u v =
       let y : o ≡ f (KeyExpansion 4 key) from = cc in
-      y ∙ ap (λ (z : Answer). left z (f (KeyExpansion 4 key) from) into) (sym d ∙ e)
+      y ∙ ap (λ (z : Answer). outcome z (f (KeyExpansion 4 key) from) into) (sym d ∙ e)
 
 -- ---- One call undoes the other.
 module _ (key from into again : List ℕ) (e : answerOf key from into ≡ Done) (l : length again ≡ 16) (p : Bytes from) where
   -- A function of blocks and one that undoes it, as what two calls under one key leave.
   round-trip : (f g : List ℕ → List ℕ) → (Block from → Block (f from)) → (Block from → g (f from) ≡ from)
-      → let x : List ℕ = left (answerOf key from into) (f from) into in left (answerOf key x again) (g x) again ≡ from
+      → let x : List ℕ = outcome (answerOf key from into) (f from) into in outcome (answerOf key x again) (g x) again ≡ from
   round-trip f g h u =
       let a = accepted key from into e in
       let b : Block from = record { long = a .of-from; bytes = p } in

@@ -1,14 +1,14 @@
 -- Laws, not definitions: of the key expansion word by word, and that round keys are bytes.
 -- Assumes nothing.
-use mathlib.Core.Path.{_≡_, sym, ap, ap₂, _∙_}
+use mathlib.Core.Path.{_≡_, ap₂, _∙_}
 use mathlib.Core.Bool.{Bool, true, false, cond, _&&_}
-use mathlib.Core.List.{List, [], _∷_, _++_}
+use mathlib.Core.List.{List, [], _∷_}
 use Prim.Native.Nat.{ℕ, zero, suc, _+_, _-_, _*_, _/_, _%_, _≤_, _<_}
 use native.Mathlib.Nat.{add-zero}
 use native.Mathlib.Omega.{arith}
 use native.Mathlib.Decide.{decLt}
 use borrow.Author.Tests.{eq-eqb, ne-eqb}
-use lib.Dec.{T, eqb, ltb, eqb→eq, lit<}
+use lib.Dec.{eqb, ltb, eqb→eq, lit<}
 use lib.Bits.{bitXor, xor-lt, xor-zero-r}
 use lib.ListN.{length, take, drop, length-append, length-take}
 use lib.Seq.{getD-take, getD-drop}
@@ -20,7 +20,7 @@ use Rattle.field.specs.Field.{xtime}
 use Rattle.field.specs.Sbox.{sboxOf}
 use Rattle.field.proofs.laws.Field.{xtime-lt}
 use Rattle.field.proofs.laws.Sbox.{sbox-lt}
-use Rattle.aes.specs.Key.{rcon, wordAt, RotWord, SubWord, xorWord, Rcon, temp, nextWord, expand, KeyExpansion, keyOf, roundsOf}
+use Rattle.aes.specs.Key.{rcon, wordAt, RotWord, SubWord, xorWord, Rcon, temp, nextWord, expand, KeyExpansion, keyOf}
 use Rattle.aes.specs.Theorems.{RoundKeyBytes, RoundKeyLength}
 
 -- The first bytes of the round constants of ten rounds, as the code has them.
@@ -35,10 +35,10 @@ unfolding rconTable right rcon xtime
 rcon-at j h = eqb→eq _ _ (checked.at right rconTable tt j h)
 
 -- ---- What becomes of temp, with a key of four words.
-pub temp-turn : (i : ℕ) (t : List ℕ) → i % 4 ≡ 0
-    → temp 4 i t ≡ bitXor (sboxOf (at t 1)) (rcon (i / 4)) ∷ sboxOf (at t 2) ∷ sboxOf (at t 3) ∷ sboxOf (at t 0) ∷ []
+pub temp-turn : (i : ℕ) (t : List ℕ) {a b c d r : ℕ} → i % 4 ≡ 0 → a ≡ sboxOf (at t 1) → r ≡ rcon (i / 4) → b ≡ sboxOf (at t 2)
+    → c ≡ sboxOf (at t 3) → d ≡ sboxOf (at t 0) → bitXor a r ∷ b ∷ c ∷ d ∷ [] ≡ temp 4 i t
 unfolding temp xorWord SubWord RotWord Rcon tabulate
-temp-turn i t e = rw (eq-eqb (i % 4) 0 e) (simp xor-zero-r)
+temp-turn i t e pa pr pb pc pd = rw (eq-eqb (i % 4) 0 e, pa, pr, pb, pc, pd) (simp xor-zero-r)
 
 pub temp-keep : (i : ℕ) (t : List ℕ) → (i % 4 ≡ 0 → ⊥) → temp 4 i t ≡ t
 unfolding temp

@@ -13,8 +13,8 @@ use Rattle.bits.proofs.laws.Checked.{all, all-at}
 use Rattle.bits.proofs.laws.Xor.{Linear, agree}
 use Rattle.field.specs.Field.{xtime, times, mul}
 use Rattle.field.proofs.laws.Field.{mul-xor, mul-lt}
-use Rattle.field.proofs.laws.XorAll.{xor-all-ext, xor-all-lt, xor-all-swap, xor-all-linear, xor-all-one, linear-xor-all}
-use Rattle.aes.specs.State.{cell, state, entry, mixBy, mixRows, invMixRows, MixColumns, InvMixColumns}
+use Rattle.bits.proofs.laws.XorAll.{xorAll-same, xorAll-lt, xorAll-swap, linear-xorAll, xorAll-one, xorAll-linear}
+use Rattle.aes.specs.State.{cell, entry, mixBy, mixRows, invMixRows, MixColumns, InvMixColumns}
 use Rattle.aes.proofs.laws.State.{cell-state, is-block, block}
 
 -- The product of two matrices, row r and column p, at x; and the identity's.
@@ -27,7 +27,7 @@ delta r p x = cond (eqb r p) x 0
 prod-linear : (n m : List ℕ) (r p : ℕ) → Linear (prod n m r p)
 unfolding prod
 prod-linear n m r p =
-    xor-all-linear 4 (λ q x. mul (entry n r q) (mul (entry m q p) x))
+    linear-xorAll 4 (λ q x. mul (entry n r q) (mul (entry m q p) x))
     (λ q x y.
     ap (mul (entry n r q)) (mul-xor (entry m q p) x y) ∙ mul-xor (entry n r q) (mul (entry m q p) x) (mul (entry m q p) y))
 
@@ -62,13 +62,13 @@ module _ (n m : List ℕ) (t : T (undoes n m)) where
   mix-back s b =
       is-block _ s (b .long)
       (λ r c hr hc.
-      xor-all-ext 4 _ _
+      xorAll-same 4 _ _
       (λ q hq.
       ap (mul (entry n r q)) (cell-state (λ i j. xorAll 4 (λ p. mul (entry m i p) (cell s p j))) q c hq hc)
-      ∙ linear-xor-all (mul (entry n r q)) (mul-xor (entry n r q)) 4 (λ p. mul (entry m q p) (cell s p c)))
-      ∙ xor-all-swap 4 4 (λ q p. mul (entry n r q) (mul (entry m q p) (cell s p c)))
-      ∙ xor-all-ext 4 _ _ (λ p hp. prod-delta r p (cell s p c) hr hp (b .bytes (p + 4 * c)))
-      ∙ xor-all-one 4 r (λ p. cell s p c) hr)
+      ∙ xorAll-linear (mul (entry n r q)) (mul-xor (entry n r q)) 4 (λ p. mul (entry m q p) (cell s p c)))
+      ∙ xorAll-swap 4 4 (λ q p. mul (entry n r q) (mul (entry m q p) (cell s p c)))
+      ∙ xorAll-same 4 _ _ (λ p hp. prod-delta r p (cell s p c) hr hp (b .bytes (p + 4 * c)))
+      ∙ xorAll-one 4 r (λ p. cell s p c) hr)
 
 -- The entries of a matrix are bytes.
 small : List ℕ → Bool
@@ -79,7 +79,7 @@ unfolding mixBy small
 mix-by-block m t s =
     block _
     (λ r c hr hc.
-    xor-all-lt 8 4 _
+    xorAll-lt 8 4 _
     (λ q hq.
     mul-lt (entry m r q) (cell s q c)
     (ltb→lt _ _

@@ -8,12 +8,12 @@ use lib.Dec.{lit<}
 use lib.Bits.{bitXor, xor-lt}
 use lib.ListN.{length, set}
 use native.Mathlib.Nat.{le-of-lt, lt-of-le-of-lt, mul-le-mul-left}
-use Rattle.bits.specs.Lists.{at, tabulate}
+use Rattle.bits.specs.Lists.{at}
 use Rattle.bits.specs.Bytes.{Bytes, Block}
 use Rattle.bits.proofs.laws.Lists.{length-tabulate, at-tabulate, tabulate-ext, tabulate-at, tabulate-below}
 use Rattle.bits.proofs.laws.Xor.{xor-back}
 use Rattle.field.specs.Sbox.{sboxOf, invSboxOf}
-use Rattle.field.proofs.laws.Filled.{Filled, filled-more}
+use Rattle.bits.proofs.laws.Filled.{Filled, filled-more}
 use Rattle.field.proofs.laws.Sbox.{sbox-lt, inv-sbox-lt, inv-sbox-sbox, sbox-inv-sbox}
 use Rattle.aes.specs.State.{cell, state, SubBytes, ShiftRows, AddRoundKey, InvSubBytes, InvShiftRows}
 

@@ -11,7 +11,7 @@ use Rattle.bits.specs.Lists.{at, tabulate}
 use Rattle.bits.proofs.laws.Lists.{tabulate-at}
 use Rattle.aes.specs.State.{SubBytes, ShiftRows, MixColumns, AddRoundKey, InvSubBytes, InvShiftRows, InvMixColumns}
 use Rattle.aes.specs.Key.{wordAt, xorWord, temp, nextWord, expand, KeyExpansion, keyOf}
-use Rattle.aes.specs.Cipher.{rounds, Cipher, invRounds, InvCipher, encipherOf, decipherOf}
+use Rattle.aes.specs.Cipher.{rounds, Cipher, invRounds, InvCipher}
 use Rattle.aes.proofs.laws.Key.{word-take}
 
 -- ---- The cipher.

@@ -1,4 +1,4 @@
--- Laws, not definitions: numbers as n groups of k bits, over any k and n, and the xor of several numbers.
+-- Laws, not definitions: numbers as n groups of k bits, over any k and n.
 -- Assumes nothing.
 use mathlib.Core.Bool.{Bool, true, false, cond}
 use mathlib.Core.Logic.{_⊎_, inl, inr, ⊎-elim}
@@ -14,7 +14,7 @@ use lib.Bits.{bitXor, xor-lt, xor-shr, xor-mod, xor-block, xor-self, xor-zero-r}
 use lib.Dec.{eqb}
 use lib.Pow.{pow-pos, pow-add, shr-shr, shr-lt, high, low, split}
 use Rattle.bits.specs.Groups.{joined, group, xorAll}
-use Rattle.bits.proofs.laws.Xor.{Linear}
+use Rattle.bits.proofs.laws.XorAll.{xorAll-lt, xorAll-one}
 
 pub below-suc : {i n : ℕ} → i < suc n → (i < n) ⊎ (i ≡ n)
 below-suc {i} {n} h = elim (decLt i n) [ yes p ↦ inl p | no q ↦ inr (omega arith) ]
@@ -109,25 +109,6 @@ pub group-ext : (k n a b : ℕ) → a < 2 ^ (k * n) → b < 2 ^ (k * n) → ((i 
 group-ext k n a b ha hb e = sym (joined-group k n a ha) ∙ joined-same k n _ _ e ∙ joined-group k n b hb
 
 -- ---- the xor of several numbers
-pub xorAll-same : (n : ℕ) (f g : ℕ → ℕ) → ((i : ℕ) → i < n → f i ≡ g i) → xorAll n f ≡ xorAll n g
-unfolding xorAll
-xorAll-same zero f g e = refl
-xorAll-same (suc n) f g e = ap₂ bitXor (xorAll-same n f g (λ i h. e i (omega arith))) (e n (omega arith))
-
--- A linear map takes the xor of numbers to the xor of what it makes of them.
-pub linear-zero : (u : ℕ → ℕ) → Linear u → u 0 ≡ 0
-linear-zero u l = l 0 0 ∙ xor-self (u 0)
-
-pub xorAll-linear : (u : ℕ → ℕ) → Linear u → (n : ℕ) (f : ℕ → ℕ) → u (xorAll n f) ≡ xorAll n (λ i. u (f i))
-unfolding xorAll
-xorAll-linear u l zero f = linear-zero u l
-xorAll-linear u l (suc n) f = l (xorAll n f) (f n) ∙ ap (λ (x : ℕ). bitXor x (u (f n))) (xorAll-linear u l n f)
-
-pub xorAll-lt : (k n : ℕ) (f : ℕ → ℕ) → ((i : ℕ) → i < n → f i < 2 ^ k) → xorAll n f < 2 ^ k
-unfolding xorAll
-xorAll-lt k zero f b = pow-pos k
-xorAll-lt k (suc n) f b = xor-lt k (xorAll n f) (f n) (xorAll-lt k n f (λ i h. b i (omega arith))) (b n (omega arith))
-
 -- Groups that are xors.
 pub joined-xorAll : (k n m : ℕ) (f : ℕ → ℕ → ℕ) → ((i j : ℕ) → i < n → j < m → f i j < 2 ^ k)
     → joined k n (λ i. xorAll m (f i)) ≡ xorAll m (λ j. joined k n (λ i. f i j))
@@ -136,22 +117,6 @@ joined-xorAll k n zero f b = joined-zero k n _ (λ i h. refl)
 joined-xorAll k n (suc m) f b =
     joined-xor k n (λ i. xorAll m (f i)) (λ i. f i m) (λ i h. xorAll-lt k m (f i) (λ j l. b i j h (omega arith))) (λ i h. b i m h (omega arith))
     ∙ ap (λ (x : ℕ). bitXor x (joined k n (λ i. f i m))) (joined-xorAll k n m f (λ i j h l. b i j h (omega arith)))
-
--- Of the terms only one is not 0.
-xorAll-none : (n j : ℕ) (f : ℕ → ℕ) → n ≤ j → xorAll n (λ i. cond (eqb j i) (f i) 0) ≡ 0
-unfolding xorAll
-xorAll-none zero j f h = refl
-xorAll-none (suc n) j f h = rw (ne-eqb j n (λ e. omega arith), xorAll-none n j f (omega arith))
-
-pub xorAll-one : (n j : ℕ) (f : ℕ → ℕ) → j < n → xorAll n (λ i. cond (eqb j i) (f i) 0) ≡ f j
-unfolding xorAll
-xorAll-one zero j f h = absurd (omega arith)
-xorAll-one (suc n) j f h = go (ℕ-discrete j n) (λ l. xorAll-one n j f l)
-  where
-    go : Dec (j ≡ n) → (j < n → xorAll n (λ i. cond (eqb j i) (f i) 0) ≡ f j)
-        → bitXor (xorAll n (λ i. cond (eqb j i) (f i) 0)) (cond (eqb j n) (f n) 0) ≡ f j
-    go (yes e) ih = rw (xorAll-none n j f (omega arith), eq-eqb j n e) (ap f (sym e))
-    go (no e) ih = rw (ne-eqb j n e, ih (omega arith)) (xor-zero-r (f j))
 
 cond-lt : (b : Bool) (x y : ℕ) → 0 < y → x < y → cond b x 0 < y
 cond-lt true x y p h = h

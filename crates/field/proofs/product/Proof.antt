@@ -1,8 +1,8 @@
 -- `field::product` meets its contract. The invariant: the sum, with what the bits left of y give, is the product. Assumes nothing.
 use mathlib.Core.Path.{_≡_, refl, sym, ap, ap₂, _∙_}
-use Prim.Native.Nat.{ℕ, suc, _-_, _*_, _%_, _/_, _≤_}
+use Prim.Native.Nat.{ℕ, suc, _-_, _/_, _≤_}
 use lib.Bits.{bitXor, xor-zero-r}
-use Rattle.field.specs.Field.{xtime, times, mul}
+use Rattle.field.specs.Field.{times, mul}
 use Rattle.bits.proofs.laws.Xor.{xor-assoc}
 use native.Mathlib.Omega.{arith}
 use borrow.Author.Needs.{needs}
@@ -34,23 +34,22 @@ loop-less c = omega arith
 loop-again : tie.Need-loop-again Inv-loop μ-loop
 unfolding times
 loop-again c =
-    let n = c .before .before .before .loop .left in
-    let e : n ≡ suc (n - 1) = omega arith in
-    let x = c .before .before .before .loop .x in
-    let y = c .before .before .before .loop .y in
-    let z = c .before .before .before .loop .sum in (
+    let l = c .before .before .before .loop in
+    let n = l .left in
+    let e : n ≡ suc (n - 1) = omega arith in (
       omega arith,
-      xor-assoc z _ _
-          ∙ ap (bitXor z) (ap₂ (λ (p q : ℕ). bitXor p (times (n - 1) q (y / 2))) (c .before .share .ensures) (c .xtimes .ensures))
-          ∙ ap (λ (k : ℕ). bitXor z (times k x y)) (sym e)
-          ∙ c .before .before .before .loop .inv .1,
+      xor-assoc (l .sum) _ _
+          ∙ ap (bitXor (l .sum)) (ap₂ (λ (p q : ℕ). bitXor p (times (n - 1) q (l .y / 2))) (c .before .share .ensures) (c .xtimes .ensures))
+          ∙ ap (λ (k : ℕ). bitXor (l .sum) (times k (l .x) (l .y))) (sym e)
+          ∙ l .inv .1,
     )
 
 returns : tie.Need-returns Inv-loop μ-loop
 unfolding times
 returns c =
-    let e : c .before .loop .left ≡ 0 = omega arith in
-    sym (xor-zero-r _) ∙ ap (λ k. bitXor (c .before .loop .sum) (times k (c .before .loop .x) (c .before .loop .y))) (sym e) ∙ c .before .loop .inv .1
+    let l = c .before .loop in
+    let e : l .left ≡ 0 = omega arith in
+    sym (xor-zero-r _) ∙ ap (λ k. bitXor (l .sum) (times k (l .x) (l .y))) (sym e) ∙ l .inv .1
 
 pub product-spec : {M : Type 1} → statement M
 product-spec =

@@ -11,7 +11,7 @@ use native.Mathlib.Omega.{arith}
 use borrow.Author.Tests.{lt-ltb, le-ltb}
 use lib.Bits.{bitXor, xor-zero-l, xor-shr, xor-mod}
 use lib.Dec.{ltb}
-use Rattle.bits.proofs.laws.Groups.{xorAll-same, xorAll-linear, xorAll-lt}
+use Rattle.bits.proofs.laws.XorAll.{xorAll-same, xorAll-linear, xorAll-lt}
 use Rattle.bits.proofs.laws.Lists.{at-tabulate, tabulate-below, tabulate-ext}
 use Rattle.bits.proofs.laws.Nibbles.{nibble-lt}
 use Rattle.bits.specs.Bytes.{Bytes}

@@ -20,7 +20,7 @@ use Rattle.bits.specs.Groups.{xorAll}
 use Rattle.bits.specs.Lists.{at, tabulate}
 use Rattle.bits.proofs.laws.Checked.{every} 
 use Rattle.bits.proofs.laws.Checked as checked
-use Rattle.bits.proofs.laws.Groups.{xorAll-lt, xorAll-same}
+use Rattle.bits.proofs.laws.XorAll.{xorAll-lt, xorAll-same}
 use Rattle.bits.proofs.laws.Lists.{at-tabulate, at-past, length-tabulate, tabulate-below, tabulate-ext}
 use Rattle.field.specs.Field.{mul}
 use Rattle.field.specs.Sbox.{sboxOf}

@@ -13,7 +13,8 @@ use Rattle.bits.specs.Groups.{xorAll}
 use Rattle.bits.specs.Lists.{at, tabulate}
 use Rattle.bits.specs.Matrices.{product}
 use Rattle.bits.proofs.laws.Bytes.{at-bytesOf, byte-lt, numberOf-lt, xor-of-placed, bytesOf-bytes}
-use Rattle.bits.proofs.laws.Groups.{group-xor, group-joined, joined-lt, joined-same, joined-group, joined-xorAll, xorAll-same, xorAll-linear, xor-placed}
+use Rattle.bits.proofs.laws.Groups.{group-xor, group-joined, joined-lt, joined-same, joined-group, joined-xorAll, xor-placed}
+use Rattle.bits.proofs.laws.XorAll.{xorAll-same, xorAll-linear}
 use Rattle.bits.proofs.laws.Inverses.{inverse-undoes}
 use Rattle.bits.proofs.laws.Lists.{at-tabulate, tabulate-ext}
 use Rattle.bits.proofs.laws.Matrices.{product-lt, product-xor}

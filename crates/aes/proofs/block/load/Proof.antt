@@ -2,7 +2,7 @@
 use mathlib.Core.Path.{refl}
 use Prim.Native.Nat.{_-_}
 use Rattle.bits.specs.Lists.{at}
-use Rattle.field.proofs.laws.Filled.{Filled, filled-none, filled-more, copied}
+use Rattle.bits.proofs.laws.Filled.{Filled, filled-none, filled-more, copied}
 use native.Mathlib.Omega.{arith}
 use Rattle.aes.proofs.block.load.Statement.{statement}
 use Rattle.aes.proofs.block.load.Tie as tie

@@ -86,14 +86,20 @@ loop-less : tie.Need-loop-less Inv-loop μ-loop
 loop-less c = omega arith
 
 loop-again : tie.Need-loop-again Inv-loop μ-loop
-loop-again c = (
-  omega arith,
-  simp length-set (omega arith),
-  key-turn _ _ _ (omega arith) (c .before .before .before .before .before .loop .inv .1) (c .before .before .before .before .before .loop .inv .2) (c .before .before .before .word-at .ensures) (c .before .before .word-at2 .ensures) (c .before .temp-of .ensures) (c .xor-word .ensures),
-)
+loop-again c =
+    let k = c .before .before .before in
+    let l = k .before .before .loop in (
+      omega arith,
+      simp length-set (omega arith),
+      key-turn _ _ _ (omega arith) (l .inv .1) (l .inv .2) (k .word-at .ensures) (c .before .before .word-at2 .ensures)
+          (c .before .temp-of .ensures) (c .xor-word .ensures),
+    )
 
 returns : tie.Need-returns Inv-loop μ-loop
-returns c = key-end _ (c .before .before .key-words .result) _ (c .before .loop .n) (c .before .loop .inv .1) (c .before .loop .inv .2) (omega arith) (c .before .before .key-words .ensures)
+returns c =
+    let l = c .before .loop in
+    let k = c .before .before .key-words in
+    key-end _ (k .result) _ (l .n) (l .inv .1) (l .inv .2) (omega arith) (k .ensures)
 
 pub expand-key-spec : {M : Type 1} → statement M
 expand-key-spec =

@@ -1,5 +1,5 @@
 -- `aes::key::key_words` meets its contract: byte after byte. Assumes nothing.
-use mathlib.Core.Path.{_≡_, refl, _∙_}
+use mathlib.Core.Path.{_≡_, refl}
 use Prim.Native.Nat.{_-_, _≤_}
 use lib.ListN.{length, take, length-set}
 use Rattle.bits.specs.Lists.{at, tabulate}

@@ -33,7 +33,10 @@ sub-requires-4 : tie.Need-sub-requires-4
 sub-requires-4 c κs = search needs
 
 returns : tie.Need-returns
-returns c = cc (temp-turn (c .before .before .before .before .before .before .args .i) (c .before .before .before .before .before .before .args .t1) (c .before .before .before .before .before .if1 .taken))
+returns c =
+    let k = c .before .before .before .before in
+    temp-turn _ _ (k .before .if1 .taken) (k .sub .ensures) (c .before .before .before .rcon-at .ensures)
+    (c .before .before .sub2 .ensures) (c .before .sub3 .ensures) (c .sub4 .ensures)
 
 returns-2 : tie.Need-returns-2
 returns-2 c = sym (temp-keep (c .before .args .i) (c .before .args .t1) (c .if1 .left))

@@ -40,10 +40,12 @@ loop-less : tie.Need-loop-less Inv-loop μ-loop
 loop-less c = omega arith
 
 loop-again : tie.Need-loop-again Inv-loop μ-loop
-loop-again c = (
-  omega arith,
-  round-turn _ _ _ (c .before .before .before .before .before .loop .inv .1) (c .before .before .before .sub-bytes .ensures) (c .before .before .shift-rows .ensures) (c .before .mix-columns .ensures) (c .add-round-key2 .ensures),
-)
+loop-again c =
+    let k = c .before .before .before in (
+      omega arith,
+      round-turn _ _ _ (k .before .before .loop .inv .1) (k .sub-bytes .ensures) (c .before .before .shift-rows .ensures)
+          (c .before .mix-columns .ensures) (c .add-round-key2 .ensures),
+    )
 
 sub-bytes-requires-2 : tie.Need-sub-bytes-requires-2 Inv-loop μ-loop
 sub-bytes-requires-2 c κs = search needs
@@ -56,7 +58,9 @@ add-round-key-requires-3 c κs = search needs
 
 returns : tie.Need-returns Inv-loop μ-loop
 returns c =
-    round-end _ _ _ (omega arith) (omega arith) (c .before .before .before .before .before .add-round-key .ensures) (c .before .before .before .before .loop .inv .1) (c .before .before .sub-bytes2 .ensures) (c .before .shift-rows2 .ensures) (c .add-round-key3 .ensures)
+    let k = c .before .before .before .before in
+    round-end _ _ _ (omega arith) (omega arith) (k .before .add-round-key .ensures) (k .loop .inv .1)
+    (c .before .before .sub-bytes2 .ensures) (c .before .shift-rows2 .ensures) (c .add-round-key3 .ensures)
 
 pub cipher-spec : {M : Type 1} → statement M
 cipher-spec =

@@ -39,10 +39,12 @@ loop-less : tie.Need-loop-less Inv-loop μ-loop
 loop-less c = omega arith
 
 loop-again : tie.Need-loop-again Inv-loop μ-loop
-loop-again c = (
-  omega arith,
-  inv-turn _ _ _ _ (omega arith) (c .before .before .before .before .before .loop .inv .1) (c .before .before .before .inv-shift-rows .ensures) (c .before .before .inv-sub-bytes .ensures) (c .before .add-round-key2 .ensures) (c .inv-mix-columns .ensures),
-)
+loop-again c =
+    let k = c .before .before .before in (
+      omega arith,
+      inv-turn _ _ _ _ (omega arith) (k .before .before .loop .inv .1) (k .inv-shift-rows .ensures)
+          (c .before .before .inv-sub-bytes .ensures) (c .before .add-round-key2 .ensures) (c .inv-mix-columns .ensures),
+    )
 
 inv-shift-rows-requires-2 : tie.Need-inv-shift-rows-requires-2 Inv-loop μ-loop
 inv-shift-rows-requires-2 c κs = search needs
@@ -55,7 +57,9 @@ add-round-key-requires-3 c κs = search needs
 
 returns : tie.Need-returns Inv-loop μ-loop
 returns c =
-    inv-end _ _ _ _ (omega arith) (c .before .before .before .before .before .add-round-key .ensures) (c .before .before .before .before .loop .inv .1) (c .before .before .inv-shift-rows2 .ensures) (c .before .inv-sub-bytes2 .ensures) (c .add-round-key3 .ensures)
+    let k = c .before .before .before .before in
+    inv-end _ _ _ _ (omega arith) (k .before .add-round-key .ensures) (k .loop .inv .1)
+    (c .before .before .inv-shift-rows2 .ensures) (c .before .inv-sub-bytes2 .ensures) (c .add-round-key3 .ensures)
 
 pub inv-cipher-spec : {M : Type 1} → statement M
 inv-cipher-spec =

@@ -3,7 +3,7 @@ use mathlib.Core.Path.{refl, sym, ap, ap₂, _∙_}
 use Prim.Native.Nat.{_-_, _/_, _%_}
 use lib.Bits.{bitXor}
 use Rattle.bits.specs.Lists.{at}
-use Rattle.field.proofs.laws.Filled.{Filled, filled-none, filled-more, filled-all}
+use Rattle.bits.proofs.laws.Filled.{Filled, filled-none, filled-more, filled-all}
 use Rattle.aes.specs.State.{cell, state, AddRoundKey}
 use Rattle.aes.specs.Key.{keyOf}
 use Rattle.aes.proofs.laws.State.{place}

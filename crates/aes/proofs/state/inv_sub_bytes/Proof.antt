@@ -2,7 +2,7 @@
 use mathlib.Core.Path.{refl}
 use Prim.Native.Nat.{_-_, _/_, _%_}
 use Rattle.field.specs.Sbox.{invSboxOf}
-use Rattle.field.proofs.laws.Filled.{Filled, filled-none, filled-all}
+use Rattle.bits.proofs.laws.Filled.{Filled, filled-none, filled-all}
 use Rattle.aes.specs.State.{cell, state, InvSubBytes}
 use Rattle.aes.proofs.laws.State.{each-more}
 use borrow.Author.Needs.{needs}

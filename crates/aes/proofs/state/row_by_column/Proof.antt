@@ -1,6 +1,6 @@
 -- `aes::state::row_by_column` meets its contract. The invariant: the sum of the first q products. Assumes nothing.
-use mathlib.Core.Path.{_≡_, refl, sym, ap, ap₂, _∙_}
-use Prim.Native.Nat.{ℕ, _-_, _≤_}
+use mathlib.Core.Path.{_≡_, refl, ap₂}
+use Prim.Native.Nat.{_-_, _≤_}
 use native.Mathlib.Numerals.{add-one}
 use lib.Bits.{bitXor}
 use Rattle.bits.specs.Groups.{xorAll}

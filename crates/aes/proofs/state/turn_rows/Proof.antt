@@ -1,7 +1,7 @@
 -- `aes::state::turn_rows` meets its contract: byte after byte, from the column that the row is turned by. Assumes nothing.
 use mathlib.Core.Path.{refl}
 use Prim.Native.Nat.{_+_, _-_, _*_, _/_, _%_}
-use Rattle.field.proofs.laws.Filled.{Filled, filled-none, filled-more, filled-all}
+use Rattle.bits.proofs.laws.Filled.{Filled, filled-none, filled-more, filled-all}
 use Rattle.aes.specs.State.{cell, state}
 use Rattle.aes.proofs.laws.State.{turn-lt}
 use native.Mathlib.Omega.{arith}

@@ -1,0 +1,2 @@
+-- The proof of the examples of specs/.
+pub mod laws
