@@ -3,10 +3,10 @@
 use mathlib.Core.Bool.{cond}
 use mathlib.Core.List.{List, [], _∷_, _++_, map}
 use Prim.Native.Nat.{ℕ, zero, suc, _+_, _-_, _*_, _/_, _%_}
-use lib.Dec.{eqb, ltb}
+use lib.Dec.{ltb}
 use Rattle.network.specs.Lookups.{Shape}
-use Rattle.network.specs.Numbers.{sumNumber}
-use Rattle.network.specs.Sizes.{lookupsIn, bytesIn, resultsIn, sizeIn, offsetIn}
+use Rattle.network.specs.Numbers.{Numbers, sumNumber}
+use Rattle.network.specs.Sizes.{sizeOf, offsetOf, lookupsIn, bytesIn, resultsIn, sizeIn, offsetIn}
 use Rattle.network.specs.declared.stage.Place.{Place}
 use Rattle.network.specs.declared.stage.Stage.{Stage}
 use Rattle.network.specs.declared.stage.Stage.the-variants.{Entry, First, Second, Exit, Beyond}
@@ -112,10 +112,22 @@ standingNumber nr (Second r) q = sumNumber 4 (1024 + 448 * (r - 1)) q
 standingNumber nr Exit q = afterRound (nr - 1) q
 standingNumber nr Beyond q = sumNumber 16 (1024 + 448 * (nr - 1)) q
 
+unfoldable pub numbersOf : ℕ → Stage → Numbers
+numbersOf nr s = record { first = firstNumber nr s; standing = standingNumber nr s }
+
 -- The number of lookup k within its layer.
 unfoldable pub indexOf : ℕ → ℕ → ℕ
 indexOf nr k = k - firstLookup nr (stageOf nr k)
 
 -- What the code answers of lookup k: its stage or half, its number there, and its table's size and offset in the set.
-unfoldable pub placeOf : ℕ → ℕ → Place
+abbrev pub placeOf : ℕ → ℕ → Place
 placeOf nr k = record { stage = stageOf nr k; index = indexOf nr k; size = tableSize nr k; offset = tableOffset nr k }
+
+-- What the private functions of the code answer: lookup j of a stage or half whose tables begin at `start` and whose words have m bytes,
+-- and lookup j of round r.
+unfoldable pub placeFrom : Stage → ℕ → ℕ → ℕ → Place
+placeFrom s m start j = record { stage = s; index = j; size = sizeOf m j; offset = start + offsetOf m j }
+
+unfoldable pub placeInRound : ℕ → ℕ → Place
+placeInRound r j =
+    cond (ltb j 112) (placeFrom (First r) 4 (126976 + 57344 * (r - 1)) j) (placeFrom (Second r) 4 (155648 + 57344 * (r - 1)) (j - 112))

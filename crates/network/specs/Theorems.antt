@@ -1,5 +1,5 @@
--- The statements of this crate, for a reader to hold against document 01. Each is a type; the theorems of these types stand in
--- proofs/laws/Proved.antt. Only names of this folder's definitions and of crate bits stand here.
+-- The statements of this crate, for a reader to hold against document 01. Each is a type, and the last record gathers them. Only names
+-- of this folder's definitions and of crate bits stand here.
 use mathlib.Core.List.{List, [], _∷_, _++_, map}
 use mathlib.Core.Path.{_≡_}
 use Prim.Native.Nat.{ℕ, suc, _+_, _-_, _*_, _≤_, _<_}
@@ -12,10 +12,11 @@ use Rattle.network.specs.Due.{Values, Due, held, blank, valuesOf, leftBy
 use Rattle.network.specs.Lookups.{Walk, zeroArea, lookupIn, lookupAt, walked}
 use Rattle.network.specs.Numbers.{Numbers, startNumbers, numbersAfter}
 use Rattle.network.specs.Order.{GoodWidth}
-use Rattle.network.specs.Rule.{Label, none, under, labelOf, labels, firstResult, ruleAt}
+use Rattle.network.specs.Rule.{under, labelOf, labels, firstResult, ruleAt}
 use Rattle.network.specs.Sizes.{sizeOf, offsetOf, lookupsIn, bytesIn, resultsIn, sizeIn, offsetIn}
-use Rattle.network.specs.Stages.{widthOf, shapeAt, shapes, lookups, setBytes, encodings, tableSize, tableOffset, stageOf, indexOf, firstLookup, firstByte, firstNumber}
-use Rattle.network.specs.Tables.{Layer, widthsOf, shapesOf, AllGood, tableAt}
+use Rattle.network.specs.Stages.{stages, widthOf, shapeAt, shapes, widths, lookups, setBytes, encodings, tableSize, tableOffset, stageOf, indexOf, firstByte, numbersOf}
+use Rattle.network.specs.Tables.{Layer, widthsOf, shapesOf, AllGood, tableIn, tableAt}
+use Rattle.network.specs.declared.stage.Stage.{Stage}
 
 -- E gives a permutation for every number.
 abbrev pub Permutations : (ℕ → List ℕ) → Type 0
@@ -99,15 +100,20 @@ TableParts =
     × ((k : ℕ) → length (tableAt E Ls N k) ≡ sizeIn ms k)
     × ((k : ℕ) → k < lookupsIn ms → take (sizeIn ms k) (drop (offsetIn ms k) set) ≡ tableAt E Ls N k)
 
--- ---- THE STAGES BY RANGES, for any number nr of rounds but 0
+-- ---- THE STAGES BY RANGES, for any number nr of rounds
 pub record ByStage (nr : ℕ) : Type 0 where
   -- The limits of the ranges, and of the numbers of bytes and encodings.
   pub all-lookups : lookups nr ≡ 992 + 224 * (nr - 1)
   pub all-bytes : setBytes nr ≡ 253952 + 57344 * (nr - 1)
   pub all-encodings : encodings nr ≡ 2016 + 448 * (nr - 1)
+  -- After the last lookup the standing nibbles have the last 32 encodings: "the output matrix, then lists 6,016 to 6,047".
+  pub output-numbers : (q : ℕ) → q < 32 → numbersAfter (widths nr) startNumbers .standing q ≡ encodings nr - 32 + q
   -- Lookup k is lookup `indexOf nr k` of its stage or half.
   pub lookup-is : (reads : ℕ → ℕ) (k : ℕ) → k < lookups nr → (t : List ℕ) (w : Walk)
       → lookupAt (shapes reads nr) k t w ≡ lookupIn (shapeAt reads (stageOf nr k)) (indexOf nr k) t w
+  -- Its table is made there, from the numbers that start the stage or half, in any network with a layer of the right width for each.
+  pub table-is : (E : ℕ → List ℕ) (F : Stage → Layer) → ((s : Stage) → F s .width ≡ widthOf s) → (k : ℕ) → k < lookups nr
+      → tableAt E (map F (stages nr)) startNumbers k ≡ tableIn E (F (stageOf nr k)) (numbersOf nr (stageOf nr k)) (indexOf nr k)
   -- Its table has the size of its kind, and stands behind the first byte of its stage or half.
   pub size-is : (k : ℕ) → k < lookups nr → tableSize nr k ≡ sizeOf (widthOf (stageOf nr k)) (indexOf nr k)
   pub offset-is : (k : ℕ) → k < lookups nr → tableOffset nr k ≡ firstByte nr (stageOf nr k) + offsetOf (widthOf (stageOf nr k)) (indexOf nr k)
@@ -116,5 +122,14 @@ pub record ByStage (nr : ℕ) : Type 0 where
   pub size-none : (k : ℕ) → lookups nr ≤ k → tableSize nr k ≡ 0
   pub offset-none : (k : ℕ) → lookups nr ≤ k → tableOffset nr k ≡ setBytes nr
 
-abbrev pub Ranges : Type 0
-Ranges = (nr : ℕ) → 1 ≤ nr → ByStage nr
+-- ---- All of them, proved in proofs/laws/Proved.antt.
+pub record Network : Type 0 where
+  pub one-lookup : OneLookup
+  pub from-any-layer : FromAnyLayer
+  pub at-the-end : AtTheEnd
+  pub place-by-place : PlaceByPlace
+  pub rule-labels : RuleLabels
+  pub rule-tables : RuleTables
+  pub in-range : InRange
+  pub table-parts : TableParts
+  pub by-stage : (nr : ℕ) → ByStage nr

@@ -4,3 +4,5 @@ pub mod Values
 pub mod Calls
 pub mod Set
 pub mod InRange
+pub mod Bundles
+pub mod Demands

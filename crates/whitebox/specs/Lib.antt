@@ -8,3 +8,6 @@ pub mod Ciphers
 pub mod Calls
 pub mod PlainCount
 pub mod InRange
+pub mod Bundles
+pub mod Demand2
+pub mod Demand3

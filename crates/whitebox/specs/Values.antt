@@ -2,9 +2,10 @@
 -- matrix stands in them. Definitions only.
 use mathlib.Core.List.{List, [], map}
 use Prim.Native.Nat.{ℕ, suc, _+_, _-_, _*_, _/_, _%_}
-use Rattle.bits.specs.Bytes.{number, byte, numberOf, bytesOf}
+use Rattle.bits.specs.Bytes.{number, byte}
 use Rattle.bits.specs.Lists.{at, tabulate}
 use Rattle.bits.specs.Matrices.{product}
+use Rattle.external.specs.Coding.{multiply}
 use Rattle.network.specs.Due.{Due, Values, standingDue, areaDue, dueWalk}
 use Rattle.network.specs.Lookups.{Walk}
 use Rattle.network.specs.Numbers.{startNumbers}
@@ -26,14 +27,11 @@ module _ (C : Codings) where
   underColumns r s =
       tabulate 16 (λ i. byte 4 (i % 4) (product 32 (columnMatrixAt C r (i / 4)) (number 4 (λ t. at s (4 * (i / 4) + t)))))
 
-  -- A block under a matrix of 128 rows: "the input matrix times the uncoded block", the output matrix times the cipher block.
-  unfoldable pub underBlock : List ℕ → List ℕ → List ℕ
-  underBlock m b = bytesOf 16 (product 128 m (numberOf 16 b))
-
 module _ (P : Parts) (C : Codings) (nr : ℕ) (b : List ℕ) where
   -- Of each stage and half, from the uncoded presented block b: the bytes that stand at its start, and the word of each spread lookup.
+  -- At the entry they are "the input matrix times the uncoded block".
   abbrev pub standingAt : Stage → List ℕ
-  standingAt Entry = underBlock C (C .inputMatrix) b
+  standingAt Entry = multiply (C .inputMatrix) b
   standingAt (First r) = underBytes C r (stateAfter P b (r - 1))
   standingAt (Second r) = underColumns C r (stateAfter P b r)
   standingAt Exit = underBytes C nr (stateAfter P b (nr - 1))
@@ -54,7 +52,7 @@ module _ (P : Parts) (C : Codings) (nr : ℕ) (b : List ℕ) where
 
   -- What stands at the end: the output matrix times the cipher block.
   unfoldable pub ended : List ℕ
-  ended = underBlock C (C .outputMatrix) (result P nr b)
+  ended = multiply (C .outputMatrix) (result P nr b)
 
   -- Due at standing nibble q, and at nibble q of the area, at count k; and the walk in which each place holds what is due.
   unfoldable pub dueStanding : ℕ → ℕ → Due

@@ -150,7 +150,7 @@ module _ (reads : ℕ → ℕ) (nr : ℕ) (tables : ℕ → List ℕ) (set : Lis
       ∙ ⊎-elim (λ o. o .call ∙ ap (λ (p : Counted). p .reply) (sym (o .counted))) (λ t. t .call ∙ ap (λ (p : Counted). p .reply) (sym (t .counted)))
       (fetch-view nr (length block) n)
 
-  block-is : (c : Call) (n : ℕ) → blockLeft reads nr c (W n) ≡ blockDue nr W answer c n
+  pub block-is : (c : Call) (n : ℕ) → blockLeft reads nr c (W n) ≡ blockDue nr W answer c n
   unfolding blockLeft
   block-is (toStop mem stop) n = refl
   block-is (oneLookup mem) n = refl

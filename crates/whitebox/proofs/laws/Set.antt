@@ -12,6 +12,7 @@ use Rattle.bits.specs.Nibbles.{nibble}
 use Rattle.bits.specs.Lists.{concat}
 use Rattle.bits.proofs.laws.Bytes.{bytesOf-bytes}
 use Rattle.bits.proofs.laws.Nibbles.{packed-ext}
+use Rattle.external.specs.Coding.{multiply}
 use Rattle.network.specs.Due.{Values, valuesIn, summed, leftBy, closed, encoded, dueWalk}
 use Rattle.network.specs.Lookups.{Walk, Shape, lookup, lookupAt}
 use Rattle.network.specs.Numbers.{Numbers, startNumbers, nextNumbers, numbersAfter, encodingNumber, layerResults, sumNumber}
@@ -29,7 +30,7 @@ use Rattle.whitebox.specs.Calls.{step}
 use Rattle.whitebox.specs.Codings.{Codings, Sound}
 use Rattle.whitebox.specs.Parts.{Parts, Fine}
 use Rattle.whitebox.specs.Tables.{layerOf, layers, tableOf, setOf}
-use Rattle.whitebox.specs.Values.{underBlock, values, ended, walkDue}
+use Rattle.whitebox.specs.Values.{values, ended, walkDue}
 use Rattle.whitebox.proofs.laws.Values.{layers-good, follows, closed-is-due}
 
 -- ---- the shapes
@@ -105,18 +106,18 @@ module _ (P : Parts) (fine : Fine P) (C : Codings) (sound : Sound C) (nr : ℕ) 
   due-step n h =
       let Ls : List Layer = layers P C nr in
       let E = C .encoding in
-      let l : List ℕ = underBlock C (C .inputMatrix) b in
+      let l : List ℕ = multiply (C .inputMatrix) b in
       let t : List ℕ = tableAt E Ls startNumbers n in
       ap (λ (k : ℕ). lookupAt (shapes (P .reads) nr) k t (walkDue P C nr b n)) (due-count n)
       ∙ ap₂ (λ (Ss : List Shape) (w : Walk). lookupAt Ss n t w) (sym (shapes-are P C nr)) (sym (closed-is-due P fine C sound nr b block some n))
-      ∙ one-lookup E (sound .encodings) Ls (layers-good P fine C nr) startNumbers l (unfold underBlock in bytesOf-bytes 16 _) 0 n (subst (λ (m : ℕ). n < m) (sym (lookups-are P C nr)) h)
+      ∙ one-lookup E (sound .encodings) Ls (layers-good P fine C nr) startNumbers l (unfold multiply in bytesOf-bytes 16 _) 0 n (subst (λ (m : ℕ). n < m) (sym (lookups-are P C nr)) h)
       ∙ closed-is-due P fine C sound nr b block some (suc n)
 
   pub due-end : walkDue P C nr b (lookups nr) .standing ≡ encoded (C .encoding) (λ q. encodings nr - 32 + q) (ended P C nr b)
   unfolding encoded
   due-end =
       let Ls : List Layer = layers P C nr in
-      let l : List ℕ = underBlock C (C .inputMatrix) b in
+      let l : List ℕ = multiply (C .inputMatrix) b in
       ap (λ (w : Walk). w .standing)
       (sym (closed-is-due P fine C sound nr b block some (lookups nr))
       ∙ ap (closed (C .encoding) Ls startNumbers l 0) (sym (lookups-are P C nr))

@@ -18,7 +18,6 @@ use Rattle.aes.proofs.laws.State.{place}
 use Rattle.bits.specs.Bytes.{Bytes, Block}
 use Rattle.bits.specs.Groups.{xorAll}
 use Rattle.bits.specs.Lists.{at, tabulate}
-use Rattle.bits.proofs.laws.Checked.{every} 
 use Rattle.bits.proofs.laws.Checked as checked
 use Rattle.bits.proofs.laws.XorAll.{xorAll-lt, xorAll-same}
 use Rattle.bits.proofs.laws.Lists.{at-tabulate, at-past, length-tabulate, tabulate-below, tabulate-ext}
@@ -27,7 +26,7 @@ use Rattle.field.specs.Sbox.{sboxOf}
 use Rattle.field.proofs.laws.Field.{mul-lt}
 use Rattle.field.proofs.laws.Sbox.{sbox-lt}
 use Rattle.network.specs.Stages.{shifted}
-use Rattle.whitebox.specs.Ciphers.{ForwardCipher, ForwardFine}
+use Rattle.whitebox.specs.Ciphers.{ForwardCipher, ForwardRounds, ForwardFine}
 use Rattle.whitebox.specs.Parts.{Parts, Fine, forward}
 use Rattle.whitebox.specs.States.{keyed, mixed, stateAfter, result}
 
@@ -156,3 +155,6 @@ forward-cipher nr w b h =
     let r = nr - 1 in
     keyed-last nr w r (stateAfter (forward nr w) b r) (omega arith)
     ∙ ap (λ (s : List ℕ). AddRoundKey (ShiftRows (SubBytes s)) (keyOf w nr)) (sym (rounds-are nr w b r (omega arith)))
+
+pub forward-rounds : ForwardRounds
+forward-rounds nr w b r h = sym (rounds-are nr w b r h)

@@ -12,6 +12,7 @@ use Rattle.bits.specs.Lists.{at}
 use Rattle.bits.proofs.laws.Bytes.{byte-lt, bytesOf-bytes}
 use Rattle.bits.proofs.laws.Lists.{tabulate-below}
 use Rattle.bits.proofs.laws.Matrices.{product-lt}
+use Rattle.external.specs.Coding.{multiply}
 use Rattle.network.specs.Due.{Values, summed, closed}
 use Rattle.network.specs.Numbers.{startNumbers}
 use Rattle.network.specs.Stages.{stages, rounds}
@@ -23,7 +24,7 @@ use Rattle.whitebox.specs.Codings.{Codings, Sound, byteMatrixAt}
 use Rattle.whitebox.specs.Parts.{Parts, Fine}
 use Rattle.whitebox.specs.States.{keyed, mixed, stateAfter, result}
 use Rattle.whitebox.specs.Tables.{layerOf, layers}
-use Rattle.whitebox.specs.Values.{underBytes, underColumns, underBlock, standingAt, valuesAt, values, ended, walkDue}
+use Rattle.whitebox.specs.Values.{underBytes, underColumns, standingAt, valuesAt, values, ended, walkDue}
 use Rattle.whitebox.specs.Words.{entryWord, mixedWord, secondWord, placedWord}
 use Rattle.whitebox.proofs.laws.States.{state-bytes, keyed-bytes}
 use Rattle.whitebox.proofs.laws.Words.{substituted-is, entry-next, first-next, second-next, exit-next}
@@ -125,7 +126,7 @@ module _ (P : Parts) (fine : Fine P) (C : Codings) (sound : Sound C) (nr : ℕ) 
   unfolding stateAfter
   start-is = refl
 
-  pub follows : 1 ≤ nr → Follows (layers P C nr) (values P C nr b) (underBlock C (C .inputMatrix) b) (ended P C nr b)
+  pub follows : 1 ≤ nr → Follows (layers P C nr) (values P C nr b) (multiply (C .inputMatrix) b) (ended P C nr b)
   unfolding layers values stages
   follows h = (
     record { width = refl; standing = refl; words = λ p c. refl },
@@ -134,8 +135,8 @@ module _ (P : Parts) (fine : Fine P) (C : Codings) (sound : Sound C) (nr : ℕ) 
   )
 
   -- The closed form of the network is the walk of values due.
-  pub closed-is-due : 1 ≤ nr → (k : ℕ) → closed (C .encoding) (layers P C nr) startNumbers (underBlock C (C .inputMatrix) b) 0 k ≡ walkDue P C nr b k
+  pub closed-is-due : 1 ≤ nr → (k : ℕ) → closed (C .encoding) (layers P C nr) startNumbers (multiply (C .inputMatrix) b) 0 k ≡ walkDue P C nr b k
   unfolding walkDue
   closed-is-due h k =
-      closed-follows (C .encoding) (layers P C nr) (values P C nr b) (underBlock C (C .inputMatrix) b) (ended P C nr b) (follows h)
+      closed-follows (C .encoding) (layers P C nr) (values P C nr b) (multiply (C .inputMatrix) b) (ended P C nr b) (follows h)
       (layers-good P fine C nr) startNumbers 0 k

@@ -21,12 +21,13 @@ use Rattle.bits.proofs.laws.Matrices.{product-lt, product-xor}
 use Rattle.bits.proofs.laws.Xor.{Linear}
 use Rattle.field.specs.Field.{mul}
 use Rattle.field.proofs.laws.Field.{mul-lt}
+use Rattle.external.specs.Coding.{multiply}
 use Rattle.network.specs.Due.{Values, summed}
 use Rattle.network.specs.declared.stage.Stage.the-variants.{Entry, First, Second, Exit}
 use Rattle.whitebox.specs.Codings.{Codings, GoodMatrix, Sound, byteMatrixAt, columnMatrixAt}
 use Rattle.whitebox.specs.Parts.{Parts, Fine}
 use Rattle.whitebox.specs.States.{keyed, mixed, stateAfter, result}
-use Rattle.whitebox.specs.Values.{underBytes, underColumns, underBlock, valuesAt, ended}
+use Rattle.whitebox.specs.Values.{underBytes, underColumns, valuesAt, ended}
 use Rattle.whitebox.specs.Words.{substituted, entryWord, mixedWord, secondWord, placedWord}
 use Rattle.whitebox.proofs.laws.States.{keyed-bytes}
 
@@ -60,7 +61,7 @@ module _ (P : Parts) (fine : Fine P) (C : Codings) (sound : Sound C) where
   module _ (nr : ℕ) (b : List ℕ) (block : Block b) where
     -- ---- 1. the entry takes the input matrix off and puts the matrices of round 1 on
     pub entry-next : summed (valuesAt P C nr b Entry) ≡ underBytes C 1 b
-    unfolding summed underBytes entryWord underBlock
+    unfolding summed underBytes entryWord multiply
     entry-next =
         tabulate-ext 16 _ _ (λ q c.
         xorAll-same 16 _ (λ i. u q (placed 16 i (byte 16 i v))) (λ i d.
@@ -139,8 +140,8 @@ module _ (P : Parts) (fine : Fine P) (C : Codings) (sound : Sound C) where
       u c t x = product 8 (byteMatrixAt C (suc r) (4 * c + t)) (byte 4 t (product 32 (inverseOf 32 (columnMatrixAt C r c)) x))
 
   -- ---- 4. the exit puts the output matrix on the cipher block
-  pub exit-next : (l k : List ℕ) → Bytes k → summed (record { width = 16; standing = l; word = λ p. placedWord P C p (at k p) }) ≡ underBlock C (C .outputMatrix) k
-  unfolding summed underBlock placedWord bytesOf placed
+  pub exit-next : (l k : List ℕ) → Bytes k → summed (record { width = 16; standing = l; word = λ p. placedWord P C p (at k p) }) ≡ multiply (C .outputMatrix) k
+  unfolding summed multiply placedWord bytesOf placed
   exit-next l k h =
       tabulate-ext 16 _ _ (λ q c.
       xorAll-same 16 _ (λ i. u q (placed 16 i (at k i))) (λ i d.
