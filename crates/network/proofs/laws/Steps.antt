@@ -74,7 +74,7 @@ module _ (E : ℕ → List ℕ) (perm : (n : ℕ) → Permutation (E n)) where
     total-lt w d h = sum-lt word (λ p b. unfold word in good .bytes p (at l (L .source p)) b) w d h
 
     -- nibble h of word w of the area, j lookups into the layer
-    cell : ℕ → ℕ → ℕ → ℕ
+    unfoldable pub cell : ℕ → ℕ → ℕ → ℕ
     cell j w h = shown E (dueIn (valuesIn L l) (N .first) j w h)
 
     cell-held : (j w h d : ℕ) → w < j → w < 16 → added (L .width) (j - 16) w h ≡ d → cell j w h ≡ encode (E (number w d h)) (sum word w d h)
@@ -85,7 +85,7 @@ module _ (E : ℕ → List ℕ) (perm : (n : ℕ) → Permutation (E n)) where
     unfolding cell dueIn
     cell-blank j w h a = rw (le-ltb w (min j 16) a)
 
-    pub cells : ℕ → ℕ → ℕ
+    unfoldable pub cells : ℕ → ℕ → ℕ
     cells j q = cell j (q / (2 * L .width)) (q % (2 * L .width))
 
     cells-lt : (j q : ℕ) → cells j q < 16
