@@ -3,9 +3,9 @@
 use mathlib.Core.Bool.{cond}
 use mathlib.Core.List.{List, [], _∷_, _++_, map}
 use Prim.Native.Nat.{ℕ, zero, suc, _+_, _-_, _*_, _/_, _%_}
-use lib.Dec.{eqb, ltb}
+use lib.Dec.{ltb}
 use Rattle.network.specs.Lookups.{Shape}
-use Rattle.network.specs.Numbers.{sumNumber}
+use Rattle.network.specs.Numbers.{Numbers, sumNumber}
 use Rattle.network.specs.Sizes.{lookupsIn, bytesIn, resultsIn, sizeIn, offsetIn}
 use Rattle.network.specs.declared.stage.Place.{Place}
 use Rattle.network.specs.declared.stage.Stage.{Stage}
@@ -111,6 +111,9 @@ standingNumber nr (First r) q = afterRound (r - 1) q
 standingNumber nr (Second r) q = sumNumber 4 (1024 + 448 * (r - 1)) q
 standingNumber nr Exit q = afterRound (nr - 1) q
 standingNumber nr Beyond q = sumNumber 16 (1024 + 448 * (nr - 1)) q
+
+unfoldable pub numbersOf : ℕ → Stage → Numbers
+numbersOf nr s = record { first = firstNumber nr s; standing = standingNumber nr s }
 
 -- The number of lookup k within its layer.
 unfoldable pub indexOf : ℕ → ℕ → ℕ

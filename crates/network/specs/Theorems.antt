@@ -14,8 +14,9 @@ use Rattle.network.specs.Numbers.{Numbers, startNumbers, numbersAfter}
 use Rattle.network.specs.Order.{GoodWidth}
 use Rattle.network.specs.Rule.{Label, none, under, labelOf, labels, firstResult, ruleAt}
 use Rattle.network.specs.Sizes.{sizeOf, offsetOf, lookupsIn, bytesIn, resultsIn, sizeIn, offsetIn}
-use Rattle.network.specs.Stages.{widthOf, shapeAt, shapes, lookups, setBytes, encodings, tableSize, tableOffset, stageOf, indexOf, firstLookup, firstByte, firstNumber}
-use Rattle.network.specs.Tables.{Layer, widthsOf, shapesOf, AllGood, tableAt}
+use Rattle.network.specs.Stages.{stages, widthOf, shapeAt, shapes, lookups, setBytes, encodings, tableSize, tableOffset, stageOf, indexOf, firstByte, numbersOf}
+use Rattle.network.specs.Tables.{Layer, widthsOf, shapesOf, AllGood, tableIn, tableAt}
+use Rattle.network.specs.declared.stage.Stage.{Stage}
 
 -- E gives a permutation for every number.
 abbrev pub Permutations : (ℕ → List ℕ) → Type 0
@@ -108,6 +109,9 @@ pub record ByStage (nr : ℕ) : Type 0 where
   -- Lookup k is lookup `indexOf nr k` of its stage or half.
   pub lookup-is : (reads : ℕ → ℕ) (k : ℕ) → k < lookups nr → (t : List ℕ) (w : Walk)
       → lookupAt (shapes reads nr) k t w ≡ lookupIn (shapeAt reads (stageOf nr k)) (indexOf nr k) t w
+  -- Its table is made there, from the numbers that start the stage or half, in any network with a layer of the right width for each.
+  pub table-is : (E : ℕ → List ℕ) (F : Stage → Layer) → ((s : Stage) → F s .width ≡ widthOf s) → (k : ℕ) → k < lookups nr
+      → tableAt E (map F (stages nr)) startNumbers k ≡ tableIn E (F (stageOf nr k)) (numbersOf nr (stageOf nr k)) (indexOf nr k)
   -- Its table has the size of its kind, and stands behind the first byte of its stage or half.
   pub size-is : (k : ℕ) → k < lookups nr → tableSize nr k ≡ sizeOf (widthOf (stageOf nr k)) (indexOf nr k)
   pub offset-is : (k : ℕ) → k < lookups nr → tableOffset nr k ≡ firstByte nr (stageOf nr k) + offsetOf (widthOf (stageOf nr k)) (indexOf nr k)
