@@ -1,5 +1,4 @@
--- The statements of this crate, for a reader to hold against document 01. Each is a type; the theorems of these types stand in
--- proofs/laws/Proved.antt. Only names of this folder's definitions and of crate bits stand here.
+-- The statements of this crate, for a reader to hold against document 01. Each is a type, and the last record gathers them. Only names of this folder's definitions and of crate bits stand here.
 use mathlib.Core.List.{List, [], _∷_, _++_, map}
 use mathlib.Core.Path.{_≡_}
 use Prim.Native.Nat.{ℕ, suc, _+_, _-_, _*_, _≤_, _<_}
@@ -100,7 +99,7 @@ TableParts =
     × ((k : ℕ) → length (tableAt E Ls N k) ≡ sizeIn ms k)
     × ((k : ℕ) → k < lookupsIn ms → take (sizeIn ms k) (drop (offsetIn ms k) set) ≡ tableAt E Ls N k)
 
--- ---- THE STAGES BY RANGES, for any number nr of rounds but 0
+-- ---- THE STAGES BY RANGES, for any number nr of rounds
 pub record ByStage (nr : ℕ) : Type 0 where
   -- The limits of the ranges, and of the numbers of bytes and encodings.
   pub all-lookups : lookups nr ≡ 992 + 224 * (nr - 1)
@@ -120,5 +119,14 @@ pub record ByStage (nr : ℕ) : Type 0 where
   pub size-none : (k : ℕ) → lookups nr ≤ k → tableSize nr k ≡ 0
   pub offset-none : (k : ℕ) → lookups nr ≤ k → tableOffset nr k ≡ setBytes nr
 
-abbrev pub Ranges : Type 0
-Ranges = (nr : ℕ) → 1 ≤ nr → ByStage nr
+-- ---- All of them, proved in proofs/laws/Proved.antt.
+pub record Network : Type 0 where
+  pub one-lookup : OneLookup
+  pub from-any-layer : FromAnyLayer
+  pub at-the-end : AtTheEnd
+  pub place-by-place : PlaceByPlace
+  pub rule-labels : RuleLabels
+  pub rule-tables : RuleTables
+  pub in-range : InRange
+  pub table-parts : TableParts
+  pub by-stage : (nr : ℕ) → ByStage nr

@@ -188,3 +188,25 @@ found-exit nr =
       bytes-before = entered-bytes (nr - 1);
       numbers-before = entered-numbers (nr - 1);
     }
+
+-- ---- all layers
+abbrev all : ℕ → List ℕ
+all nr = widthsIn (entered (nr - 1)) ++ (16 ∷ [])
+
+widths-all : (nr : ℕ) → map widthOf (stages nr) ≡ all nr
+unfolding stages
+widths-all nr = map-append widthOf (entered (nr - 1)) (Exit ∷ [])
+
+pub all-lookups-of : (nr : ℕ) → lookupsIn (map widthOf (stages nr)) ≡ 992 + 224 * (nr - 1)
+unfolding lookupsIn
+all-lookups-of nr =
+    ap lookupsIn (widths-all nr) ∙ lookups-append (widthsIn (entered (nr - 1))) (16 ∷ []) ∙ omega (arith, entered-lookups (nr - 1), lookups-16)
+
+pub all-bytes-of : (nr : ℕ) → bytesIn (map widthOf (stages nr)) ≡ 253952 + 57344 * (nr - 1)
+unfolding bytesIn
+all-bytes-of nr = ap bytesIn (widths-all nr) ∙ bytes-append (widthsIn (entered (nr - 1))) (16 ∷ []) ∙ omega (arith, entered-bytes (nr - 1), bytes-16)
+
+pub all-results-of : (nr : ℕ) → resultsIn (map widthOf (stages nr)) ≡ 1984 + 448 * (nr - 1)
+unfolding resultsIn
+all-results-of nr =
+    ap resultsIn (widths-all nr) ∙ results-append (widthsIn (entered (nr - 1))) (16 ∷ []) ∙ omega (arith, rounds-results 1 (nr - 1), results-16)
