@@ -6,7 +6,7 @@ use Prim.Native.Nat.{ℕ, zero, suc, _+_, _-_, _*_, _/_, _%_}
 use lib.Dec.{ltb}
 use Rattle.network.specs.Lookups.{Shape}
 use Rattle.network.specs.Numbers.{Numbers, sumNumber}
-use Rattle.network.specs.Sizes.{lookupsIn, bytesIn, resultsIn, sizeIn, offsetIn}
+use Rattle.network.specs.Sizes.{sizeOf, offsetOf, lookupsIn, bytesIn, resultsIn, sizeIn, offsetIn}
 use Rattle.network.specs.declared.stage.Place.{Place}
 use Rattle.network.specs.declared.stage.Stage.{Stage}
 use Rattle.network.specs.declared.stage.Stage.the-variants.{Entry, First, Second, Exit, Beyond}
@@ -122,3 +122,12 @@ indexOf nr k = k - firstLookup nr (stageOf nr k)
 -- What the code answers of lookup k: its stage or half, its number there, and its table's size and offset in the set.
 unfoldable pub placeOf : ℕ → ℕ → Place
 placeOf nr k = record { stage = stageOf nr k; index = indexOf nr k; size = tableSize nr k; offset = tableOffset nr k }
+
+-- Lookup j of a stage or half whose tables begin at `start` and whose words have m bytes.
+unfoldable pub placeFrom : Stage → ℕ → ℕ → ℕ → Place
+placeFrom s m start j = record { stage = s; index = j; size = sizeOf m j; offset = start + offsetOf m j }
+
+-- Lookup j of the two halves of round r.
+unfoldable pub placeInRound : ℕ → ℕ → Place
+placeInRound r j =
+    cond (ltb j 112) (placeFrom (First r) 4 (126976 + 57344 * (r - 1)) j) (placeFrom (Second r) 4 (155648 + 57344 * (r - 1)) (j - 112))
