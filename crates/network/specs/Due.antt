@@ -3,7 +3,7 @@
 -- Definitions only.
 use mathlib.Core.Bool.{cond}
 use mathlib.Core.List.{List, [], _∷_}
-use Prim.Native.Nat.{ℕ, zero, suc, _+_, _-_, _*_, _/_, _%_, min}
+use Prim.Native.Nat.{ℕ, suc, _+_, _-_, _*_, _/_, _%_, min}
 use lib.Dec.{ltb}
 use Rattle.bits.specs.Encodings.{encode, decode}
 use Rattle.bits.specs.Groups.{xorAll}

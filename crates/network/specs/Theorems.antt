@@ -11,7 +11,7 @@ use Rattle.network.specs.Due.{Values, Due, held, blank, valuesOf, leftBy
 use Rattle.network.specs.Lookups.{Walk, zeroArea, lookupIn, lookupAt, walked}
 use Rattle.network.specs.Numbers.{Numbers, startNumbers, numbersAfter}
 use Rattle.network.specs.Order.{GoodWidth}
-use Rattle.network.specs.Rule.{Label, none, under, labelOf, labels, firstResult, ruleAt}
+use Rattle.network.specs.Rule.{under, labelOf, labels, firstResult, ruleAt}
 use Rattle.network.specs.Sizes.{sizeOf, offsetOf, lookupsIn, bytesIn, resultsIn, sizeIn, offsetIn}
 use Rattle.network.specs.Stages.{stages, widthOf, shapeAt, shapes, lookups, setBytes, encodings, tableSize, tableOffset, stageOf, indexOf, firstByte, numbersOf}
 use Rattle.network.specs.Tables.{Layer, widthsOf, shapesOf, AllGood, tableIn, tableAt}

@@ -1,10 +1,10 @@
 -- Laws, not definitions: the starred cases, by computation.
 -- Assumes nothing.
-use mathlib.Core.Path.{_≡_, refl}
+use mathlib.Core.Path.{refl}
 use Rattle.network.specs.Cases.{Starred}
 use Rattle.network.specs.Numbers.{layerResults}
 use Rattle.network.specs.Order.{xors, layerLookups}
-use Rattle.network.specs.Sizes.{layerBytes, lookupsIn, bytesIn, resultsIn, sizeIn, offsetIn}
+use Rattle.network.specs.Sizes.{layerBytes, lookupsIn, bytesIn, resultsIn, offsetIn}
 use Rattle.network.specs.Stages.{rounds, stages, shifted, widths, lookups, setBytes, encodings, tableOffset}
 
 pub starred : Starred

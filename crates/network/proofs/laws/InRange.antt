@@ -4,7 +4,7 @@ use mathlib.Core.List.{List, [], _∷_}
 use mathlib.Core.Path.{_≡_, refl}
 use Prim.Native.Nat.{ℕ, zero, suc, _+_, _-_, _*_, _/_, _%_, _≤_, _<_}
 use native.Mathlib.Decide.{decLt}
-use native.Mathlib.Nat.{mod-lt, mul-le-mul-right, div-lt-iff-lt-mul}
+use native.Mathlib.Nat.{mod-lt, mul-le-mul-right}
 use native.Mathlib.Omega.{arith}
 use borrow.Author.Tests.{lt-ltb, le-ltb}
 use lib.Arith.{digits-lt}
@@ -14,7 +14,7 @@ use Rattle.network.specs.Order.{GoodWidth, xors, layerLookups, nibbleOf,
 use Rattle.network.specs.Sizes.{resultsIn}
 use Rattle.network.specs.Tables.{Layer, Good, AllGood, widthsOf, spreadEntry, spreadTable, xorEntry, xorTable, tableIn, tableAt}
 use Rattle.network.specs.Theorems.{InRange}
-use Rattle.network.proofs.laws.Order.{xor-in, added-lt, added-word-lt, nibble-in}
+use Rattle.network.proofs.laws.Order.{xor-in, added-lt, added-word-lt, nibble-in, word-group, nibble-group, first-word-lt}
 
 -- ---- the numbers of a layer lie between its first and the next layer's
 module _ (m : ℕ) (good : GoodWidth m) (first : ℕ) where
@@ -22,17 +22,14 @@ module _ (m : ℕ) (good : GoodWidth m) (first : ℕ) where
   unfolding encodingNumber layerResults
   number-lt w zero h a b c = omega (arith, mul-le-mul-right (2 * m) a)
   number-lt w (suc d) h a b c =
-      let pos : 0 < m = omega (arith, good) in
-      let g : w / m < 16 / m = div-lt-iff-lt-mul pos .1 (omega (arith, good)) in
-      let e : w / m * (m - 1) + d < 16 / m * (m - 1) = digits-lt g (omega arith) in
+      let e : w / m * (m - 1) + d < 16 / m * (m - 1) = digits-lt (word-group m good w a) (omega arith) in
       let f : (w / m * (m - 1) + d) * (2 * m) + h < 16 / m * (m - 1) * (2 * m) = digits-lt e c in
       unfold xors in omega arith
 
   pub sumNumber-lt : (q : ℕ) → q < 32 → sumNumber m first q < first + layerResults m
   sumNumber-lt q b =
       let pos : 0 < 2 * m = omega (arith, good) in
-      let g : q / (2 * m) < 16 / m = div-lt-iff-lt-mul pos .1 (omega (arith, good)) in
-      number-lt (q / (2 * m) * m) (m - 1) (q % (2 * m)) (omega (arith, good, mul-le-mul-right m g)) (omega (arith, good)) (mod-lt q pos)
+      number-lt (q / (2 * m) * m) (m - 1) (q % (2 * m)) (first-word-lt m good (q / (2 * m)) (nibble-group m good q b)) (omega (arith, good)) (mod-lt q pos)
 
 -- ---- encodings that agree below a limit make the same tables
 module _ (E E′ : ℕ → List ℕ) (limit : ℕ) (same : (n : ℕ) → n < limit → E n ≡ E′ n) where

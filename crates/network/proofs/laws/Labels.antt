@@ -1,11 +1,11 @@
 -- Laws, not definitions: the labels that the rule of the last writer gives, in closed form.
 -- Assumes nothing.
-use mathlib.Core.Bool.{Bool, true, false, cond}
+use mathlib.Core.Bool.{Bool, cond}
 use mathlib.Core.List.{List, [], _∷_}
 use mathlib.Core.Path.{_≡_, refl, sym, ap, ap₂, _∙_, subst}
 use Prim.Native.Nat.{ℕ, zero, suc, _+_, _-_, _*_, _/_, _%_, _≤_, _<_, min}
 use native.Mathlib.Decide.{ℕ-discrete, decLt}
-use native.Mathlib.Nat.{not-suc-le-zero, div-add-mod', mul-le-mul-right, div-lt-iff-lt-mul, mod-lt}
+use native.Mathlib.Nat.{not-suc-le-zero, div-add-mod', mod-lt}
 use native.Mathlib.Omega.{arith}
 use borrow.Author.Tests.{lt-ltb, le-ltb, eq-eqb, ne-eqb}
 use lib.Dec.{eqb, ltb}
@@ -14,7 +14,7 @@ use Rattle.network.specs.Order.{GoodWidth, xors, layerLookups, nibbleOf,
 use Rattle.network.specs.Rule.{Label, none, under, numberIn, Labels, results, firstResult, putArea, put, putAt, labels}
 use Rattle.network.specs.Sizes.{lookupsIn}
 use Rattle.network.specs.Theorems.{GoodWidths}
-use Rattle.network.proofs.laws.Order.{at-div, at-mod, layer-lookups, xor-in, added-start, added-next, added-other, added-all, added-word-lt, nibble-in, sum-div, place-lt}
+use Rattle.network.proofs.laws.Order.{at-div, at-mod, layer-lookups, xor-in, added-start, added-next, added-other, added-all, added-word-lt, nibble-in, sum-div, place-lt, nibble-group, first-word-lt}
 
 -- ---- closed forms: the label of a place of the area, the number of the first nibble of a result, and all labels
 unfoldable pub areaLabel : ℕ → ℕ → ℕ → ℕ → Label
@@ -176,8 +176,8 @@ module _ (m : ℕ) (good : GoodWidth m) (first : ℕ) where
   sum-label : (q : ℕ) → q < 32 → (sumAt q < 512) × (areaLabel m first (layerLookups m) (sumAt q) ≡ under (sumNumber m first q))
   sum-label q b =
       let pos : 0 < 2 * m = omega (arith, good) in
-      let c : q / (2 * m) < 16 / m = div-lt-iff-lt-mul pos .1 (omega (arith, good)) in
-      let w : q / (2 * m) * m < 16 = omega (arith, good, mul-le-mul-right m c) in
+      let c : q / (2 * m) < 16 / m = nibble-group m good q b in
+      let w : q / (2 * m) * m < 16 = first-word-lt m good (q / (2 * m)) c in
       let hl : q % (2 * m) < 2 * m = mod-lt q pos in
       let back : layerLookups m - 16 ≡ xors m = omega (arith, layer-lookups m) in (
         place-lt m good (q / (2 * m) * m) (q % (2 * m)) w hl,

@@ -2,12 +2,12 @@
 -- said of lookup k - lookups of As by the layers behind them.
 -- Assumes nothing.
 use mathlib.Core.List.{List, [], _∷_, _++_, map}
-use mathlib.Core.Path.{_≡_, refl, sym, ap, ap₂, _∙_}
+use mathlib.Core.Path.{_≡_, refl, ap, _∙_}
 use Prim.Native.Nat.{ℕ, _+_, _-_, _≤_, _<_}
 use native.Mathlib.Omega.{arith}
 use borrow.Author.Tests.{lt-ltb, le-ltb}
 use Rattle.network.specs.Lookups.{Walk, Shape, lookupIn, lookupAt}
-use Rattle.network.specs.Numbers.{Numbers, nextNumbers, layerResults, numbersAfter}
+use Rattle.network.specs.Numbers.{Numbers, nextNumbers, numbersAfter}
 use Rattle.network.specs.Order.{layerLookups}
 use Rattle.network.specs.Sizes.{sizeOf, offsetOf, layerBytes, lookupsIn, bytesIn, resultsIn, sizeIn, offsetIn}
 use Rattle.network.specs.Tables.{Layer, widthsOf, tableIn, tableAt}

@@ -1,28 +1,26 @@
 -- Laws, not definitions: the network. Over any good layers and any permutations each lookup takes the closed form to the next, from the
 -- start of any layer on.
 -- Assumes nothing.
-use mathlib.Core.Bool.{Bool, true, false, cond}
-use mathlib.Core.List.{List, [], _∷_, _++_, map, map-map, map-append}
-use mathlib.Core.Path.{_≡_, refl, sym, ap, ap₂, _∙_, subst}
-use Prim.Native.Nat.{ℕ, zero, suc, _+_, _-_, _*_, _≤_, _<_}
+use mathlib.Core.List.{List, [], _∷_, _++_, map-map, map-append}
+use mathlib.Core.Path.{_≡_, refl, sym, ap, ap₂, _∙_}
+use Prim.Native.Nat.{ℕ, zero, suc, _+_, _-_, _≤_, _<_}
 use native.Mathlib.Decide.{decLt}
 use native.Mathlib.Nat.{not-suc-le-zero}
 use native.Mathlib.Omega.{arith}
 use borrow.Author.Tests.{lt-ltb, le-ltb}
-use lib.Dec.{ltb}
 use Rattle.bits.proofs.laws.Encodings.{decode-lt, encode-decode}
 use Rattle.bits.proofs.laws.Nibbles.{nibble-packed, packed-ext, packed-bytes, packed-nibbles, nibble-lt}
 use Rattle.bits.specs.Bytes.{Bytes, Block}
-use Rattle.bits.specs.Encodings.{encode, decode, Permutation}
+use Rattle.bits.specs.Encodings.{encode}
 use Rattle.bits.specs.Lists.{at}
-use Rattle.bits.specs.Nibbles.{nibble, packed}
-use Rattle.network.specs.Due.{summed, valuesIn, valuesOf, leftBy, held, blank, shown, standingDue, areaDue, dueWalk, closed, encoded, decoded}
+use Rattle.bits.specs.Nibbles.{nibble}
+use Rattle.network.specs.Due.{summed, valuesIn, valuesOf, leftBy, standingDue, areaDue, dueWalk, closed, encoded, decoded}
 use Rattle.network.specs.Lookups.{Walk, Shape, zeroArea, lookupIn, lookupAt, lookup, walked}
 use Rattle.network.specs.Numbers.{Numbers, nextNumbers, startNumbers, numbersAfter}
 use Rattle.network.specs.Order.{layerLookups}
 use Rattle.network.specs.Sizes.{lookupsIn}
 use Rattle.network.specs.Tables.{Layer, AllGood, shapeOf, widthsOf, shapesOf, tableIn, tableAt}
-use Rattle.network.specs.Theorems.{Permutations, OneLookup, FromAnyLayer, AtTheEnd}
+use Rattle.network.specs.Theorems.{Permutations, FromAnyLayer, AtTheEnd}
 use Rattle.network.proofs.laws.Layers.{lookup-past, table-past}
 use Rattle.network.proofs.laws.Order.{layer-lookups}
 use Rattle.network.proofs.laws.Steps.{walk, zero-area, cell, cells, layerWalk, layer-step, layer-last, layer-start}

@@ -3,7 +3,7 @@
 use mathlib.Core.Path.{_≡_, refl, sym, ap, ap₂, _∙_, subst}
 use mathlib.Core.Bool.{Bool, true, false, cond}
 use mathlib.Core.Logic.{⊎-elim, _⊎_, inl, inr}
-use Prim.Native.Nat.{ℕ, zero, suc, _+_, _-_, _*_, _/_, _%_, _≤_, _<_, min}
+use Prim.Native.Nat.{ℕ, suc, _+_, _-_, _*_, _/_, _%_, _≤_, _<_, min}
 use native.Mathlib.Nat.{mul-add-div-right, mul-add-mod-self-right, div-eq-of-lt, mod-eq-of-lt, add-zero, div-add-mod', mod-lt, zero-div, zero-mod, mul-le-mul-right, div-lt-iff-lt-mul, le-div-iff-mul-le, mul-le-mul}
 use native.Mathlib.Decide.{ℕ-discrete, decLt}
 use native.Mathlib.Omega.{arith}
@@ -217,17 +217,25 @@ module _ (m : ℕ) (good : GoodWidth m) where
       let f : (sumOf m x + suc (addedOf m x)) % m ≡ suc (addedOf m x) = at-mod m (groupOf m x) (suc (addedOf m x)) (omega (arith, good, added-lt x)) in
       omega arith)
 
+  -- the group of a word or byte, and of a nibble of the sums, and the group's first word
+  pub word-group : (w : ℕ) → w < 16 → w / m < 16 / m
+  word-group w b =
+      let pos : 0 < m = omega (arith, good) in
+      div-lt-iff-lt-mul pos .1 (omega (arith, good))
+
+  pub nibble-group : (q : ℕ) → q < 32 → q / (2 * m) < 16 / m
+  nibble-group q b =
+      let pos : 0 < 2 * m = omega (arith, good) in
+      div-lt-iff-lt-mul pos .1 (omega (arith, good))
+
+  pub first-word-lt : (c : ℕ) → c < 16 / m → c * m < 16
+  first-word-lt c b = omega (arith, good, mul-le-mul-right m b)
+
   -- the words of a sum lie in the layer
   pub added-within : (x w h : ℕ) → w < 16 → w + added m x w h < 16
   unfolding added
   added-within x w h b = go (ℕ-discrete (w % m) 0)
     where
-      pos : 0 < m
-      pos = omega (arith, good)
-
-      cl : w / m < 16 / m
-      cl = div-lt-iff-lt-mul pos .1 (omega (arith, good))
-
       most : added m x w h ≤ m - 1
       most = two (eqb (w % m) 0)
         where
@@ -236,15 +244,8 @@ module _ (m : ℕ) (good : GoodWidth m) where
           two false = omega arith
 
       go : Dec (w % m ≡ 0) → w + added m x w h < 16
-      go (yes e) = omega (arith, good, most, mul-le-mul-right m cl, div-add-mod' w m)
+      go (yes e) = omega (arith, good, most, mul-le-mul-right m (word-group w b), div-add-mod' w m)
       go (no e) = omega (arith, added-not x w h e)
-
-  -- the group of a byte or nibble that stands
-  pub group-of : (n q : ℕ) → 0 < n → q < 16 / m * n → q / n < 16 / m
-  group-of n q pos b = div-lt-iff-lt-mul pos .1 b
-
-  pub first-word-lt : (c : ℕ) → c < 16 / m → c * m < 16
-  first-word-lt c b = omega (arith, good, mul-le-mul-right m b)
 
   pub xors-pos : 0 < xors m
   unfolding xors

@@ -1,15 +1,12 @@
 -- Laws, not definitions: the place of a lookup, by the range that its number is in. One law for each arm of the code's match.
 -- Assumes nothing.
-use mathlib.Core.Bool.{cond}
-use mathlib.Core.Path.{_≡_, refl, sym, ap, ap₂, _∙_, subst}
+use mathlib.Core.Path.{_≡_, sym, ap, ap₂, _∙_}
 use Prim.Native.Nat.{ℕ, _+_, _-_, _*_, _/_, _%_, _≤_, _<_, min}
 use native.Mathlib.Decide.{decLt}
 use native.Mathlib.Nat.{mul-le-mul-right}
 use native.Mathlib.Omega.{arith}
 use borrow.Author.Tests.{lt-ltb, le-ltb}
-use Rattle.network.specs.Sizes.{sizeOf, offsetOf}
-use Rattle.network.specs.Stages.{widthOf, lookups, setBytes, tableSize, tableOffset, stageOf, firstLookup, firstByte, indexOf, placeOf, placeFrom, placeInRound}
-use Rattle.network.specs.declared.stage.Place.{Place}
+use Rattle.network.specs.Stages.{widthOf, lookups, stageOf, firstLookup, firstByte, indexOf, placeOf, placeFrom, placeInRound}
 use Rattle.network.specs.declared.stage.Stage.{Stage}
 use Rattle.network.specs.declared.stage.Stage.the-variants.{Entry, First, Second, Exit, Beyond}
 use Rattle.network.proofs.laws.Ranges.{stage-entry, stage-first, stage-second, stage-exit, stage-beyond, lookups-are, by-stage}

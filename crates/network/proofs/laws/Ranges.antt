@@ -1,6 +1,5 @@
 -- Laws, not definitions: the stage of a lookup by ranges of its number is the layer that the network has there.
 -- Assumes nothing.
-use mathlib.Core.Bool.{cond}
 use mathlib.Core.List.{List, [], _∷_, _++_, map, map-map, map-append}
 use mathlib.Core.Path.{_≡_, refl, sym, ap, ap₂, _∙_, subst, fun-ext}
 use Prim.Native.Nat.{ℕ, zero, suc, _+_, _-_, _*_, _/_, _%_, _≤_, _<_}
@@ -10,14 +9,14 @@ use borrow.Author.Tests.{lt-ltb, le-ltb}
 use Rattle.network.specs.Lookups.{Walk, Shape, lookupIn, lookupAt}
 use Rattle.network.specs.Numbers.{Numbers, startNumbers, numbersAfter}
 use Rattle.network.specs.Order.{layerLookups}
-use Rattle.network.specs.Sizes.{sizeOf, offsetOf, lookupsIn, bytesIn, resultsIn, sizeIn, offsetIn}
+use Rattle.network.specs.Sizes.{sizeOf, offsetOf, lookupsIn, sizeIn, offsetIn}
 use Rattle.network.specs.Stages.{rounds, stages, widthOf, shapeAt, shapes, widths, lookups, setBytes, encodings, tableSize, tableOffset, stageOf, firstLookup, firstByte, numbersOf, indexOf}
 use Rattle.network.specs.Tables.{Layer, Good, AllGood, shapeOf, shapesOf, widthsOf, tableIn, tableAt}
 use Rattle.network.specs.Theorems.{ByStage}
 use Rattle.network.specs.declared.stage.Stage.{Stage}
 use Rattle.network.specs.declared.stage.Stage.the-variants.{Entry, First, Second, Exit, Beyond}
-use Rattle.network.proofs.laws.Layers.{lookup-past, table-past, size-past, offset-past, lookup-first, table-first, size-first, offset-first, lookup-none, size-none, offset-none, lookups-append, bytes-append, results-append}
-use Rattle.network.proofs.laws.Stages.{lookups-16, lookups-4, bytes-16, results-16, Found, found-entry, found-first, found-second, found-exit, all-lookups-of, all-bytes-of, all-results-of}
+use Rattle.network.proofs.laws.Layers.{lookup-past, table-past, size-past, offset-past, lookup-first, table-first, size-first, offset-first, lookup-none, size-none, offset-none}
+use Rattle.network.proofs.laws.Stages.{lookups-16, lookups-4, Found, found-entry, found-first, found-second, found-exit, all-lookups-of, all-bytes-of, all-results-of}
 
 -- ---- the stage by the range
 pub stage-entry : (nr k : ℕ) → k < 496 → stageOf nr k ≡ Entry

@@ -3,19 +3,17 @@
 use mathlib.Core.Bool.{Bool, true, false, cond}
 use mathlib.Core.List.{List, [], _∷_, map}
 use mathlib.Core.Path.{_≡_, refl, sym, ap, ap₂, _∙_}
-use Prim.Native.Nat.{ℕ, zero, suc, _+_, _-_, _*_, _/_, _%_, _≤_, _<_, min}
+use Prim.Native.Nat.{ℕ, suc, _+_, _-_, _*_, _/_, _%_, _≤_, _<_, min}
 use native.Mathlib.Decide.{decLt}
 use native.Mathlib.Nat.{not-suc-le-zero}
 use native.Mathlib.Omega.{arith}
 use borrow.Author.Tests.{lt-ltb, le-ltb}
-use lib.Bits.{bitXor}
 use lib.Dec.{ltb}
-use Rattle.bits.specs.Encodings.{encode, decode}
-use Rattle.bits.specs.Nibbles.{nibble, packed}
-use Rattle.network.specs.Due.{Values, sum, Due, held, blank, dueIn, standingDue, areaDue}
+use Rattle.bits.specs.Nibbles.{nibble}
+use Rattle.network.specs.Due.{Values, Due, held, blank, dueIn, standingDue, areaDue}
 use Rattle.network.specs.Numbers.{Numbers, encodingNumber, nextNumbers, startNumbers}
-use Rattle.network.specs.Order.{GoodWidth, xors, layerLookups, nibbleOf, addedOf, sumOf, place, sumPlace, addedPlace, added}
-use Rattle.network.specs.Rule.{Label, none, under, numberIn, labelOf, Labels, labels, firstResult, ruleIn, ruleAt}
+use Rattle.network.specs.Order.{layerLookups, nibbleOf, addedOf, sumOf, sumPlace, addedPlace}
+use Rattle.network.specs.Rule.{Label, under, labelOf, Labels, labels, ruleIn, ruleAt}
 use Rattle.network.specs.Sizes.{lookupsIn}
 use Rattle.network.specs.Tables.{Layer, Good, AllGood, widthsOf, spreadEntry, spreadTable, xorEntry, xorTable, tableIn, tableAt}
 use Rattle.network.specs.Theorems.{GoodWidths, RuleLabels, RuleTables}

@@ -2,15 +2,15 @@
 -- name.
 -- Assumes nothing.
 use mathlib.Core.List.{List, [], _∷_, _++_, map, map-append, append-assoc}
-use mathlib.Core.Path.{_≡_, refl, sym, ap, ap₂, _∙_, subst, fun-ext}
-use Prim.Native.Nat.{ℕ, zero, suc, _+_, _-_, _*_, _≤_, _<_}
+use mathlib.Core.Path.{_≡_, refl, sym, ap, ap₂, _∙_}
+use Prim.Native.Nat.{ℕ, zero, suc, _+_, _-_, _*_, _<_}
 use native.Mathlib.Omega.{arith}
-use Rattle.network.specs.Numbers.{Numbers, encodingNumber, sumNumber, layerResults, nextNumbers, startNumbers, numbersAfter}
+use Rattle.network.specs.Numbers.{Numbers, sumNumber, layerResults, nextNumbers, startNumbers, numbersAfter}
 use Rattle.network.specs.Order.{GoodWidth, xors, layerLookups}
 use Rattle.network.specs.Sizes.{layerBytes, lookupsIn, bytesIn, resultsIn}
-use Rattle.network.specs.Stages.{rounds, stages, widthOf, afterRound, firstLookup, firstByte, firstNumber, standingNumber, numbersOf}
+use Rattle.network.specs.Stages.{rounds, stages, widthOf, afterRound, firstLookup, firstByte, numbersOf}
 use Rattle.network.specs.declared.stage.Stage.{Stage}
-use Rattle.network.specs.declared.stage.Stage.the-variants.{Entry, First, Second, Exit, Beyond}
+use Rattle.network.specs.declared.stage.Stage.the-variants.{Entry, First, Second, Exit}
 use Rattle.network.proofs.laws.Layers.{lookups-append, bytes-append, results-append, numbers-append, first-after}
 
 -- ---- the two widths

@@ -2,15 +2,15 @@
 -- sums.
 -- Assumes nothing.
 use mathlib.Core.Bool.{Bool, true, false, cond}
-use mathlib.Core.List.{List, [], _∷_}
+use mathlib.Core.List.{List}
 use mathlib.Core.Path.{_≡_, refl, sym, ap, ap₂, _∙_, subst}
-use Prim.Native.Nat.{ℕ, zero, suc, _+_, _-_, _*_, _/_, _%_, _≤_, _<_, min}
+use Prim.Native.Nat.{ℕ, suc, _+_, _-_, _*_, _/_, _%_, _≤_, _<_, min}
 use native.Mathlib.Decide.{decLt}
 use native.Mathlib.Nat.{mod-lt, div-add-mod', mul-le-mul-right, div-lt-iff-lt-mul, le-div-iff-mul-le}
 use native.Mathlib.Omega.{arith}
 use borrow.Author.Tests.{lt-ltb, le-ltb, eq-eqb, ne-eqb}
 use lib.Bits.{bitXor}
-use lib.Dec.{eqb, ltb}
+use lib.Dec.{ltb}
 use lib.ListN.{drop, replicate, length-replicate, getD-replicate}
 use lib.Seq.{ext-getD, paste}
 use Rattle.bits.proofs.laws.Encodings.{decode-encode, encode-lt}
@@ -18,14 +18,14 @@ use Rattle.bits.proofs.laws.Lists.{tabulate-ext}
 use Rattle.bits.proofs.laws.Nibbles.{length-packed, at-packed, nibble-packed, packed-ext, setNibble-packed, paste-packed, nibble-lt, nibble-even, nibble-odd}
 use Rattle.bits.specs.Bytes.{Bytes}
 use Rattle.bits.specs.Encodings.{encode, decode, Permutation}
-use Rattle.bits.specs.Lists.{at, tabulate}
-use Rattle.bits.specs.Nibbles.{pack, nibble, setNibble, packed}
-use Rattle.network.specs.Due.{Values, sum, summed, valuesIn, Due, held, blank, shown, dueIn, encoded}
+use Rattle.bits.specs.Lists.{at}
+use Rattle.bits.specs.Nibbles.{pack, nibble, packed}
+use Rattle.network.specs.Due.{sum, summed, valuesIn, held, blank, shown, dueIn, encoded}
 use Rattle.network.specs.Lookups.{Walk, zeroArea, spreadArea, xorArea, sums, lookupIn}
 use Rattle.network.specs.Numbers.{Numbers, encodingNumber, nextNumbers}
-use Rattle.network.specs.Order.{GoodWidth, xors, layerLookups, nibbleOf, addedOf, sumOf, place, sumPlace, addedPlace, added}
+use Rattle.network.specs.Order.{xors, layerLookups, nibbleOf, addedOf, sumOf, place, sumPlace, addedPlace, added}
 use Rattle.network.specs.Tables.{Layer, Good, shapeOf, spreadEntry, spreadTable, xorEntry, xorTable, tableIn}
-use Rattle.network.proofs.laws.Order.{at-div, at-mod, layer-lookups, xor-in, added-start, added-here, added-next, added-other, added-all, added-to-added, added-word-lt, nibble-in, place-lt, xors-pos}
+use Rattle.network.proofs.laws.Order.{at-div, at-mod, layer-lookups, xor-in, added-start, added-here, added-next, added-other, added-all, added-to-added, added-word-lt, nibble-in, place-lt, word-group, nibble-group, first-word-lt, xors-pos}
 use Rattle.network.proofs.laws.Values.{sum-first, sum-next, sum-lt, nibble-summed}
 
 pub walk : {a b : Walk} → a .count ≡ b .count → a .standing ≡ b .standing → a .area ≡ b .area → a ≡ b
@@ -266,10 +266,10 @@ module _ (E : ℕ → List ℕ) (perm : (n : ℕ) → Permutation (E n)) where
         hl = mod-lt q pos
 
         cl : q / (2 * m) < 16 / m
-        cl = div-lt-iff-lt-mul pos .1 (omega (arith, good .groups))
+        cl = nibble-group m (good .groups) q b
 
         wl : w < 16
-        wl = omega (arith, good .groups, mul-le-mul-right m cl)
+        wl = first-word-lt m (good .groups) (q / (2 * m)) cl
 
     -- byte q of the sums, as two nibbles of the area
     sum-place : (q e : ℕ) → q < 16 → e < 2
@@ -304,8 +304,7 @@ module _ (E : ℕ → List ℕ) (perm : (n : ℕ) → Permutation (E n)) where
         in-area : (q : ℕ) → q < 16 → q / L .width * L .width * L .width + q % L .width < 256
         in-area q b =
             let pos : 0 < L .width = omega (arith, good .groups) in
-            let cl : q / L .width < 16 / L .width = div-lt-iff-lt-mul pos .1 (omega (arith, good .groups)) in
-            let wl : q / L .width * L .width < 16 = omega (arith, good .groups, mul-le-mul-right (L .width) cl) in
+            let wl : q / L .width * L .width < 16 = first-word-lt (L .width) (good .groups) (q / L .width) (word-group (L .width) (good .groups) q b) in
             omega (arith, good .groups, mul-le-mul-right (L .width) wl, mod-lt q pos)
 
     -- ---- the lookups of a layer

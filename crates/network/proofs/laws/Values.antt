@@ -1,12 +1,12 @@
 -- Laws, not definitions: the values of a layer. Sums are nibbles, what a layer leaves has them as its nibbles, and the values due depend
 -- on the words of the 16 positions only.
 -- Assumes nothing.
-use mathlib.Core.Bool.{Bool, true, false, cond}
+use mathlib.Core.Bool.{cond}
 use mathlib.Core.List.{List, [], _∷_}
-use mathlib.Core.Path.{_≡_, refl, sym, ap, ap₂, _∙_, subst}
-use Prim.Native.Nat.{ℕ, zero, suc, _+_, _-_, _*_, _/_, _%_, _≤_, _<_, min}
+use mathlib.Core.Path.{_≡_, refl, sym, ap, ap₂, _∙_}
+use Prim.Native.Nat.{ℕ, zero, suc, _+_, _-_, _*_, _/_, _%_, _<_, min}
 use native.Mathlib.Decide.{decLt}
-use native.Mathlib.Nat.{add-zero, div-add-mod', mod-lt, div-lt-iff-lt-mul, mul-le-mul-right}
+use native.Mathlib.Nat.{add-zero, div-add-mod', mod-lt, mul-le-mul-right}
 use native.Mathlib.Omega.{arith}
 use borrow.Author.Tests.{lt-ltb, le-ltb}
 use lib.Bits.{bitXor, xor-zero-l, xor-shr, xor-mod}
@@ -17,13 +17,12 @@ use Rattle.bits.proofs.laws.Nibbles.{nibble-lt}
 use Rattle.bits.specs.Bytes.{Bytes}
 use Rattle.bits.specs.Groups.{xorAll}
 use Rattle.bits.specs.Lists.{at, tabulate}
-use Rattle.bits.specs.Nibbles.{half, nibble, packed}
+use Rattle.bits.specs.Nibbles.{half, nibble}
 use Rattle.network.specs.Due.{Values, sum, summed, valuesIn, valuesOf, leftBy, Due, held, blank, dueIn, standingDue, areaDue, dueWalk, closed}
-use Rattle.network.specs.Lookups.{Walk}
 use Rattle.network.specs.Numbers.{Numbers, encodingNumber, nextNumbers}
 use Rattle.network.specs.Order.{GoodWidth, layerLookups, added}
-use Rattle.network.specs.Tables.{Layer, Good, AllGood}
-use Rattle.network.proofs.laws.Order.{at-div, at-mod, added-within}
+use Rattle.network.specs.Tables.{Layer, AllGood}
+use Rattle.network.proofs.laws.Order.{at-div, at-mod, added-within, word-group}
 
 -- ---- sums
 pub sum-first : (word : ℕ → List ℕ) (w h : ℕ) → sum word w 0 h ≡ nibble (word w) h
@@ -133,10 +132,7 @@ summed-fits D D′ good e f =
     ∙ ap (λ (m : ℕ). tabulate 16 (λ q. xorAll m (λ i. at (D′ .word (q / m * m + i)) (q % m)))) e
   where
     within : (q : ℕ) → q < 16 → (i : ℕ) → i < D .width → q / D .width * D .width + i < 16
-    within q b i c =
-        let pos : 0 < D .width = omega (arith, good) in
-        let g : q / D .width < 16 / D .width = div-lt-iff-lt-mul pos .1 (omega (arith, good)) in
-        omega (arith, good, mul-le-mul-right (D .width) g)
+    within q b i c = omega (arith, good, mul-le-mul-right (D .width) (word-group (D .width) good q b))
 
 follows-standing : (Ls : List Layer) (Ds : List Values) (l left : List ℕ) → Follows Ls Ds l left → AllGood Ls → (N : Numbers) (k q : ℕ)
     → standingDue (valuesOf Ls l) (leftBy Ls l) N k q ≡ standingDue Ds left N k q
