@@ -10,6 +10,17 @@ use lib.ListN.{length, take, drop, length-append, length-drop}
 use lib.Seq.{take-all, drop-at, drop-append-le, take-append-le}
 use Rattle.bits.specs.Lists.{concat}
 
+-- ---- offsets that add up
+module _ (size offset : ℕ → ℕ) (n : ℕ) (more : (k : ℕ) → k < n → offset (suc k) ≡ offset k + size k) where
+  pub offset-mono : (i k : ℕ) → k < i → i ≤ n → offset k + size k ≤ offset i
+  offset-mono zero k h l = absurd (not-suc-le-zero h)
+  offset-mono (suc i) k h l = go (ℕ-discrete k i) (λ a. offset-mono i k a (omega arith))
+    where
+      go : Dec (k ≡ i) → (k < i → offset k + size k ≤ offset i) → offset k + size k ≤ offset (suc i)
+      go (yes e) ih = subst (λ (j : ℕ). offset j + size j ≤ offset (suc i)) (sym e) (omega (arith, more i l))
+      go (no e) ih = omega (arith, more i l, ih (omega arith))
+
+-- ---- lists of those sizes
 module _ (t : ℕ → List ℕ) (size offset : ℕ → ℕ) (n : ℕ)
     (none : offset 0 ≡ 0)
     (more : (k : ℕ) → k < n → offset (suc k) ≡ offset k + size k)
@@ -19,14 +30,6 @@ module _ (t : ℕ → List ℕ) (size offset : ℕ → ℕ) (n : ℕ)
   concat-length zero h = sym none
   concat-length (suc i) h =
       length-append (concat i t) (t i) ∙ ap₂ (λ (x y : ℕ). x + y) (concat-length i (omega arith)) (long i h) ∙ sym (more i h)
-
-  pub offset-mono : (i k : ℕ) → k < i → i ≤ n → offset k + size k ≤ offset i
-  offset-mono zero k h l = absurd (not-suc-le-zero h)
-  offset-mono (suc i) k h l = go (ℕ-discrete k i) (λ a. offset-mono i k a (omega arith))
-    where
-      go : Dec (k ≡ i) → (k < i → offset k + size k ≤ offset i) → offset k + size k ≤ offset (suc i)
-      go (yes e) ih = subst (λ (j : ℕ). offset j + size j ≤ offset (suc i)) (sym e) (omega (arith, more i l))
-      go (no e) ih = omega (arith, more i l, ih (omega arith))
 
   pub concat-part : (i k : ℕ) → k < i → i ≤ n → take (size k) (drop (offset k) (concat i t)) ≡ t k
   unfolding concat
@@ -39,7 +42,7 @@ module _ (t : ℕ → List ℕ) (size offset : ℕ → ℕ) (n : ℕ)
           (ap (take (size i)) (drop-at (concat i t) (t i) (offset i) (concat-length i (omega arith))) ∙ take-all (size i) (t i) (omega (arith, long i l)))
       go (no e) ih =
           let a : k < i = omega arith in
-          let m : offset k + size k ≤ offset i = offset-mono i k a (omega arith) in
+          let m : offset k + size k ≤ offset i = offset-mono size offset n more i k a (omega arith) in
           let j : length (concat i t) ≡ offset i = concat-length i (omega arith) in
           ap (take (size k)) (drop-append-le (offset k) (concat i t) (t i) (omega arith))
           ∙ take-append-le (size k) (drop (offset k) (concat i t)) (t i) (omega (arith, length-drop (offset k) (concat i t)))

@@ -1,8 +1,8 @@
 -- Laws, not definitions: the stage of a lookup by ranges of its number is the layer that the network has there.
 -- Assumes nothing.
-use mathlib.Core.List.{List, [], _∷_, _++_, map, map-map, map-append}
+use mathlib.Core.List.{List, _∷_, _++_, map, map-map, map-append}
 use mathlib.Core.Path.{_≡_, refl, sym, ap, ap₂, _∙_, subst, fun-ext}
-use Prim.Native.Nat.{ℕ, zero, suc, _+_, _-_, _*_, _/_, _%_, _≤_, _<_}
+use Prim.Native.Nat.{ℕ, suc, _+_, _-_, _*_, _/_, _%_, _≤_, _<_}
 use native.Mathlib.Decide.{decLt}
 use native.Mathlib.Omega.{arith}
 use borrow.Author.Tests.{lt-ltb, le-ltb}
@@ -10,8 +10,8 @@ use Rattle.network.specs.Lookups.{Walk, Shape, lookupIn, lookupAt}
 use Rattle.network.specs.Numbers.{Numbers, startNumbers, numbersAfter}
 use Rattle.network.specs.Order.{layerLookups}
 use Rattle.network.specs.Sizes.{sizeOf, offsetOf, lookupsIn, sizeIn, offsetIn}
-use Rattle.network.specs.Stages.{rounds, stages, widthOf, shapeAt, shapes, widths, lookups, setBytes, encodings, tableSize, tableOffset, stageOf, firstLookup, firstByte, numbersOf, indexOf}
-use Rattle.network.specs.Tables.{Layer, Good, AllGood, shapeOf, shapesOf, widthsOf, tableIn, tableAt}
+use Rattle.network.specs.Stages.{stages, widthOf, shapeAt, shapes, widths, lookups, setBytes, encodings, tableSize, tableOffset, stageOf, firstLookup, firstByte, numbersOf, indexOf}
+use Rattle.network.specs.Tables.{Layer, widthsOf, tableIn, tableAt}
 use Rattle.network.specs.Theorems.{ByStage}
 use Rattle.network.specs.declared.stage.Stage.{Stage}
 use Rattle.network.specs.declared.stage.Stage.the-variants.{Entry, First, Second, Exit, Beyond}
@@ -153,22 +153,3 @@ by-stage nr =
         unfold shapes in
         lookup-none (map (shapeAt reads) (stages nr)) k t w
         (subst (λ (ms : List ℕ). lookupsIn ms ≤ k) (sym (map-map (λ (S : Shape). S .width) (shapeAt reads) (stages nr))) (all k h))
-
--- ---- a network with a layer for each stage
-module _ (F : Stage → Layer) where
-  good-rounds : ((r : ℕ) → Good (F (First r))) → ((r : ℕ) → Good (F (Second r))) → Good (F Exit) → (r n : ℕ) → AllGood (map F (rounds r n ++ (Exit ∷ [])))
-  unfolding rounds
-  good-rounds first second exit r zero = (exit, tt)
-  good-rounds first second exit r (suc n) = (first r, (second r, good-rounds first second exit (suc r) n))
-
-  pub good-stages : (nr : ℕ) → Good (F Entry) → ((r : ℕ) → Good (F (First r))) → ((r : ℕ) → Good (F (Second r))) → Good (F Exit) → AllGood (map F (stages nr))
-  unfolding stages
-  good-stages nr entry first second exit = (entry, good-rounds first second exit 1 (nr - 1))
-
-  pub stage-shapes : (reads : ℕ → ℕ) → ((s : Stage) → shapeOf (F s) ≡ shapeAt reads s) → (nr : ℕ) → shapesOf (map F (stages nr)) ≡ shapes reads nr
-  unfolding shapes
-  stage-shapes reads e nr = map-map shapeOf F (stages nr) ∙ ap (λ (f : Stage → Shape). map f (stages nr)) (fun-ext e)
-
-  pub stage-widths : ((s : Stage) → F s .width ≡ widthOf s) → (nr : ℕ) → widthsOf (map F (stages nr)) ≡ widths nr
-  unfolding widths
-  stage-widths e nr = map-map (λ (L : Layer). L .width) F (stages nr) ∙ ap (λ (f : Stage → ℕ). map f (stages nr)) (fun-ext e)
