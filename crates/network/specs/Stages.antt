@@ -120,14 +120,14 @@ unfoldable pub indexOf : ℕ → ℕ → ℕ
 indexOf nr k = k - firstLookup nr (stageOf nr k)
 
 -- What the code answers of lookup k: its stage or half, its number there, and its table's size and offset in the set.
-unfoldable pub placeOf : ℕ → ℕ → Place
+abbrev pub placeOf : ℕ → ℕ → Place
 placeOf nr k = record { stage = stageOf nr k; index = indexOf nr k; size = tableSize nr k; offset = tableOffset nr k }
 
--- Lookup j of a stage or half whose tables begin at `start` and whose words have m bytes.
+-- What the private functions of the code answer: lookup j of a stage or half whose tables begin at `start` and whose words have m bytes,
+-- and lookup j of round r.
 unfoldable pub placeFrom : Stage → ℕ → ℕ → ℕ → Place
 placeFrom s m start j = record { stage = s; index = j; size = sizeOf m j; offset = start + offsetOf m j }
 
--- Lookup j of the two halves of round r.
 unfoldable pub placeInRound : ℕ → ℕ → Place
 placeInRound r j =
     cond (ltb j 112) (placeFrom (First r) 4 (126976 + 57344 * (r - 1)) j) (placeFrom (Second r) 4 (155648 + 57344 * (r - 1)) (j - 112))

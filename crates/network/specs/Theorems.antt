@@ -1,4 +1,5 @@
--- The statements of this crate, for a reader to hold against document 01. Each is a type, and the last record gathers them. Only names of this folder's definitions and of crate bits stand here.
+-- The statements of this crate, for a reader to hold against document 01. Each is a type, and the last record gathers them. Only names
+-- of this folder's definitions and of crate bits stand here.
 use mathlib.Core.List.{List, [], _∷_, _++_, map}
 use mathlib.Core.Path.{_≡_}
 use Prim.Native.Nat.{ℕ, suc, _+_, _-_, _*_, _≤_, _<_}
@@ -13,7 +14,7 @@ use Rattle.network.specs.Numbers.{Numbers, startNumbers, numbersAfter}
 use Rattle.network.specs.Order.{GoodWidth}
 use Rattle.network.specs.Rule.{under, labelOf, labels, firstResult, ruleAt}
 use Rattle.network.specs.Sizes.{sizeOf, offsetOf, lookupsIn, bytesIn, resultsIn, sizeIn, offsetIn}
-use Rattle.network.specs.Stages.{stages, widthOf, shapeAt, shapes, lookups, setBytes, encodings, tableSize, tableOffset, stageOf, indexOf, firstByte, numbersOf}
+use Rattle.network.specs.Stages.{stages, widthOf, shapeAt, shapes, widths, lookups, setBytes, encodings, tableSize, tableOffset, stageOf, indexOf, firstByte, numbersOf}
 use Rattle.network.specs.Tables.{Layer, widthsOf, shapesOf, AllGood, tableIn, tableAt}
 use Rattle.network.specs.declared.stage.Stage.{Stage}
 
@@ -105,6 +106,8 @@ pub record ByStage (nr : ℕ) : Type 0 where
   pub all-lookups : lookups nr ≡ 992 + 224 * (nr - 1)
   pub all-bytes : setBytes nr ≡ 253952 + 57344 * (nr - 1)
   pub all-encodings : encodings nr ≡ 2016 + 448 * (nr - 1)
+  -- After the last lookup the standing nibbles have the last 32 encodings: "the output matrix, then lists 6,016 to 6,047".
+  pub output-numbers : (q : ℕ) → q < 32 → numbersAfter (widths nr) startNumbers .standing q ≡ encodings nr - 32 + q
   -- Lookup k is lookup `indexOf nr k` of its stage or half.
   pub lookup-is : (reads : ℕ → ℕ) (k : ℕ) → k < lookups nr → (t : List ℕ) (w : Walk)
       → lookupAt (shapes reads nr) k t w ≡ lookupIn (shapeAt reads (stageOf nr k)) (indexOf nr k) t w

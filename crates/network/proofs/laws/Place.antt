@@ -33,7 +33,7 @@ spread-lt m j a b = omega (arith, mul-le-mul-right (256 * m) b)
 
 -- ---- by the stage
 place-at : (nr k : ℕ) (s : Stage) → k < lookups nr → stageOf nr k ≡ s → placeFrom s (widthOf s) (firstByte nr s) (k - firstLookup nr s) ≡ placeOf nr k
-unfolding placeOf placeFrom indexOf
+unfolding placeFrom indexOf
 place-at nr k s h e =
     rw (sym e)
     (ap₂ (λ (x y : ℕ). record { stage = stageOf nr k; index = k - firstLookup nr (stageOf nr k); size = x; offset = y })
@@ -47,7 +47,7 @@ pub in-exit : (k : ℕ) → 2512 ≤ k → k < 3008 → placeFrom Exit 16 643072
 in-exit k lo hi = place-at 10 k Exit (omega (arith, lookups-are 10)) (stage-exit 10 k lo hi)
 
 pub beyond : (k : ℕ) → 3008 ≤ k → record { stage = Beyond; index = k - 3008; size = 0; offset = 770048 } ≡ placeOf 10 k
-unfolding placeOf indexOf
+unfolding indexOf
 beyond k lo =
     rw (stage-beyond 10 k lo)
     (ap₂ (λ (x y : ℕ). record { stage = Beyond; index = k - 3008; size = x; offset = y })

@@ -9,14 +9,14 @@ use borrow.Author.Tests.{lt-ltb, le-ltb}
 use Rattle.network.specs.Lookups.{Walk, Shape, lookupIn, lookupAt}
 use Rattle.network.specs.Numbers.{Numbers, startNumbers, numbersAfter}
 use Rattle.network.specs.Order.{layerLookups}
-use Rattle.network.specs.Sizes.{sizeOf, offsetOf, lookupsIn, sizeIn, offsetIn}
+use Rattle.network.specs.Sizes.{sizeOf, offsetOf, lookupsIn, resultsIn, sizeIn, offsetIn}
 use Rattle.network.specs.Stages.{stages, widthOf, shapeAt, shapes, widths, lookups, setBytes, encodings, tableSize, tableOffset, stageOf, firstLookup, firstByte, numbersOf, indexOf}
 use Rattle.network.specs.Tables.{Layer, widthsOf, tableIn, tableAt}
 use Rattle.network.specs.Theorems.{ByStage}
 use Rattle.network.specs.declared.stage.Stage.{Stage}
 use Rattle.network.specs.declared.stage.Stage.the-variants.{Entry, First, Second, Exit, Beyond}
 use Rattle.network.proofs.laws.Layers.{lookup-past, table-past, size-past, offset-past, lookup-first, table-first, size-first, offset-first, lookup-none, size-none, offset-none}
-use Rattle.network.proofs.laws.Stages.{lookups-16, lookups-4, Found, found-entry, found-first, found-second, found-exit, all-lookups-of, all-bytes-of, all-results-of}
+use Rattle.network.proofs.laws.Stages.{lookups-16, lookups-4, Found, found-entry, found-first, found-second, found-exit, all-lookups-of, all-bytes-of, all-results-of, numbers-end, sums-16}
 
 -- ---- the stage by the range
 pub stage-entry : (nr k : ℕ) → k < 496 → stageOf nr k ≡ Entry
@@ -127,12 +127,13 @@ unfolding lookups widths
 lookups-are nr = all-lookups-of nr
 
 pub by-stage : (nr : ℕ) → ByStage nr
-unfolding indexOf setBytes encodings widths j
+unfolding indexOf setBytes encodings widths numbersOf j
 by-stage nr =
     record {
       all-lookups = lookups-are nr;
       all-bytes = all-bytes-of nr;
       all-encodings = ap (λ (n : ℕ). 32 + n) (all-results-of nr) ∙ omega arith;
+      output-numbers = output;
       lookup-is = λ reads k h t w. lookup-in nr k (stageOf nr k) (at k h) reads t w;
       table-is = λ E F e k h. table-in nr k (stageOf nr k) (at k h) E F e;
       size-is = λ k h. size-in nr k (stageOf nr k) (at k h);
@@ -142,6 +143,12 @@ by-stage nr =
       offset-none = λ k h. unfold tableOffset in offset-none (map widthOf (stages nr)) k (all k h);
     }
   where
+    output : (q : ℕ) → q < 32 → numbersAfter (map widthOf (stages nr)) startNumbers .standing q ≡ 32 + resultsIn (map widthOf (stages nr)) - 32 + q
+    output q b =
+        ap (λ (N : Numbers). N .standing q) (numbers-end nr)
+        ∙ sums-16 (1024 + 448 * (nr - 1)) q b
+        ∙ omega (arith, all-results-of nr)
+
     at : (k : ℕ) → k < lookups nr → In nr k (stageOf nr k)
     at k h = in-stage nr k (omega (arith, lookups-are nr))
 

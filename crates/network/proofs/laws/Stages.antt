@@ -3,14 +3,14 @@
 -- Assumes nothing.
 use mathlib.Core.List.{List, [], _∷_, _++_, map, map-append, append-assoc}
 use mathlib.Core.Path.{_≡_, refl, sym, ap, ap₂, _∙_}
-use Prim.Native.Nat.{ℕ, zero, suc, _+_, _-_, _*_, _<_}
+use Prim.Native.Nat.{ℕ, zero, suc, _+_, _-_, _*_, _/_, _%_, _<_}
 use native.Mathlib.Omega.{arith}
-use Rattle.network.specs.Numbers.{Numbers, sumNumber, layerResults, nextNumbers, startNumbers, numbersAfter}
+use Rattle.network.specs.Numbers.{Numbers, encodingNumber, sumNumber, layerResults, nextNumbers, startNumbers, numbersAfter}
 use Rattle.network.specs.Order.{GoodWidth, xors, layerLookups}
 use Rattle.network.specs.Sizes.{layerBytes, lookupsIn, bytesIn, resultsIn}
 use Rattle.network.specs.Stages.{rounds, stages, widthOf, afterRound, firstLookup, firstByte, numbersOf}
 use Rattle.network.specs.declared.stage.Stage.{Stage}
-use Rattle.network.specs.declared.stage.Stage.the-variants.{Entry, First, Second, Exit}
+use Rattle.network.specs.declared.stage.Stage.the-variants.{Entry, First, Second, Exit, Beyond}
 use Rattle.network.proofs.laws.Layers.{lookups-append, bytes-append, results-append, numbers-append, first-after}
 
 -- ---- the two widths
@@ -210,3 +210,19 @@ pub all-results-of : (nr : ℕ) → resultsIn (map widthOf (stages nr)) ≡ 1984
 unfolding resultsIn
 all-results-of nr =
     ap resultsIn (widths-all nr) ∙ results-append (widthsIn (entered (nr - 1))) (16 ∷ []) ∙ omega (arith, rounds-results 1 (nr - 1), results-16)
+
+-- after all layers the standing nibbles have the last 32 numbers
+pub numbers-end : (nr : ℕ) → numbersAfter (map widthOf (stages nr)) startNumbers ≡ numbersOf nr Beyond
+unfolding numbersOf numbersAfter nextNumbers
+numbers-end nr =
+    ap (λ (ms : List ℕ). numbersAfter ms startNumbers) (widths-all nr)
+    ∙ numbers-append (widthsIn (entered (nr - 1))) (16 ∷ []) startNumbers
+    ∙ ap (numbersAfter (16 ∷ [])) (entered-numbers (nr - 1))
+    ∙ numbers (omega (arith, results-16)) refl
+
+pub sums-16 : (first q : ℕ) → q < 32 → sumNumber 16 first q ≡ first + 960 + q
+unfolding encodingNumber
+sums-16 first q b =
+    let e : q / 32 ≡ 0 = omega arith in
+    let f : q % 32 ≡ q = omega arith in
+    rw (e, f) (omega arith)
