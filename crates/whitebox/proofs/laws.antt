@@ -6,3 +6,4 @@ pub mod Set
 pub mod InRange
 pub mod Bundles
 pub mod Demands
+pub mod Cases

@@ -11,3 +11,4 @@ pub mod InRange
 pub mod Bundles
 pub mod Demand2
 pub mod Demand3
+pub mod Cases
