@@ -159,6 +159,15 @@ follows-area (L ∷ Ls) (D ∷ Ds) l left f g N k q =
     ∙ ap (λ (m : ℕ).
     cond (ltb k (layerLookups m)) (dueIn D (N .first) k (q / (2 * m)) (q % (2 * m))) (areaDue Ds (nextNumbers m N) (k - layerLookups m) q)) (f .0 .width)
 
+-- What layers leave, where they follow values.
+pub follows-left : (Ls : List Layer) (Ds : List Values) (l left : List ℕ) → Follows Ls Ds l left → AllGood Ls → leftBy Ls l ≡ left
+unfolding leftBy
+follows-left [] [] l left f g = f
+follows-left [] (D ∷ Ds) l left f g = absurd f
+follows-left (L ∷ Ls) [] l left f g = absurd f
+follows-left (L ∷ Ls) (D ∷ Ds) l left f g =
+    ap (leftBy Ls) (summed-fits (valuesIn L l) D (g .0 .groups) (f .0 .width) (f .0 .words)) ∙ follows-left Ls Ds (summed D) left (f .1) (g .1)
+
 -- The closed form of layers that follow values is the state in which each place holds what these make due.
 pub closed-follows : (E : ℕ → List ℕ) (Ls : List Layer) (Ds : List Values) (l left : List ℕ) → Follows Ls Ds l left → AllGood Ls
     → (N : Numbers) (from k : ℕ) → closed E Ls N l from k ≡ dueWalk E Ds left N from k

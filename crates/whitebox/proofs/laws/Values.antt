@@ -16,7 +16,9 @@ use Rattle.external.specs.Coding.{multiply}
 use Rattle.network.specs.Due.{Values, summed, closed}
 use Rattle.network.specs.Numbers.{startNumbers}
 use Rattle.network.specs.Stages.{stages, rounds}
-use Rattle.network.specs.Tables.{Layer, Good, AllGood}
+use Rattle.network.specs.Tables.{Layer, AllGood}
+use Rattle.network.proofs.laws.Instance.{good-stages}
+use Rattle.network.proofs.laws.Stages.{good-16, good-4}
 use Rattle.network.specs.declared.stage.Stage.{Stage}
 use Rattle.network.specs.declared.stage.Stage.the-variants.{Entry, First, Second, Exit, Beyond}
 use Rattle.network.proofs.laws.Values.{Fits, Follows, closed-follows}
@@ -31,42 +33,30 @@ use Rattle.whitebox.proofs.laws.Words.{substituted-is, entry-next, firs
 
 -- ---- the layers are good
 module _ (P : Parts) (fine : Fine P) (C : Codings) (nr : ℕ) where
-  pub entry-bytes : (p x : ℕ) → Bytes (entryWord P C p x)
+  entry-bytes : (p x : ℕ) → Bytes (entryWord P C p x)
   unfolding entryWord
   entry-bytes p x = tabulate-below 256 16 _ (lit< tt) (λ j h. product-lt 8 (at (byteMatrixAt C 1 j)) _)
 
-  pub mixed-word-bytes : (r p y : ℕ) → Bytes (mixedWord P C r p y)
+  mixed-word-bytes : (r p y : ℕ) → Bytes (mixedWord P C r p y)
   unfolding mixedWord
   mixed-word-bytes r p y = bytesOf-bytes 4 _
 
-  pub second-bytes : (r p x : ℕ) → Bytes (secondWord P C r p x)
+  second-bytes : (r p x : ℕ) → Bytes (secondWord P C r p x)
   unfolding secondWord
   second-bytes r p x = tabulate-below 256 4 _ (lit< tt) (λ t h. product-lt 8 (at (byteMatrixAt C (suc r) _)) _)
 
-  pub placed-word-bytes : (p y : ℕ) → Bytes (placedWord P C p y)
+  placed-word-bytes : (p y : ℕ) → Bytes (placedWord P C p y)
   unfolding placedWord
   placed-word-bytes p y = bytesOf-bytes 16 _
 
-  wide : Rattle.network.specs.Order.GoodWidth 16
-  wide = record { wide = omega arith; most = omega arith; whole = refl }
-
-  narrow : Rattle.network.specs.Order.GoodWidth 4
-  narrow = record { wide = omega arith; most = omega arith; whole = refl }
-
-  exit-good : Good (layerOf P C nr Exit)
-  exit-good = record { groups = wide; reads = fine .reads-lt; bytes = λ p x. placed-word-bytes p _ }
-
-  rounds-good : (r n : ℕ) → AllGood (map (layerOf P C nr) (rounds r n ++ (Exit ∷ [])))
-  unfolding rounds
-  rounds-good r zero = (exit-good, tt)
-  rounds-good r (suc n) = (
-    record { groups = narrow; reads = fine .reads-lt; bytes = λ p x. mixed-word-bytes r p _ },
-    (record { groups = narrow; reads = λ p h. h; bytes = second-bytes r }, rounds-good (suc r) n),
-  )
-
   pub layers-good : AllGood (layers P C nr)
-  unfolding layers stages
-  layers-good = (record { groups = wide; reads = λ p h. h; bytes = entry-bytes }, rounds-good 1 (nr - 1))
+  unfolding layers
+  layers-good =
+      good-stages (layerOf P C nr) nr
+      (record { groups = good-16; reads = λ p h. h; bytes = entry-bytes })
+      (λ r. record { groups = good-4; reads = fine .reads-lt; bytes = λ p x. mixed-word-bytes r p _ })
+      (λ r. record { groups = good-4; reads = λ p h. h; bytes = second-bytes r })
+      (record { groups = good-16; reads = fine .reads-lt; bytes = λ p x. placed-word-bytes p _ })
 
 -- ---- the layers follow the values due
 module _ (P : Parts) (fine : Fine P) (C : Codings) (sound : Sound C) (nr : ℕ) (b : List ℕ) (block : Block b) where
