@@ -1,0 +1,231 @@
+-- Laws, not definitions: the test for a repeated image, one turn of its loop, and that it is exact; nibbles and images as the code
+-- reads them.
+-- Assumes nothing.
+use mathlib.Core.Bool.{Bool, true, false, _||_, or-false, or-assoc}
+use mathlib.Core.List.{List}
+use mathlib.Core.Path.{_≡_, refl, sym, ap, ap₂, _∙_, subst}
+use Prim.Native.Nat.{ℕ, zero, suc, _+_, _-_, _*_, _/_, _%_, _≤_, _<_}
+use native.Mathlib.Decide.{ℕ-discrete, decLt}
+use native.Mathlib.Nat.{zero-add, add-zero}
+use native.Mathlib.Numerals.{add-one}
+use native.Mathlib.Omega.{arith}
+use lib.Bits.{bitXor}
+use lib.Dec.{eqb}
+use lib.ListN.{length, drop, drop-of-length-le}
+use lib.Seq.{getD-take, getD-drop, drop-cons}
+use borrow.Author.Tests.{eq-eqb, ne-eqb, eqb-false}
+use Rattle.bits.specs.Bytes.{Bytes}
+use Rattle.bits.specs.Encodings.{imagesOf, decode, Permutation}
+use Rattle.bits.specs.Lists.{at}
+use Rattle.bits.specs.Nibbles.{half, nibble}
+use Rattle.bits.specs.Vectors.{bit, unit}
+use Rattle.bits.proofs.laws.Lists.{length-tabulate, at-tabulate, at-past}
+use Rattle.bits.proofs.laws.Nibbles.{nibble-lt}
+use Rattle.bits.proofs.laws.Vectors.{bit-lt, bit-xor, bit-zero, bit-unit-same, bit-unit-other}
+use Rattle.bundle.specs.Format.{partOf}
+use Rattle.bundle.specs.Judge.{among, repeats, noPermutation}
+use Rattle.bundle.proofs.laws.Tests.{or-left, or-right, neither}
+
+-- ---- the numbers seen so far, as the bits of a number: bit y says whether y is among the first i
+abbrev pub Seen : ℕ → (ℕ → ℕ) → ℕ → Type 0
+Seen s f i = (y : ℕ) → y < 16 → eqb (bit 16 y s) 1 ≡ among i 0 f y
+
+pub seen-none : (f : ℕ → ℕ) → Seen 0 f 0
+unfolding among
+seen-none f y h = rw (bit-zero 16 y)
+
+among-next : (k j : ℕ) (f : ℕ → ℕ) (x : ℕ) → among (suc k) j f x ≡ (among k j f x || eqb (f (j + k)) x)
+unfolding among
+among-next zero j f x = rw (add-zero j) (or-false (eqb (f j) x))
+among-next (suc k) j f x =
+    let e : suc j + k ≡ j + suc k = omega arith in
+    ap (λ (b : Bool). eqb (f j) x || b) (among-next k (suc j) f x ∙ rw e)
+    ∙ sym (or-assoc (eqb (f j) x) (among k (suc j) f x) (eqb (f (j + suc k)) x))
+
+module _ (s : ℕ) (f : ℕ → ℕ) (i : ℕ) (h : f i < 16) (new : among i 0 f (f i) ≡ false) (S : Seen s f i) where
+  next : (y : ℕ) → among (i + 1) 0 f y ≡ (among i 0 f y || eqb (f i) y)
+  next y = ap (λ (k : ℕ). among k 0 f y) (add-one i) ∙ among-next i 0 f y ∙ rw (zero-add i)
+
+  here : (y : ℕ) → y ≡ f i → eqb (bit 16 y (bitXor s (unit 16 (f i)))) 1 ≡ among (i + 1) 0 f y
+  here y e =
+      let z : bit 16 (f i) s ≡ 0 = omega (arith, bit-lt 16 (f i) s, eqb-false (bit 16 (f i) s) 1 (S (f i) h ∙ new)) in
+      let b : bit 16 (f i) (bitXor s (unit 16 (f i))) ≡ 1 =
+      bit-xor 16 (f i) s (unit 16 (f i)) ∙ ap₂ (λ (p q : ℕ). (p + q) % 2) z (bit-unit-same 16 (f i)) in
+      rw (next y, e, b, new, eq-eqb (f i) (f i) refl)
+
+  there : (y : ℕ) → y < 16 → (y ≡ f i → ⊥) → eqb (bit 16 y (bitXor s (unit 16 (f i)))) 1 ≡ among (i + 1) 0 f y
+  there y k e =
+      let b : bit 16 y (bitXor s (unit 16 (f i))) ≡ bit 16 y s =
+      bit-xor 16 y s (unit 16 (f i)) ∙ ap (λ (q : ℕ). (bit 16 y s + q) % 2) (bit-unit-other 16 (f i) y h k (λ q. e (sym q)))
+      ∙ omega (arith, bit-lt 16 y s) in
+      rw (next y, b, S y k, ne-eqb (f i) y (λ q. e (sym q))) (sym (or-false (among i 0 f y)))
+
+  seen-more : Seen (bitXor s (unit 16 (f i))) f (i + 1)
+  seen-more y k = elim (ℕ-discrete y (f i)) [
+    | yes e ↦ here y e
+    | no e ↦ there y k e
+  ]
+
+-- As the code has them: x is the number at place i.
+module _ (s : ℕ) (f : ℕ → ℕ) (i x : ℕ) (e : x ≡ f i) (h : x < 16) (S : Seen s f i) where
+  pub seen-told : (r : Bool) → r ≡ eqb (bit 16 x s) 1 → among i 0 f (f i) ≡ r
+  seen-told r q = ap (among i 0 f) (sym e) ∙ sym (S x h) ∙ sym q
+
+  pub seen-turned : among i 0 f (f i) ≡ false → (s′ : ℕ) → s′ ≡ bitXor s (unit 16 x) → Seen s′ f (i + 1)
+  seen-turned new s′ q =
+      subst (λ (z : ℕ). Seen z f (i + 1)) (sym (q ∙ ap (λ (z : ℕ). bitXor s (unit 16 z)) e)) (seen-more s f i (subst (λ (z : ℕ). z < 16) e h) new S)
+
+-- ---- one turn of the loop over the images
+module _ (m i : ℕ) (f : ℕ → ℕ) (h : i < m) where
+  pub repeats-no : among i 0 f (f i) ≡ false → repeats (m - i) i f ≡ repeats (m - (i + 1)) (i + 1) f
+  unfolding repeats
+  repeats-no e = let k : m - i ≡ suc (m - (i + 1)) = omega arith in rw (k, e, add-one i)
+
+  pub repeats-yes : among i 0 f (f i) ≡ true → repeats (m - i) i f ≡ true
+  unfolding repeats
+  repeats-yes e = let k : m - i ≡ suc (m - (i + 1)) = omega arith in rw (k, e)
+
+pub repeats-end : (m i : ℕ) (f : ℕ → ℕ) → m ≤ i → repeats (m - i) i f ≡ false
+unfolding repeats
+repeats-end m i f h = let k : m - i ≡ 0 = omega arith in rw k
+
+-- ---- only the numbers that are compared count
+among-same : (k j : ℕ) (f g : ℕ → ℕ) (x y : ℕ) → x ≡ y → ((m : ℕ) → m < j + k → f m ≡ g m) → among k j f x ≡ among k j g y
+unfolding among
+among-same zero j f g x y e s = refl
+among-same (suc k) j f g x y e s =
+    ap₂ _||_ (ap₂ eqb (s j (omega arith)) e) (among-same k (suc j) f g x y e (λ m h. s m (omega arith)))
+
+repeats-same : (k i : ℕ) (f g : ℕ → ℕ) → ((m : ℕ) → m < i + k → f m ≡ g m) → repeats k i f ≡ repeats k i g
+unfolding repeats
+repeats-same zero i f g s = refl
+repeats-same (suc k) i f g s =
+    ap₂ _||_ (among-same i 0 f g (f i) (g i) (s i (omega arith)) (λ m h. s m (omega arith))) (repeats-same k (suc i) f g (λ m h. s m (omega arith)))
+
+-- ---- no repetition is that the numbers differ
+among-none : (k j : ℕ) (f : ℕ → ℕ) (x : ℕ) → ((m : ℕ) → j ≤ m → m < j + k → f m ≡ x → ⊥) → among k j f x ≡ false
+unfolding among
+among-none zero j f x h = refl
+among-none (suc k) j f x h =
+    neither (eqb (f j) x) (among k (suc j) f x) (ne-eqb (f j) x (h j (omega arith) (omega arith)))
+    (among-none k (suc j) f x (λ m a b. h m (omega arith) (omega arith)))
+
+none-among : (k j : ℕ) (f : ℕ → ℕ) (x : ℕ) → among k j f x ≡ false → (m : ℕ) → j ≤ m → m < j + k → f m ≡ x → ⊥
+unfolding among
+none-among zero j f x e m a b = absurd (omega arith)
+none-among (suc k) j f x e m a b = elim (ℕ-discrete j m) [
+  | yes q ↦ subst (λ (z : ℕ). f z ≡ x → ⊥) q (eqb-false (f j) x (or-left (eqb (f j) x) (among k (suc j) f x) e))
+  | no q ↦ none-among k (suc j) f x (or-right (eqb (f j) x) (among k (suc j) f x) e) m (omega arith) (omega arith)
+]
+
+repeats-none : (k i : ℕ) (f : ℕ → ℕ) → ((u v : ℕ) → u < v → i ≤ v → v < i + k → f u ≡ f v → ⊥) → repeats k i f ≡ false
+unfolding repeats
+repeats-none zero i f h = refl
+repeats-none (suc k) i f h =
+    neither (among i 0 f (f i)) (repeats k (suc i) f) (among-none i 0 f (f i) (λ m a b. h m i (omega arith) (omega arith) (omega arith)))
+    (repeats-none k (suc i) f (λ u v a b c. h u v a (omega arith) (omega arith)))
+
+none-repeats : (k i : ℕ) (f : ℕ → ℕ) → repeats k i f ≡ false → (u v : ℕ) → u < v → i ≤ v → v < i + k → f u ≡ f v → ⊥
+unfolding repeats
+none-repeats zero i f e u v a b c = absurd (omega arith)
+none-repeats (suc k) i f e u v a b c = elim (ℕ-discrete i v) [
+  | yes q ↦ subst (λ (z : ℕ). f u ≡ f z → ⊥) q (none-among i 0 f (f i) (or-left (among i 0 f (f i)) (repeats k (suc i) f) e) u (omega arith) (omega arith))
+  | no q ↦ none-repeats k (suc i) f (or-right (among i 0 f (f i)) (repeats k (suc i) f) e) u v a (omega arith) (omega arith)
+]
+
+-- ---- nibbles, as the code reads them
+pub nibble-past : (s : List ℕ) (q : ℕ) → length s ≤ q / 2 → nibble s q ≡ 0
+unfolding nibble
+nibble-past s q h = rw (at-past s (q / 2) h) (half-zero (q % 2))
+  where
+    half-zero : (r : ℕ) → half r 0 ≡ 0
+    half-zero zero = refl
+    half-zero (suc r) = refl
+
+pub nibble-high : (s : List ℕ) (q : ℕ) → q % 2 ≡ 0 → nibble s q ≡ at s (q / 2) / 16
+unfolding nibble
+nibble-high s q e = rw e
+
+pub nibble-low : (s : List ℕ) (q : ℕ) → (q % 2 ≡ 0 → ⊥) → nibble s q ≡ at s (q / 2) % 16
+unfolding nibble
+nibble-low s q e = let o : q % 2 ≡ 1 = omega arith in rw o
+
+-- ---- images
+pub image-at : (p : List ℕ) (i : ℕ) → i < 16 → at (imagesOf p) i ≡ nibble p i
+unfolding imagesOf
+image-at p i h = at-tabulate 16 (nibble p) i h
+
+pub images-long : (p : List ℕ) → length (imagesOf p) ≡ 16
+unfolding imagesOf
+images-long p = length-tabulate 16 (nibble p)
+
+-- Image i of list n, in the section s that holds the lists; and that list n is no permutation.
+abbrev pub imageIn : List ℕ → ℕ → ℕ → ℕ
+imageIn s n i = nibble s (n * 16 + i)
+
+abbrev pub badIn : List ℕ → ℕ → Bool
+badIn s n = noPermutation (partOf 8 s n)
+
+nibble-part : (s : List ℕ) (n i : ℕ) → i < 16 → nibble (partOf 8 s n) i ≡ imageIn s n i
+unfolding nibble partOf
+nibble-part s n i h =
+    let a : (n * 16 + i) / 2 ≡ n * 8 + i / 2 = omega arith in
+    let b : (n * 16 + i) % 2 ≡ i % 2 = omega arith in
+    rw (a, b, getD-take 8 (drop (n * 8) s) (i / 2) 0 (omega arith), getD-drop (n * 8) s (i / 2) 0)
+
+pub in-section : (s : List ℕ) (n : ℕ) → badIn s n ≡ repeats (16 - 0) 0 (imageIn s n)
+unfolding noPermutation
+in-section s n =
+    repeats-same 16 0 (at (imagesOf (partOf 8 s n))) (imageIn s n) (λ i h. image-at (partOf 8 s n) i (omega arith) ∙ nibble-part s n i (omega arith))
+
+-- ---- the test is exact
+pub good-permutation : (p : List ℕ) → Bytes p → noPermutation p ≡ false → Permutation (imagesOf p)
+unfolding noPermutation
+good-permutation p bytes e = record {
+  long = images-long p;
+  below = λ v h. rw (image-at p v h) (nibble-lt p bytes v);
+  apart = λ u v hu hv q.
+      let f = at (imagesOf p) in
+      let d : (u v : ℕ) → u < v → v < 16 → f u ≡ f v → ⊥ = λ u v a b. none-repeats 16 0 f e u v a (omega arith) (omega arith) in
+      elim (decLt u v) [
+        | yes a ↦ absurd (d u v a hv q)
+        | no a ↦ elim (decLt v u) [
+          | yes b ↦ absurd (d v u b hu (sym q))
+          | no b ↦ omega arith
+        ]
+      ];
+}
+
+pub permutation-good : (p : List ℕ) → Permutation (imagesOf p) → noPermutation p ≡ false
+unfolding noPermutation
+permutation-good p P = repeats-none 16 0 (at (imagesOf p)) (λ u v a b c q.
+    let e : u ≡ v = P .apart u v (omega arith) (omega arith) q in omega arith)
+
+-- ---- the search for an image: those before place i are passed
+unfoldable pub Passed : List ℕ → ℕ → ℕ → Type 0
+Passed l y i = decode l y ≡ i + decode (drop i l) y
+
+module _ (l : List ℕ) (y : ℕ) where
+  pub passed-none : Passed l y 0
+  unfolding Passed
+  passed-none = sym (zero-add (decode l y))
+
+  module _ (i : ℕ) (h : i < length l) where
+    pub passed-more : (at l i ≡ y → ⊥) → Passed l y i → Passed l y (i + 1)
+    unfolding Passed decode
+    passed-more ne p =
+        let q : decode (drop i l) y ≡ suc (decode (drop (suc i) l) y) = ap (λ (x : List ℕ). decode x y) (drop-cons l i 0 h) ∙ rw (ne-eqb (at l i) y ne) in
+        let r : decode (drop (i + 1) l) y ≡ decode (drop (suc i) l) y = ap (λ (k : ℕ). decode (drop k l) y) (add-one i) in
+        omega (arith, p, q, r)
+
+    pub passed-here : at l i ≡ y → Passed l y i → i ≡ decode l y
+    unfolding Passed decode
+    passed-here e p =
+        let q : decode (drop i l) y ≡ 0 = ap (λ (x : List ℕ). decode x y) (drop-cons l i 0 h) ∙ rw (eq-eqb (at l i) y e) in
+        omega (arith, p, q)
+
+  pub passed-all : (i n : ℕ) → length l ≡ n → i ≡ n → Passed l y i → n ≡ decode l y
+  unfolding Passed decode
+  passed-all i n e k p =
+      let q : decode (drop i l) y ≡ 0 = ap (λ (x : List ℕ). decode x y) (drop-of-length-le l {i = i} (omega arith)) in
+      omega (arith, p, q)

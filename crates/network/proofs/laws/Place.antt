@@ -1,0 +1,87 @@
+-- Laws, not definitions: the place of a lookup, by the range that its number is in. One law for each arm of the code's match.
+-- Assumes nothing.
+use mathlib.Core.Path.{_≡_, sym, ap, ap₂, _∙_}
+use Prim.Native.Nat.{ℕ, _+_, _-_, _*_, _/_, _%_, _≤_, _<_, min}
+use native.Mathlib.Decide.{decLt}
+use native.Mathlib.Nat.{mul-le-mul-right}
+use native.Mathlib.Omega.{arith}
+use borrow.Author.Tests.{lt-ltb, le-ltb}
+use Rattle.network.specs.Stages.{widthOf, lookups, stageOf, firstLookup, firstByte, indexOf, placeOf, placeFrom, placeInRound}
+use Rattle.network.specs.declared.stage.Stage.{Stage}
+use Rattle.network.specs.declared.stage.Stage.the-variants.{Entry, First, Second, Exit, Beyond}
+use Rattle.network.proofs.laws.Ranges.{stage-entry, stage-first, stage-second, stage-exit, stage-beyond, lookups-are, by-stage}
+
+-- ---- inside a layer: a spread table, and an XOR table
+pub spread-place : (s : Stage) (m start j : ℕ) → j < 16 → record { stage = s; index = j; size = 256 * m; offset = start + j * (256 * m) } ≡ placeFrom s m start j
+unfolding placeFrom
+spread-place s m start j h =
+    let e : min j 16 ≡ j = omega arith in
+    let f : start + j * (256 * m) ≡ start + (j * (256 * m) + (j - 16) * 128) = omega arith in
+    rw (lt-ltb j 16 h, e, f)
+
+pub xor-place : (s : Stage) (m start j : ℕ) → 16 ≤ j
+    → record { stage = s; index = j; size = 128; offset = start + 16 * (256 * m) + (j - 16) * 128 } ≡ placeFrom s m start j
+unfolding placeFrom
+xor-place s m start j h =
+    let e : min j 16 ≡ 16 = omega arith in
+    let f : start + 16 * (256 * m) + (j - 16) * 128 ≡ start + (16 * (256 * m) + (j - 16) * 128) = omega arith in
+    rw (le-ltb j 16 h, e, f)
+
+-- a spread table's offset is small
+pub spread-lt : (m j : ℕ) → m ≤ 16 → j < 16 → j * (256 * m) < 65536
+spread-lt m j a b = omega (arith, mul-le-mul-right (256 * m) b)
+
+-- ---- by the stage
+place-at : (nr k : ℕ) (s : Stage) → k < lookups nr → stageOf nr k ≡ s → placeFrom s (widthOf s) (firstByte nr s) (k - firstLookup nr s) ≡ placeOf nr k
+unfolding placeFrom indexOf
+place-at nr k s h e =
+    rw (sym e)
+    (ap₂ (λ (x y : ℕ). record { stage = stageOf nr k; index = k - firstLookup nr (stageOf nr k); size = x; offset = y })
+    (sym (by-stage nr .size-is k h)) (sym (by-stage nr .offset-is k h)))
+
+pub in-entry : (k : ℕ) → k < 496 → placeFrom Entry 16 0 k ≡ placeOf 10 k
+in-entry k h =
+    ap (placeFrom Entry 16 0) (let e : k ≡ k - 0 = omega arith in e) ∙ place-at 10 k Entry (omega (arith, lookups-are 10)) (stage-entry 10 k h)
+
+pub in-exit : (k : ℕ) → 2512 ≤ k → k < 3008 → placeFrom Exit 16 643072 (k - 2512) ≡ placeOf 10 k
+in-exit k lo hi = place-at 10 k Exit (omega (arith, lookups-are 10)) (stage-exit 10 k lo hi)
+
+pub beyond : (k : ℕ) → 3008 ≤ k → record { stage = Beyond; index = k - 3008; size = 0; offset = 770048 } ≡ placeOf 10 k
+unfolding indexOf
+beyond k lo =
+    rw (stage-beyond 10 k lo)
+    (ap₂ (λ (x y : ℕ). record { stage = Beyond; index = k - 3008; size = x; offset = y })
+    (sym (by-stage 10 .size-none k (omega (arith, lookups-are 10))))
+    (sym (by-stage 10 .offset-none k (omega (arith, lookups-are 10)) ∙ by-stage 10 .all-bytes)))
+
+pub in-rounds : (k : ℕ) → 496 ≤ k → k < 2512 → placeInRound ((k - 496) / 224 + 1) ((k - 496) % 224) ≡ placeOf 10 k
+unfolding placeInRound
+in-rounds k lo hi = go (decLt j 112)
+  where
+    j : ℕ
+    j = (k - 496) % 224
+
+    r : ℕ
+    r = (k - 496) / 224 + 1
+
+    less : k < lookups 10
+    less = omega (arith, lookups-are 10)
+
+    go : Dec (j < 112) → placeInRound r j ≡ placeOf 10 k
+    go (yes h) =
+        rw (lt-ltb j 112 h)
+        (ap (placeFrom (First r) 4 (126976 + 57344 * (r - 1))) (let e : j ≡ k - (496 + 224 * (r - 1)) = omega arith in e)
+        ∙ place-at 10 k (First r) less (stage-first 10 k lo hi h))
+    go (no h) =
+        rw (le-ltb j 112 (omega arith))
+        (ap (placeFrom (Second r) 4 (155648 + 57344 * (r - 1))) (let e : j - 112 ≡ k - (608 + 224 * (r - 1)) = omega arith in e)
+        ∙ place-at 10 k (Second r) less (stage-second 10 k lo hi (omega arith)))
+
+-- ---- the two arms inside a round
+pub first-half : (r j : ℕ) → j < 112 → placeFrom (First r) 4 (126976 + 57344 * (r - 1)) j ≡ placeInRound r j
+unfolding placeInRound
+first-half r j h = rw (lt-ltb j 112 h)
+
+pub second-half : (r j : ℕ) → 112 ≤ j → placeFrom (Second r) 4 (155648 + 57344 * (r - 1)) (j - 112) ≡ placeInRound r j
+unfolding placeInRound
+second-half r j h = rw (le-ltb j 112 h)

@@ -1,0 +1,44 @@
+-- `network::stage::in_round` meets its contract. Assumes nothing.
+use mathlib.Core.Path.{_∙_}
+use Rattle.network.proofs.laws.Place.{first-half, second-half}
+use native.Mathlib.Omega.{arith}
+use borrow.Author.Needs.{needs}
+use Rattle.network.proofs.stage.in_round.Statement.{statement}
+use Rattle.network.proofs.stage.in_round.Tie as tie
+
+sub-before : tie.Need-sub-before
+sub-before c = search needs
+
+mul-before : tie.Need-mul-before
+mul-before c = search needs
+
+add-placed : tie.Need-add-placed
+add-placed c = search needs
+
+placed-requires : tie.Need-placed-requires
+placed-requires c κs = search needs
+
+add-placed-2 : tie.Need-add-placed-2
+add-placed-2 c = search needs
+
+placed-requires-2 : tie.Need-placed-requires-2
+placed-requires-2 c κs = search needs
+
+returns : tie.Need-returns
+returns c = c .placed .ensures ∙ first-half _ _ (omega arith)
+
+returns-2 : tie.Need-returns-2
+returns-2 c = c .placed2 .ensures ∙ second-half _ _ (omega arith)
+
+pub in-round-spec : {M : Type 1} → statement M
+in-round-spec =
+    tie.close
+    (tie.spec
+    sub-before
+    mul-before
+    add-placed
+    placed-requires
+    add-placed-2
+    placed-requires-2
+    returns
+    returns-2)

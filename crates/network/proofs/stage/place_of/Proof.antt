@@ -1,0 +1,44 @@
+-- `network::stage::place_of` meets its contract. Assumes nothing.
+use mathlib.Core.Path.{_∙_}
+use Rattle.network.proofs.laws.Place.{in-entry, in-rounds, in-exit, beyond}
+use native.Mathlib.Omega.{arith}
+use borrow.Author.Needs.{needs}
+use Rattle.network.proofs.stage.place_of.Statement.{statement}
+use Rattle.network.proofs.stage.place_of.Tie as tie
+
+placed-requires : tie.Need-placed-requires
+placed-requires c κs = search needs
+
+add-in-round : tie.Need-add-in-round
+add-in-round c = search needs
+
+in-round-requires : tie.Need-in-round-requires
+in-round-requires c κs = search needs
+
+placed-requires-2 : tie.Need-placed-requires-2
+placed-requires-2 c κs = search needs
+
+returns : tie.Need-returns
+returns c = c .placed .ensures ∙ in-entry _ (omega arith)
+
+returns-2 : tie.Need-returns-2
+returns-2 c = c .in-round .ensures ∙ in-rounds _ (omega arith) (omega arith)
+
+returns-3 : tie.Need-returns-3
+returns-3 c = c .placed2 .ensures ∙ in-exit _ (omega arith) (omega arith)
+
+returns-4 : tie.Need-returns-4
+returns-4 c = beyond _ (omega arith)
+
+pub place-of-spec : {M : Type 1} → statement M
+place-of-spec =
+    tie.close
+    (tie.spec
+    placed-requires
+    add-in-round
+    in-round-requires
+    placed-requires-2
+    returns
+    returns-2
+    returns-3
+    returns-4)

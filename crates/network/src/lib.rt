@@ -1,0 +1,2 @@
+// The lookup network: the stage, the table size and the offset of a lookup. The definitions are those of specs/.
+pub mod stage;

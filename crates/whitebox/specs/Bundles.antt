@@ -1,0 +1,46 @@
+-- The codings that a bundle's bytes give, and what is made from a key and a bundle. Keys have nk words, and the number of rounds is that
+-- of the key (4 words: ten rounds). Definitions only.
+use mathlib.Core.Bool.{cond}
+use mathlib.Core.List.{List}
+use Prim.Native.Nat.{ℕ}
+use lib.Dec.{ltb}
+use Rattle.aes.specs.Key.{KeyExpansion, roundsOf}
+use Rattle.bits.specs.Lists.{tabulate}
+use Rattle.bits.specs.Matrices.{identity}
+use Rattle.bundle.specs.Format.{encodings, byteMatrices, columnMatrices, encodingOf, byteMatrix, columnMatrix, inputMatrix, outputMatrix}
+use Rattle.network.specs.Lookups.{Walk}
+use Rattle.whitebox.specs.Codings.{Codings}
+use Rattle.whitebox.specs.Parts.{Parts, forward}
+use Rattle.whitebox.specs.Tables.{tableOf, setOf}
+use Rattle.whitebox.specs.Values.{walkDue}
+
+-- The encoding that changes nothing.
+unfoldable pub plainEncoding : List ℕ
+plainEncoding = tabulate 16 (λ v. v)
+
+-- The bundle's encodings and matrices by number. Behind the last number stand some that change nothing; no table uses them (InRange.antt).
+unfoldable pub codingsOf : ℕ → List ℕ → Codings
+codingsOf nr l =
+    record {
+      encoding = λ n. cond (ltb n (encodings nr)) (encodingOf nr l n) plainEncoding;
+      byteMatrix = λ n. cond (ltb n (byteMatrices nr)) (byteMatrix nr l n) (identity 8);
+      columnMatrix = λ n. cond (ltb n (columnMatrices nr)) (columnMatrix nr l n) (identity 32);
+      inputMatrix = inputMatrix nr l;
+      outputMatrix = outputMatrix nr l;
+    }
+
+-- The cipher's parts under a key.
+abbrev pub partsOf : ℕ → List ℕ → Parts
+partsOf nk key = forward (roundsOf nk) (KeyExpansion nk key)
+
+module _ (nk : ℕ) (key l : List ℕ) where
+  -- "A made set is the bytes that the rules here give for a key and an accepted bundle"; and table k of it.
+  unfoldable pub madeSet : List ℕ
+  madeSet = setOf (partsOf nk key) (codingsOf (roundsOf nk) l) (roundsOf nk)
+
+  unfoldable pub madeTable : ℕ → List ℕ
+  madeTable k = tableOf (partsOf nk key) (codingsOf (roundsOf nk) l) (roundsOf nk) k
+
+  -- The walk in which each place holds what is due at count k, for the uncoded presented block b.
+  unfoldable pub dueAt : List ℕ → ℕ → Walk
+  dueAt b k = walkDue (partsOf nk key) (codingsOf (roundsOf nk) l) (roundsOf nk) b k

@@ -1,0 +1,82 @@
+-- DEMAND 3, for a reader to hold against the mission and document 01, "Lists of calls"; proved in proofs/laws/Demands.antt. ONE claim about a
+-- list of calls of any length, from the walk that an accepted start hands back.
+use mathlib.Core.List.{List, map}
+use mathlib.Core.Path.{_≡_}
+use Prim.Native.Nat.{ℕ, _*_, _≤_, _<_}
+use lib.ListN.{length}
+use Rattle.aes.specs.Cipher.{encipherOf}
+use Rattle.aes.specs.Key.{roundsOf}
+use Rattle.bits.specs.Bytes.{Bytes}
+use Rattle.bits.specs.Nibbles.{nibble}
+use Rattle.bundle.specs.Judge.{judge}
+use Rattle.bundle.specs.declared.answer.Judgement.the-variants.{Accepted}
+use Rattle.external.specs.Coding.{decodeInput, encodeOutput, SameOuter}
+use Rattle.network.specs.Rule.{labelOf, under, labels}
+use Rattle.network.specs.Stages.{shifted, widths, lookups}
+use Rattle.network.specs.Theorems.{Reads}
+use Rattle.whitebox.specs.Bundles.{codingsOf, partsOf, madeSet, madeTable, dueAt}
+use Rattle.whitebox.specs.Calls.{accepted, judgeStart, started, Call, toStop, reply, handed, serve, lastWalk}
+use Rattle.whitebox.specs.PlainCount.{argsOf, plainCount, Lent, dueServed, Alike, seen}
+use Rattle.whitebox.specs.Values.{dueStanding, dueArea}
+
+-- A key of nk words and an accepted bundle, both bytes.
+pub record Given (nk : ℕ) (key l : List ℕ) : Type 0 where
+  pub long : length key ≡ 4 * nk
+  pub key-bytes : Bytes key
+  pub bundle-bytes : Bytes l
+  pub judged : judge (roundsOf nk) l ≡ Accepted
+
+-- A presented block that the start accepts.
+pub record Presented (x : List ℕ) : Type 0 where
+  pub bytes : Bytes x
+  pub started : judgeStart (length x) ≡ accepted
+
+-- ---- a list of calls
+pub record Answered (nk : ℕ) (key l x : List ℕ) (cs : List Call) (n : ℕ) : Type 0 where
+  -- Call by call: the reply is the plain count's; the walk handed back or left is the one due at the plain count; an accepted fetch leaves
+  -- the cipher block under the output coding, a refused one the bytes that the lent block held.
+  pub calls :
+      serve shifted (roundsOf nk) (started x) cs
+      ≡ dueServed (roundsOf nk) (dueAt nk key l (decodeInput (roundsOf nk) l x)) (encodeOutput (roundsOf nk) l (encipherOf nk key (decodeInput (roundsOf nk) l x))) 0 cs
+  -- At the end: the walk due at the plain count n, which is, byte for byte, what one move straight to that count hands back.
+  pub last : lastWalk shifted (roundsOf nk) (started x) cs ≡ dueAt nk key l (decodeInput (roundsOf nk) l x) n
+  pub straight-reply : reply shifted (roundsOf nk) (toStop (madeSet nk key l) n) (started x) ≡ accepted
+  pub straight : handed shifted (roundsOf nk) (toStop (madeSet nk key l) n) (started x) ≡ lastWalk shifted (roundsOf nk) (started x) cs
+
+abbrev pub ListOfCalls : ℕ → Type 0
+ListOfCalls nk =
+    (key l x : List ℕ) → Given nk key l → Presented x → (cs : List Call) → Lent (roundsOf nk) (madeTable nk key l) (madeSet nk key l) 0 cs
+    → Answered nk key l x cs (plainCount (roundsOf nk) 0 (map argsOf cs))
+
+-- ---- what is due at each place of the walk, at every count
+-- Each coded nibble held, its encoding taken off, is the value due; a place with no encoding is zero. And the encoding of each place is "that
+-- of the last look-up numbered below the count whose result these rules put there".
+pub record Places (nk : ℕ) (key l b : List ℕ) (k : ℕ) : Type 0 where
+  pub standing : (q : ℕ) → q < 32
+      → Reads (codingsOf (roundsOf nk) l .encoding) (nibble (dueAt nk key l b k .standing) q) (dueStanding (partsOf nk key) (codingsOf (roundsOf nk) l) (roundsOf nk) b k q)
+  pub area : (q : ℕ) → q < 512
+      → Reads (codingsOf (roundsOf nk) l .encoding) (nibble (dueAt nk key l b k .area) q) (dueArea (partsOf nk key) (codingsOf (roundsOf nk) l) (roundsOf nk) b k q)
+  pub standing-label : (q : ℕ) → q < 32
+      → labelOf (dueStanding (partsOf nk key) (codingsOf (roundsOf nk) l) (roundsOf nk) b k q) ≡ under (labels (widths (roundsOf nk)) k .standing q)
+  pub area-label : (q : ℕ) → q < 512
+      → labelOf (dueArea (partsOf nk key) (codingsOf (roundsOf nk) l) (roundsOf nk) b k q) ≡ labels (widths (roundsOf nk)) k .area q
+
+abbrev pub EveryPlace : ℕ → Type 0
+EveryPlace nk =
+    (key l x : List ℕ) → Given nk key l → Presented x → (k : ℕ) → k ≤ lookups (roundsOf nk) → Places nk key l (decodeInput (roundsOf nk) l x) k
+
+-- ---- two sets of one key with the same outer codings answer alike
+abbrev pub TwoSets : ℕ → Type 0
+TwoSets nk =
+    (key l l′ x : List ℕ) → Given nk key l → Given nk key l′ → SameOuter (roundsOf nk) l l′ → Presented x → (cs cs′ : List Call) → Alike cs cs′
+    → Lent (roundsOf nk) (madeTable nk key l) (madeSet nk key l) 0 cs → Lent (roundsOf nk) (madeTable nk key l′) (madeSet nk key l′) 0 cs′
+    → map seen (serve shifted (roundsOf nk) (started x) cs) ≡ map seen (serve shifted (roundsOf nk) (started x) cs′)
+
+pub record Demand3For (nk : ℕ) : Type 0 where
+  pub calls : ListOfCalls nk
+  pub places : EveryPlace nk
+  pub two : TwoSets nk
+
+-- AES-128: a key of 16 bytes, ten rounds.
+abbrev pub Demand3 : Type 0
+Demand3 = Demand3For 4

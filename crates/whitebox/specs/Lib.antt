@@ -1,0 +1,14 @@
+pub mod Codings
+pub mod Parts
+pub mod Words
+pub mod Tables
+pub mod States
+pub mod Values
+pub mod Ciphers
+pub mod Calls
+pub mod PlainCount
+pub mod InRange
+pub mod Bundles
+pub mod Demand2
+pub mod Demand3
+pub mod Cases
