@@ -1,0 +1,125 @@
+-- Laws, not definitions: causes 2 and 3, and what the sections are where neither applies.
+-- Assumes nothing.
+use mathlib.Core.Bool.{Bool, true, false, not, _||_}
+use mathlib.Core.List.{List, []}
+use mathlib.Core.Path.{_≡_, refl, sym, ap, ap₂, _∙_, subst}
+use Prim.Native.Nat.{ℕ, zero, suc, _+_, _-_, _*_, _≤_, _<_}
+use native.Mathlib.Omega.{arith}
+use lib.Dec.{eqb, ltb}
+use lib.ListN.{length, take, drop, length-take, length-drop}
+use borrow.Author.Tests.{not-false, eqb-true, ltb-false, eq-eqb, le-ltb}
+use Rattle.bundle.specs.Format.{encodings, byteMatrices, columnMatrices, partCount, partSize, sectionLength, shortest, longest, offset, stated, endBefore, PairRight, pairBad, lengthBad, frame, sectionOf}
+use Rattle.bundle.specs.Judgements.{Sizes, InRange, Framed, Apart}
+use Rattle.bundle.specs.Refusals.{unless, unlessAt}
+use Rattle.bundle.specs.Search.{first}
+use Rattle.bundle.specs.declared.answer.Found.{Found}
+use Rattle.bundle.specs.declared.answer.Found.the-variants.{At, Nothing}
+use Rattle.bundle.specs.declared.answer.Judgement.{Judgement}
+use Rattle.bundle.specs.declared.answer.Judgement.the-variants.{Accepted, Refused}
+use Rattle.bundle.specs.declared.answer.Refusal.{Refusal}
+use Rattle.bundle.specs.declared.answer.Refusal.the-variants.{Length, Pair}
+use Rattle.bundle.proofs.laws.Search.{none-all, all-none}
+use Rattle.bundle.proofs.laws.Tests.{or-left, or-right, neither, by-unless, by-unlessAt}
+
+pub sizes : Sizes
+unfolding encodings byteMatrices columnMatrices partCount partSize sectionLength shortest longest
+sizes = record {
+  lists = refl;
+  bytes = refl;
+  columns = refl;
+  section-0 = refl;
+  section-1 = refl;
+  section-2 = refl;
+  section-3 = refl;
+  section-4 = refl;
+  low = refl;
+  high = refl;
+}
+
+-- ---- the tests are exact
+module _ (nr : ℕ) (l : List ℕ) (i : ℕ) where
+  pub pair-good : pairBad nr l i ≡ false → PairRight nr l i
+  unfolding pairBad
+  pair-good e =
+      let a = not (eqb (stated l i) (sectionLength nr i)) in
+      let b = ltb (offset l i) (endBefore l i) in
+      let c = ltb (length l) (offset l i + stated l i) in
+      record {
+        long = eqb-true (stated l i) (sectionLength nr i) (not-false (eqb (stated l i) (sectionLength nr i)) (or-left a (b || c) e));
+        behind = ltb-false (offset l i) (endBefore l i) (or-left b c (or-right a (b || c) e));
+        within = ltb-false (length l) (offset l i + stated l i) (or-right b c (or-right a (b || c) e));
+      }
+
+  pub right-good : PairRight nr l i → pairBad nr l i ≡ false
+  unfolding pairBad
+  right-good R =
+      let b = ltb (offset l i) (endBefore l i) in
+      let c = ltb (length l) (offset l i + stated l i) in
+      neither (not (eqb (stated l i) (sectionLength nr i))) (b || c) (ap not (eq-eqb (stated l i) (sectionLength nr i) (R .long)))
+      (neither b c (le-ltb (offset l i) (endBefore l i) (R .behind)) (le-ltb (length l) (offset l i + stated l i) (R .within)))
+
+module _ (nr : ℕ) (l : List ℕ) where
+  pub length-good : lengthBad nr l ≡ false → InRange nr l
+  unfolding lengthBad
+  length-good e =
+      let a = ltb (length l) (shortest nr) in
+      let b = ltb (longest nr) (length l) in
+      record { low = ltb-false (length l) (shortest nr) (or-left a b e); high = ltb-false (longest nr) (length l) (or-right a b e) }
+
+  pub range-good : InRange nr l → lengthBad nr l ≡ false
+  unfolding lengthBad
+  range-good R =
+      neither (ltb (length l) (shortest nr)) (ltb (longest nr) (length l)) (le-ltb (length l) (shortest nr) (R .low)) (le-ltb (longest nr) (length l) (R .high))
+
+  pub pairs-all : first 5 (pairBad nr l) ≡ Nothing → (i : ℕ) → i < 5 → PairRight nr l i
+  pairs-all = none-all 5 (pairBad nr l) (PairRight nr l) (pair-good nr l) (right-good nr l)
+
+  pub pairs-none : ((i : ℕ) → i < 5 → PairRight nr l i) → first 5 (pairBad nr l) ≡ Nothing
+  pairs-none = all-none 5 (pairBad nr l) (PairRight nr l) (pair-good nr l) (right-good nr l)
+
+  -- ---- the frame
+  abbrev FramedIf : Judgement → Type 0
+  FramedIf j = j ≡ Accepted → Framed nr l
+
+  pub framed : frame nr l ≡ Accepted → Framed nr l
+  unfolding frame
+  framed =
+      by-unless FramedIf (lengthBad nr l) Length (unlessAt (first 5 (pairBad nr l)) Pair Accepted)
+      (λ e r. let y : _≡_ {A = ℕ} 0 1 = cc in absurd (omega arith))
+      (λ e₂. by-unlessAt FramedIf (first 5 (pairBad nr l)) Pair Accepted
+      (λ n e r. let y : _≡_ {A = ℕ} 0 1 = cc in absurd (omega arith))
+      (λ e₃ r. record { range = length-good e₂; pairs = pairs-all e₃ }))
+
+  pub frame-accepted : Framed nr l → frame nr l ≡ Accepted
+  unfolding frame
+  frame-accepted F =
+      ap₂ (λ (b : Bool) (f : Found). unless b Length (unlessAt f Pair Accepted)) (range-good (F .range)) (pairs-none (F .pairs))
+
+  -- ---- sections
+  pub section-is : frame nr l ≡ Accepted → (s : ℕ) → sectionOf nr l s ≡ take (sectionLength nr s) (drop (offset l s) l)
+  unfolding sectionOf
+  section-is e s = rw e
+
+  pub section-none : (r : Refusal) → frame nr l ≡ Refused r → (s : ℕ) → sectionOf nr l s ≡ []
+  unfolding sectionOf
+  section-none r e s = rw e
+
+  pub section-fits : frame nr l ≡ Accepted → (s : ℕ) → s < 5 → offset l s + sectionLength nr s ≤ length l
+  section-fits e s h = let R = framed e .pairs s h in omega (arith, R .long, R .within)
+
+  pub section-length : frame nr l ≡ Accepted → (s : ℕ) → s < 5 → length (sectionOf nr l s) ≡ sectionLength nr s
+  section-length e s h = ap length (section-is e s) ∙ simp (length-take, length-drop) (omega (arith, section-fits e s h))
+
+-- Each section starts behind the pairs and behind all sections before it.
+pub apart : Apart
+unfolding endBefore
+apart nr l F zero h = (F .pairs zero h .behind, λ j k. absurd (omega arith))
+apart nr l F (suc i) h =
+    let P = F .pairs i (omega arith) in
+    let Q = F .pairs (suc i) h .behind in
+    let E : offset l i + sectionLength nr i ≤ offset l (suc i) = omega (arith, P .long, Q) in
+    let A = apart nr l F i (omega arith) in
+    (omega (arith, A .0, E), λ j k. elim (native.Mathlib.Decide.ℕ-discrete j i) [
+      | yes e ↦ rw e E
+      | no e ↦ omega (arith, A .1 j (omega arith), E)
+    ])

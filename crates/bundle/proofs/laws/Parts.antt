@@ -1,0 +1,110 @@
+-- Laws, not definitions: the parts of the sections by number: where they lie, where they are empty, and that they are bytes.
+-- Assumes nothing.
+use mathlib.Core.List.{List, []}
+use mathlib.Core.Path.{_≡_, refl, sym, ap, _∙_, subst}
+use Prim.Native.Nat.{ℕ, zero, suc, _+_, _-_, _*_, _/_, _≤_, _<_}
+use native.Mathlib.Decide.{decLt}
+use native.Mathlib.Nat.{mul-le-mul-right, suc-mul}
+use native.Mathlib.Omega.{arith}
+use lib.ListN.{length, take, drop, length-take, length-drop, drop-of-length-le}
+use lib.Seq.{take-nil, drop-nil, drop-drop, ext-getD, getD-take, getD-drop}
+use Rattle.bits.specs.Bytes.{Bytes}
+use Rattle.bits.specs.Lists.{at}
+use Rattle.bits.proofs.laws.Lists.{at-past}
+use Rattle.bundle.specs.Format.{partCount, partSize, sectionLength, offset, frame, whenAccepted, sectionOf, partOf, partAt}
+use Rattle.bundle.specs.declared.answer.Judgement.{Judgement}
+use Rattle.bundle.specs.declared.answer.Judgement.the-variants.{Accepted, Refused}
+use Rattle.bundle.specs.declared.answer.Refusal.{Refusal}
+use Rattle.bundle.proofs.laws.Frame.{section-is, section-none, section-fits, section-length}
+
+-- ---- lists in general: a part of bytes is bytes, and a part of a part is a part
+pub take-bytes : (n : ℕ) (l : List ℕ) → Bytes l → Bytes (take n l)
+take-bytes n l h i = elim (decLt i n) [
+  | yes q ↦ rw (getD-take n l i 0 q) (h i)
+  | no q ↦ rw (at-past (take n l) i (omega (arith, length-take n l))) (omega arith)
+]
+
+pub drop-bytes : (n : ℕ) (l : List ℕ) → Bytes l → Bytes (drop n l)
+drop-bytes n l h i = rw (getD-drop n l i 0) (h (n + i))
+
+pub take-inside : (size a m : ℕ) (l : List ℕ) → a + size ≤ m → m ≤ length l → take size (drop a (take m l)) ≡ take size (drop a l)
+take-inside size a m l h k =
+    ext-getD 0 (take size (drop a (take m l))) (take size (drop a l))
+    (simp (length-take, length-drop) (omega arith))
+    (λ i b.
+    let q : i < size = omega (arith, length-take size (drop a (take m l))) in
+    getD-take size (drop a (take m l)) i 0 q ∙ getD-drop a (take m l) i 0 ∙ getD-take m l (a + i) 0 (omega arith)
+    ∙ sym (getD-take size (drop a l) i 0 q ∙ getD-drop a l i 0))
+
+-- n parts of one size, and one more
+pub parts-within : (size n count x : ℕ) → n < count → count * size ≤ x → n * size + size ≤ x
+parts-within size n count x h e =
+    let m : suc n * size ≤ count * size = mul-le-mul-right size h in
+    let q : suc n * size ≡ n * size + size = suc-mul n size in
+    omega arith
+
+-- ---- parts of one size
+module _ (size : ℕ) (s : List ℕ) (n : ℕ) where
+  pub part-none : length s ≤ n * size → partOf size s n ≡ []
+  unfolding partOf
+  part-none h = ap (take size) (drop-of-length-le s {i = n * size} h) ∙ take-nil size
+
+  pub part-length : n * size + size ≤ length s → length (partOf size s n) ≡ size
+  unfolding partOf
+  part-length h = simp (length-take, length-drop) (omega arith)
+
+  pub part-bytes : Bytes s → Bytes (partOf size s n)
+  unfolding partOf
+  part-bytes h = take-bytes size (drop (n * size) s) (drop-bytes (n * size) s h)
+
+  -- as the code cuts it
+  pub part-cut : take ((n * size + size) - n * size) (drop (n * size) s) ≡ partOf size s n
+  unfolding partOf
+  part-cut = let e : (n * size + size) - n * size ≡ size = omega arith in rw e
+
+-- ---- parts of a bundle
+when-bytes : (j : Judgement) (l : List ℕ) → Bytes l → Bytes (whenAccepted j l)
+when-bytes Accepted l h i = h i
+when-bytes (Refused r) l h i = omega arith
+
+pub section-bytes : (nr : ℕ) (l : List ℕ) (s : ℕ) → Bytes l → Bytes (sectionOf nr l s)
+unfolding sectionOf
+section-bytes nr l s h =
+    when-bytes (frame nr l) (take (sectionLength nr s) (drop (offset l s) l))
+    (take-bytes (sectionLength nr s) (drop (offset l s) l) (drop-bytes (offset l s) l h))
+
+pub at-bytes : (nr : ℕ) (l : List ℕ) (s n : ℕ) → Bytes l → Bytes (partAt nr l s n)
+unfolding partAt
+at-bytes nr l s n h = part-bytes (partSize s) (sectionOf nr l s) n (section-bytes nr l s h)
+
+module _ (nr : ℕ) (l : List ℕ) (s n : ℕ) where
+  pub part-refused : (r : Refusal) → frame nr l ≡ Refused r → partAt nr l s n ≡ []
+  unfolding partAt partOf
+  part-refused r f = rw (section-none nr l r f s, drop-nil, take-nil)
+
+  module _ (h : s < 5) where
+    behind-by : (j : Judgement) → frame nr l ≡ j → partCount nr s ≤ n → partAt nr l s n ≡ []
+    unfolding partAt sectionLength
+    behind-by Accepted f b =
+        part-none (partSize s) (sectionOf nr l s) n
+        (let m : partCount nr s * partSize s ≤ n * partSize s = mul-le-mul-right (partSize s) b in omega (arith, section-length nr l f s h))
+    behind-by (Refused r) f b = part-refused r f
+
+    pub part-behind : partCount nr s ≤ n → partAt nr l s n ≡ []
+    part-behind = behind-by (frame nr l) refl
+
+    module _ (f : frame nr l ≡ Accepted) (b : n < partCount nr s) where
+      pub part-room : n * partSize s + partSize s ≤ sectionLength nr s
+      unfolding sectionLength
+      part-room = parts-within (partSize s) n (partCount nr s) (partCount nr s * partSize s) b (omega arith)
+
+      pub part-here : partAt nr l s n ≡ take (partSize s) (drop (offset l s + n * partSize s) l)
+      unfolding partAt partOf
+      part-here =
+          ap (λ (x : List ℕ). take (partSize s) (drop (n * partSize s) x)) (section-is nr l f s)
+          ∙ take-inside (partSize s) (n * partSize s) (sectionLength nr s) (drop (offset l s) l) part-room (omega (arith, section-fits nr l f s h, length-drop (offset l s) l))
+          ∙ ap (take (partSize s)) (drop-drop (n * partSize s) (offset l s) l)
+
+      pub part-long : length (partAt nr l s n) ≡ partSize s
+      unfolding partAt
+      part-long = part-length (partSize s) (sectionOf nr l s) n (omega (arith, part-room, section-length nr l f s h))

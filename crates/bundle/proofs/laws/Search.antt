@@ -1,0 +1,89 @@
+-- Laws, not definitions: what the search for the first number finds, and one turn of a loop that searches.
+-- Assumes nothing.
+use mathlib.Core.Bool.{Bool, true, false}
+use mathlib.Core.Path.{_≡_, refl, sym, ap, _∙_, subst}
+use Prim.Native.Nat.{ℕ, zero, suc, _+_, _-_, _≤_, _<_}
+use native.Mathlib.Decide.{ℕ-discrete, decLt}
+use native.Mathlib.Numerals.{add-one}
+use native.Mathlib.Omega.{arith}
+use Rattle.bundle.specs.Judgements.{All, FirstBad}
+use Rattle.bundle.specs.Search.{pick, firstFrom, first}
+use Rattle.bundle.specs.declared.answer.Found.{Found}
+use Rattle.bundle.specs.declared.answer.Found.the-variants.{At, Nothing}
+use Rattle.bundle.proofs.laws.Tests.{clash, not-false-true}
+
+-- ---- what an answer says, from n on
+abbrev Answer : ℕ → ℕ → (ℕ → Bool) → Found → Type 0
+Answer k n p (At m) = (n ≤ m) × (m < n + k) × (p m ≡ true) × ((i : ℕ) → n ≤ i → i < m → p i ≡ false)
+Answer k n p Nothing = (i : ℕ) → n ≤ i → i < n + k → p i ≡ false
+
+here-or : (p : ℕ → Bool) (n i : ℕ) → p n ≡ false → n ≤ i → (n < i → p i ≡ false) → p i ≡ false
+here-or p n i e h r = elim (ℕ-discrete n i) [
+  | yes q ↦ subst (λ (x : ℕ). p x ≡ false) q e
+  | no q ↦ r (omega arith)
+]
+
+step : (k n : ℕ) (p : ℕ → Bool) (r : Found) (b : Bool) → p n ≡ b → Answer k (suc n) p r → Answer (suc k) n p (pick b (At n) r)
+step k n p r true e A = (omega arith, omega arith, e, λ i h j. absurd (omega arith))
+step k n p (At m) false e A = (omega (arith, A .0), omega (arith, A .1), A .2, λ i h j. here-or p n i e h (λ g. A .3 i g j))
+step k n p Nothing false e A = λ i h j. here-or p n i e h (λ g. A i g (omega arith))
+
+answers : (k n : ℕ) (p : ℕ → Bool) → Answer k n p (firstFrom k n p)
+unfolding firstFrom
+answers zero n p = λ i h j. absurd (omega arith)
+answers (suc k) n p = step k n p (firstFrom k (suc n) p) (p n) refl (answers k (suc n) p)
+
+same : (k : ℕ) (p : ℕ → Bool) (r s : Found) → Answer k 0 p r → Answer k 0 p s → r ≡ s
+same k p (At m) (At n) A B = elim (decLt m n) [
+  | yes q ↦ absurd (clash (p m) (A .2) (B .3 m (omega arith) q))
+  | no q ↦ elim (decLt n m) [
+    | yes t ↦ absurd (clash (p n) (B .2) (A .3 n (omega arith) t))
+    | no t ↦ let e : m ≡ n = omega arith in ap At e
+  ]
+]
+same k p (At m) Nothing A B = absurd (clash (p m) (A .2) (B m (A .0) (A .1)))
+same k p Nothing (At n) A B = absurd (clash (p n) (B .2) (A n (B .0) (B .1)))
+same k p Nothing Nothing A B = refl
+
+-- ---- a search by a test that is exact
+module _ (count : ℕ) (p : ℕ → Bool) (Good : ℕ → Type 0) (to : (i : ℕ) → p i ≡ false → Good i) (from : (i : ℕ) → Good i → p i ≡ false) where
+  answer : (r : Found) → first count p ≡ r → Answer count 0 p r
+  unfolding first
+  answer r e = subst (Answer count 0 p) e (answers count 0 p)
+
+  is : (r : Found) → Answer count 0 p r → first count p ≡ r
+  unfolding first
+  is r A = same count p (first count p) r (answers count 0 p) A
+
+  pub none-all : first count p ≡ Nothing → All count Good
+  none-all e i h = to i (answer Nothing e i (omega arith) (omega arith))
+
+  pub all-none : All count Good → first count p ≡ Nothing
+  all-none A = is Nothing (λ i h j. from i (A i (omega arith)))
+
+  pub at-bad : (n : ℕ) → first count p ≡ At n → FirstBad count Good n
+  at-bad n e =
+      let A = answer (At n) e in
+      record { below = omega (arith, A .1); before = λ i h. to i (A .3 i (omega arith) h); here = λ g. clash (p n) (A .2) (from n g) }
+
+  pub bad-at : (n : ℕ) → FirstBad count Good n → first count p ≡ At n
+  bad-at n B =
+      is (At n) (omega arith, omega (arith, B .below), not-false-true (p n) (λ e. B .here (to n e)), λ i h j. from i (B .before i j))
+
+-- ---- one turn of a loop that searches
+module _ (m n : ℕ) (p : ℕ → Bool) (h : n < m) where
+  pub first-no : p n ≡ false → firstFrom (m - n) n p ≡ firstFrom (m - (n + 1)) (n + 1) p
+  unfolding firstFrom
+  first-no e = let k : m - n ≡ suc (m - (n + 1)) = omega arith in rw (k, e, add-one n)
+
+  pub first-yes : p n ≡ true → firstFrom (m - n) n p ≡ At n
+  unfolding firstFrom
+  first-yes e = let k : m - n ≡ suc (m - (n + 1)) = omega arith in rw (k, e)
+
+pub first-end : (m n : ℕ) (p : ℕ → Bool) → m ≤ n → firstFrom (m - n) n p ≡ Nothing
+unfolding firstFrom
+first-end m n p h = let k : m - n ≡ 0 = omega arith in rw k
+
+pub first-start : (m : ℕ) (p : ℕ → Bool) → first m p ≡ firstFrom (m - 0) 0 p
+unfolding first
+first-start m p = let k : m - 0 ≡ m = omega arith in rw k

@@ -1,0 +1,5 @@
+// The bundle: its format, its encodings and matrices by number, its judgement. The definitions are those of specs/.
+pub mod answer;
+pub mod encoding;
+pub mod judge;
+pub mod parts;
