@@ -4,5 +4,6 @@ pub mod Frame
 pub mod Parts
 pub mod Encodings
 pub mod Matrices
+pub mod Code
 pub mod Judgements
 pub mod Cases

@@ -5,17 +5,18 @@ use mathlib.Core.List.{List, []}
 use mathlib.Core.Path.{_≡_, refl, sym, ap, ap₂, _∙_, subst}
 use Prim.Native.Nat.{ℕ, zero, suc, _+_, _-_, _*_, _/_, _%_, _≤_, _<_}
 use native.Mathlib.Decide.{ℕ-discrete, decLt}
+use native.Mathlib.Nat.{zero-add}
 use native.Mathlib.Numerals.{add-one}
 use native.Mathlib.Omega.{arith}
 use lib.Dec.{eqb}
-use lib.ListN.{length, drop}
-use lib.Seq.{getD-take, getD-drop}
+use lib.ListN.{length, drop, drop-of-length-le}
+use lib.Seq.{getD-take, getD-drop, drop-cons}
 use borrow.Author.Tests.{eq-eqb, ne-eqb, eqb-false}
 use Rattle.bits.specs.Bytes.{Bytes}
-use Rattle.bits.specs.Encodings.{imagesOf, Permutation}
+use Rattle.bits.specs.Encodings.{imagesOf, decode, Permutation}
 use Rattle.bits.specs.Lists.{at}
 use Rattle.bits.specs.Nibbles.{half, nibble}
-use Rattle.bits.proofs.laws.Lists.{length-tabulate, at-tabulate}
+use Rattle.bits.proofs.laws.Lists.{length-tabulate, at-tabulate, at-past}
 use Rattle.bits.proofs.laws.Nibbles.{nibble-lt}
 use Rattle.bundle.specs.Format.{partOf}
 use Rattle.bundle.specs.Judge.{among, repeats, noPermutation}
@@ -92,6 +93,23 @@ none-repeats (suc k) i f e u v a b c = elim (ℕ-discrete i v) [
   | no q ↦ none-repeats k (suc i) f (or-right (among i 0 f (f i)) (repeats k (suc i) f) e) u v a (omega arith) (omega arith)
 ]
 
+-- ---- nibbles, as the code reads them
+pub nibble-past : (s : List ℕ) (q : ℕ) → length s ≤ q / 2 → nibble s q ≡ 0
+unfolding nibble
+nibble-past s q h = rw (at-past s (q / 2) h) (half-zero (q % 2))
+  where
+    half-zero : (r : ℕ) → half r 0 ≡ 0
+    half-zero zero = refl
+    half-zero (suc r) = refl
+
+pub nibble-high : (s : List ℕ) (q : ℕ) → q % 2 ≡ 0 → nibble s q ≡ at s (q / 2) / 16
+unfolding nibble
+nibble-high s q e = rw e
+
+pub nibble-low : (s : List ℕ) (q : ℕ) → (q % 2 ≡ 0 → ⊥) → nibble s q ≡ at s (q / 2) % 16
+unfolding nibble
+nibble-low s q e = let o : q % 2 ≡ 1 = omega arith in rw o
+
 -- ---- images
 pub image-at : (p : List ℕ) (i : ℕ) → i < 16 → at (imagesOf p) i ≡ nibble p i
 unfolding imagesOf
@@ -101,18 +119,24 @@ pub images-long : (p : List ℕ) → length (imagesOf p) ≡ 16
 unfolding imagesOf
 images-long p = length-tabulate 16 (nibble p)
 
--- Image i of list n, in the section that holds the lists.
-nibble-part : (s : List ℕ) (n i : ℕ) → i < 16 → nibble (partOf 8 s n) i ≡ nibble s (n * 16 + i)
+-- Image i of list n, in the section s that holds the lists; and that list n is no permutation.
+abbrev pub imageIn : List ℕ → ℕ → ℕ → ℕ
+imageIn s n i = nibble s (n * 16 + i)
+
+abbrev pub badIn : List ℕ → ℕ → Bool
+badIn s n = noPermutation (partOf 8 s n)
+
+nibble-part : (s : List ℕ) (n i : ℕ) → i < 16 → nibble (partOf 8 s n) i ≡ imageIn s n i
 unfolding nibble partOf
 nibble-part s n i h =
     let a : (n * 16 + i) / 2 ≡ n * 8 + i / 2 = omega arith in
     let b : (n * 16 + i) % 2 ≡ i % 2 = omega arith in
     rw (a, b, getD-take 8 (drop (n * 8) s) (i / 2) 0 (omega arith), getD-drop (n * 8) s (i / 2) 0)
 
-pub in-section : (s : List ℕ) (n : ℕ) → noPermutation (partOf 8 s n) ≡ repeats (16 - 0) 0 (λ i. nibble s (n * 16 + i))
+pub in-section : (s : List ℕ) (n : ℕ) → badIn s n ≡ repeats (16 - 0) 0 (imageIn s n)
 unfolding noPermutation
 in-section s n =
-    repeats-same 16 0 (at (imagesOf (partOf 8 s n))) (λ i. nibble s (n * 16 + i)) (λ i h. image-at (partOf 8 s n) i (omega arith) ∙ nibble-part s n i (omega arith))
+    repeats-same 16 0 (at (imagesOf (partOf 8 s n))) (imageIn s n) (λ i h. image-at (partOf 8 s n) i (omega arith) ∙ nibble-part s n i (omega arith))
 
 -- ---- the test is exact
 pub good-permutation : (p : List ℕ) → Bytes p → noPermutation p ≡ false → Permutation (imagesOf p)
@@ -136,3 +160,32 @@ pub permutation-good : (p : List ℕ) → Permutation (imagesOf p) → noPermuta
 unfolding noPermutation
 permutation-good p P = repeats-none 16 0 (at (imagesOf p)) (λ u v a b c q.
     let e : u ≡ v = P .apart u v (omega arith) (omega arith) q in omega arith)
+
+-- ---- the search for an image: those before place i are passed
+unfoldable pub Passed : List ℕ → ℕ → ℕ → Type 0
+Passed l y i = decode l y ≡ i + decode (drop i l) y
+
+module _ (l : List ℕ) (y : ℕ) where
+  pub passed-none : Passed l y 0
+  unfolding Passed
+  passed-none = sym (zero-add (decode l y))
+
+  module _ (i : ℕ) (h : i < length l) where
+    pub passed-more : (at l i ≡ y → ⊥) → Passed l y i → Passed l y (i + 1)
+    unfolding Passed decode
+    passed-more ne p =
+        let q : decode (drop i l) y ≡ suc (decode (drop (suc i) l) y) = ap (λ (x : List ℕ). decode x y) (drop-cons l i 0 h) ∙ rw (ne-eqb (at l i) y ne) in
+        let r : decode (drop (i + 1) l) y ≡ decode (drop (suc i) l) y = ap (λ (k : ℕ). decode (drop k l) y) (add-one i) in
+        omega (arith, p, q, r)
+
+    pub passed-here : at l i ≡ y → Passed l y i → i ≡ decode l y
+    unfolding Passed decode
+    passed-here e p =
+        let q : decode (drop i l) y ≡ 0 = ap (λ (x : List ℕ). decode x y) (drop-cons l i 0 h) ∙ rw (eq-eqb (at l i) y e) in
+        omega (arith, p, q)
+
+  pub passed-all : (i n : ℕ) → length l ≡ n → i ≡ n → Passed l y i → n ≡ decode l y
+  unfolding Passed decode
+  passed-all i n e k p =
+      let q : decode (drop i l) y ≡ 0 = ap (λ (x : List ℕ). decode x y) (drop-of-length-le l {i = i} (omega arith)) in
+      omega (arith, p, q)

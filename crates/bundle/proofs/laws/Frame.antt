@@ -118,8 +118,10 @@ apart nr l F (suc i) h =
     let P = F .pairs i (omega arith) in
     let Q = F .pairs (suc i) h .behind in
     let E : offset l i + sectionLength nr i ≤ offset l (suc i) = omega (arith, P .long, Q) in
-    let A = apart nr l F i (omega arith) in
-    (omega (arith, A .0, E), λ j k. elim (native.Mathlib.Decide.ℕ-discrete j i) [
-      | yes e ↦ rw e E
-      | no e ↦ omega (arith, A .1 j (omega arith), E)
-    ])
+    let A = apart nr l F i (omega arith) in (
+      omega (arith, A .0, E),
+      λ j k. elim (native.Mathlib.Decide.ℕ-discrete j i) [
+        | yes e ↦ rw e E
+        | no e ↦ omega (arith, A .1 j (omega arith), E)
+      ],
+    )

@@ -1,0 +1,43 @@
+-- `bundle::judge::judge_encodings` meets its contract. Assumes nothing.
+use mathlib.Core.Path.{_≡_, sym, ap, _∙_}
+use Rattle.bundle.specs.Format.{encodings, partCount}
+use Rattle.bundle.specs.declared.answer.Found.the-variants.{At, Nothing}
+use Rattle.bundle.proofs.laws.Code.{encodings-judged}
+use borrow.Author.Needs.{needs}
+use Rattle.bundle.proofs.judge.judge_encodings.Statement.{statement}
+use Rattle.bundle.proofs.judge.judge_encodings.Tie as tie
+
+section-requires : tie.Need-section-requires
+section-requires c κs = search needs
+
+part-count-requires : tie.Need-part-count-requires
+part-count-requires c κs = search needs
+
+first-bad-encoding-requires : tie.Need-first-bad-encoding-requires
+first-bad-encoding-requires c κs = search needs
+
+enum-known-n : tie.Need-enum-known-n
+enum-known-n c = search needs
+
+enum-told : tie.Need-enum-told
+enum-told c = search needs
+
+returns : tie.Need-returns
+unfolding partCount
+returns c = encodings-judged 10 _ _ (At _) (c .before .before .before .before .before .section .ensures) (sym (c .before .n .given .1) ∙ c .before .before .before .first-bad-encoding .ensures ∙ rw (c .before .before .before .before .part-count .ensures .0))
+
+returns-2 : tie.Need-returns-2
+unfolding partCount
+returns-2 c = encodings-judged 10 _ _ Nothing (c .before .before .before .before .section .ensures) (sym (c .enum-told .given .1) ∙ c .before .before .first-bad-encoding .ensures ∙ rw (c .before .before .before .part-count .ensures .0))
+
+pub judge-encodings-spec : {M : Type 1} → statement M
+judge-encodings-spec =
+    tie.close
+    (tie.spec
+    section-requires
+    part-count-requires
+    first-bad-encoding-requires
+    enum-known-n
+    enum-told
+    returns
+    returns-2)

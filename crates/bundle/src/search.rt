@@ -1,0 +1,68 @@
+// Searches in one section: the first encoding that is no permutation, the first matrix that has no inverse.
+ghost use mathlib.Core.Path.{_≡_};
+ghost use Prim.Native.Nat.{_*_, _≤_};
+ghost use lib.ListN.{length};
+ghost use Rattle.bundle.specs.Format.{partOf};
+ghost use Rattle.bundle.specs.Judge.{noPermutation, noInverse};
+ghost use Rattle.bundle.specs.Search.{first};
+use crate::answer::Found;
+use crate::encoding::nibble;
+use bits::matrix;
+
+// The first of the encodings that a section holds that repeats an image.
+pub fn first_bad_encoding(lists: &[u8], count: usize) -> Found
+    requires { ⌜ count ≤ 6048 ⌝ }
+    ensures { λ r. ⌜ r ≡ first count (λ n. noPermutation (partOf 8 (now (lists .entry)) n)) ⌝ }
+{
+    let mut n: usize = 0;
+    'lists: loop {
+        if count <= n {
+            break 'lists Found::Nothing;
+        }
+        let mut i: usize = 0;
+        'images: while i < 16 {
+            let x = nibble(lists, n * 16 + i);
+            let mut j: usize = 0;
+            'earlier: while j < i {
+                if nibble(lists, n * 16 + j) == x {
+                    break 'lists Found::At(n);
+                }
+                j += 1;
+            }
+            i += 1;
+        }
+        n += 1;
+    }
+}
+
+// The matrix of 8 w rows that bytes write has no inverse.
+pub fn no_inverse(p: &[u8], w: usize) -> bool
+    requires { ⌜ (w ≤ 16) × (8 * w * w ≤ length (now p)) ⌝ }
+    ensures { λ r. ⌜ r ≡ noInverse w (now (p .entry)) ⌝ }
+{
+    let n = 8 * w;
+    let mut m = [0u64; 256];
+    let mut b = [0u64; 256];
+    matrix::read(p, &mut m, w);
+    if matrix::invert(&m, &mut b, n) {
+        return false;
+    }
+    true
+}
+
+// The first of a section's matrices of 8 w rows that has no inverse.
+pub fn first_singular(s: &[u8], w: usize, size: usize, count: usize) -> Found
+    requires { ⌜ (w ≤ 16) × (size ≡ 8 * w * w) × (count * size ≤ length (now s)) ⌝ }
+    ensures { λ r. ⌜ r ≡ first count (λ n. noInverse w (partOf size (now (s .entry)) n)) ⌝ }
+{
+    let mut k = 0;
+    while k < count {
+        let a = k * size;
+        let e = a + size;
+        if no_inverse(&s[a..e], w) {
+            return Found::At(k);
+        }
+        k += 1;
+    }
+    Found::Nothing
+}
