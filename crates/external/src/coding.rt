@@ -1,0 +1,136 @@
+// Coding and uncoding of a block, input and output side. They judge the whole bundle; a call that is turned down leaves the lent block
+// as it was.
+ghost use mathlib.Core.Bool.{true};
+ghost use mathlib.Core.Path.{_≡_};
+ghost use Prim.Native.Nat.{ℕ, _+_, _<_, _≤_};
+ghost use lib.ListN.{length};
+ghost use Rattle.bits.specs.Elimination.{invert};
+ghost use Rattle.bits.specs.Encodings.{Permutation};
+ghost use Rattle.bits.specs.Matrices.{matrixOf};
+ghost use Rattle.bits.specs.Words.{hasInverse};
+ghost use Rattle.bundle.specs.Format.{encodingOf};
+ghost use Rattle.bundle.specs.Judge.{judge};
+ghost use Rattle.bundle.specs.declared.answer.Judgement.the-variants.{Accepted};
+ghost use Rattle.external.specs.Calls.{causeOf, secondOf, answer, written};
+ghost use Rattle.external.specs.Coding.{encodeBy, decodeBy, encodeInput, decodeInput, encodeOutput, decodeOutput};
+use crate::block;
+use bundle::answer;
+use bundle::answer::Judgement;
+use bundle::answer::Refusal;
+use bundle::judge;
+use bundle::parts;
+
+// What a call answers: `causeOf` and `secondOf` of specs/ give document 01's two numbers of each.
+pub enum Coded {
+    Done,
+    Bundle(Refusal),
+    BlockLength,
+}
+
+// The number of the cause; 0 where the call is done.
+pub fn cause(c: Coded) -> usize
+    ensures { λ n. ⌜ n ≡ causeOf c ⌝ }
+{
+    match c {
+        Coded::Done => 0,
+        Coded::Bundle(r) => answer::cause(r),
+        Coded::BlockLength => 10,
+    }
+}
+
+// The number returned with it.
+pub fn second(c: Coded) -> usize
+    ensures { λ n. ⌜ n ≡ secondOf c ⌝ }
+{
+    match c {
+        Coded::Done => 0,
+        Coded::Bundle(r) => answer::second(r),
+        Coded::BlockLength => 0,
+    }
+}
+
+// The answer for a bundle and blocks of these lengths.
+fn ready(bundle: &[u8], from: usize, to: usize) -> Coded
+    ensures { λ r. ⌜ r ≡ answer 10 (now (bundle .entry)) from to ⌝ }
+{
+    if let Judgement::Refused(r) = judge::judge_bundle(bundle) {
+        return Coded::Bundle(r);
+    }
+    if from != 16 {
+        return Coded::BlockLength;
+    }
+    if to != 16 {
+        return Coded::BlockLength;
+    }
+    Coded::Done
+}
+
+// The block matrix that m writes, then the 32 encodings from `first` on.
+fn encode_by(bundle: &[u8], first: usize, m: &[u8], block: &[u8], out: &mut [u8]) -> Coded
+    requires { ⌜ first ≤ 6016 ⌝ }
+    requires { ⌜ (judge 10 (now bundle) ≡ Accepted → 2048 ≤ length (now m)) ⌝ }
+    ensures answer { λ r. ⌜ r ≡ answer 10 (now (bundle .entry)) (length (now (block .entry))) (length (now (out .entry))) ⌝ }
+    ensures block { λ _. ⌜ now (out .exit) ≡ written (answer 10 (now (bundle .entry)) (length (now (block .entry))) (length (now (out .entry)))) (encodeBy (encodingOf 10 (now (bundle .entry))) first (matrixOf 16 (now (m .entry))) (now (block .entry))) (now (out .entry)) ⌝ }
+{
+    match ready(bundle, block.len(), out.len()) {
+        Coded::Done => {
+            let mut t = [0u8; 16];
+            block::multiply(m, block, &mut t);
+            block::encode_nibbles(bundle, first, &t, out);
+            Coded::Done
+        }
+        Coded::Bundle(r) => Coded::Bundle(r),
+        Coded::BlockLength => Coded::BlockLength,
+    }
+}
+
+// The encodings taken off, then the inverse of the block matrix.
+fn decode_by(bundle: &[u8], first: usize, m: &[u8], block: &[u8], out: &mut [u8]) -> Coded
+    requires { ⌜ first ≤ 6016 ⌝ }
+    requires { ⌜ (judge 10 (now bundle) ≡ Accepted → (2048 ≤ length (now m)) × (hasInverse (invert 128 (matrixOf 16 (now m))) ≡ true)) ⌝ }
+    ensures answer { λ r. ⌜ r ≡ answer 10 (now (bundle .entry)) (length (now (block .entry))) (length (now (out .entry))) ⌝ }
+    ensures block { λ _. ⌜ now (out .exit) ≡ written (answer 10 (now (bundle .entry)) (length (now (block .entry))) (length (now (out .entry)))) (decodeBy (encodingOf 10 (now (bundle .entry))) first (matrixOf 16 (now (m .entry))) (now (block .entry))) (now (out .entry)) ⌝ }
+{
+    match ready(bundle, block.len(), out.len()) {
+        Coded::Done => {
+            let mut t = [0u8; 16];
+            block::decode_nibbles(bundle, first, block, &mut t);
+            block::unmultiply(m, &t, out);
+            Coded::Done
+        }
+        Coded::Bundle(r) => Coded::Bundle(r),
+        Coded::BlockLength => Coded::BlockLength,
+    }
+}
+
+// The input coding of a block ("coding").
+pub fn encode_input(bundle: &[u8], block: &[u8], out: &mut [u8]) -> Coded
+    ensures answer { λ r. ⌜ r ≡ answer 10 (now (bundle .entry)) (length (now (block .entry))) (length (now (out .entry))) ⌝ }
+    ensures block { λ _. ⌜ now (out .exit) ≡ written (answer 10 (now (bundle .entry)) (length (now (block .entry))) (length (now (out .entry)))) (encodeInput 10 (now (bundle .entry)) (now (block .entry))) (now (out .entry)) ⌝ }
+{
+    encode_by(bundle, 0, parts::input_matrix_part(bundle), block, out)
+}
+
+// The input coding taken off ("uncoding").
+pub fn decode_input(bundle: &[u8], block: &[u8], out: &mut [u8]) -> Coded
+    ensures answer { λ r. ⌜ r ≡ answer 10 (now (bundle .entry)) (length (now (block .entry))) (length (now (out .entry))) ⌝ }
+    ensures block { λ _. ⌜ now (out .exit) ≡ written (answer 10 (now (bundle .entry)) (length (now (block .entry))) (length (now (out .entry)))) (decodeInput 10 (now (bundle .entry)) (now (block .entry))) (now (out .entry)) ⌝ }
+{
+    decode_by(bundle, 0, parts::input_matrix_part(bundle), block, out)
+}
+
+// The output coding of a block.
+pub fn encode_output(bundle: &[u8], block: &[u8], out: &mut [u8]) -> Coded
+    ensures answer { λ r. ⌜ r ≡ answer 10 (now (bundle .entry)) (length (now (block .entry))) (length (now (out .entry))) ⌝ }
+    ensures block { λ _. ⌜ now (out .exit) ≡ written (answer 10 (now (bundle .entry)) (length (now (block .entry))) (length (now (out .entry)))) (encodeOutput 10 (now (bundle .entry)) (now (block .entry))) (now (out .entry)) ⌝ }
+{
+    encode_by(bundle, 6016, parts::output_matrix_part(bundle), block, out)
+}
+
+// The output coding taken off.
+pub fn decode_output(bundle: &[u8], block: &[u8], out: &mut [u8]) -> Coded
+    ensures answer { λ r. ⌜ r ≡ answer 10 (now (bundle .entry)) (length (now (block .entry))) (length (now (out .entry))) ⌝ }
+    ensures block { λ _. ⌜ now (out .exit) ≡ written (answer 10 (now (bundle .entry)) (length (now (block .entry))) (length (now (out .entry)))) (decodeOutput 10 (now (bundle .entry)) (now (block .entry))) (now (out .entry)) ⌝ }
+{
+    decode_by(bundle, 6016, parts::output_matrix_part(bundle), block, out)
+}
