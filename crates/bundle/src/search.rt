@@ -1,13 +1,33 @@
 // Searches in one section: the first encoding that is no permutation, the first matrix that has no inverse.
 ghost use mathlib.Core.Path.{_≡_};
-ghost use Prim.Native.Nat.{_*_, _≤_};
+ghost use Prim.Native.Nat.{_*_, _<_, _≤_};
+ghost use lib.Bits.{bitXor};
+ghost use lib.Dec.{eqb};
 ghost use lib.ListN.{length};
+ghost use Rattle.bits.specs.Vectors.{bit, unit};
 ghost use Rattle.bundle.specs.Format.{partOf};
 ghost use Rattle.bundle.specs.Judge.{noPermutation, noInverse};
 ghost use Rattle.bundle.specs.Search.{first};
 use crate::answer::Found;
 use crate::encoding::nibble;
 use bits::matrix;
+
+// Image x is marked in `seen`, whose bit x says so.
+fn marked(seen: u64, x: u8) -> bool
+    requires { ⌜ x < 16 ⌝ }
+    ensures { λ r. ⌜ r ≡ eqb (bit 16 x seen) 1 ⌝ }
+{
+    (seen >> (15 - x)) % 2 == 1
+}
+
+// Image x turned over in `seen`.
+fn turned(seen: u64, x: u8) -> u64
+    requires { ⌜ x < 16 ⌝ }
+    ensures { λ r. ⌜ r ≡ bitXor seen (unit 16 x) ⌝ }
+{
+    let one: u64 = 1;
+    seen ^ (one << (15 - x))
+}
 
 // The first of the encodings that a section holds that repeats an image.
 pub fn first_bad_encoding(lists: &[u8], count: usize) -> Found
@@ -19,16 +39,14 @@ pub fn first_bad_encoding(lists: &[u8], count: usize) -> Found
         if count <= n {
             break 'lists Found::Nothing;
         }
+        let mut seen: u64 = 0;
         let mut i: usize = 0;
         'images: while i < 16 {
             let x = nibble(lists, n * 16 + i);
-            let mut j: usize = 0;
-            'earlier: while j < i {
-                if nibble(lists, n * 16 + j) == x {
-                    break 'lists Found::At(n);
-                }
-                j += 1;
+            if marked(seen, x) {
+                break 'lists Found::At(n);
             }
+            seen = turned(seen, x);
             i += 1;
         }
         n += 1;

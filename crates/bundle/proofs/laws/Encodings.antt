@@ -1,13 +1,15 @@
--- Laws, not definitions: the test for a repeated image, one turn of each of its loops, and that it is exact.
+-- Laws, not definitions: the test for a repeated image, one turn of its loop, and that it is exact; nibbles and images as the code
+-- reads them.
 -- Assumes nothing.
-use mathlib.Core.Bool.{Bool, true, false, _||_}
+use mathlib.Core.Bool.{Bool, true, false, _||_, or-false, or-assoc}
 use mathlib.Core.List.{List, []}
 use mathlib.Core.Path.{_≡_, refl, sym, ap, ap₂, _∙_, subst}
 use Prim.Native.Nat.{ℕ, zero, suc, _+_, _-_, _*_, _/_, _%_, _≤_, _<_}
 use native.Mathlib.Decide.{ℕ-discrete, decLt}
-use native.Mathlib.Nat.{zero-add}
+use native.Mathlib.Nat.{zero-add, add-zero}
 use native.Mathlib.Numerals.{add-one}
 use native.Mathlib.Omega.{arith}
+use lib.Bits.{bitXor}
 use lib.Dec.{eqb}
 use lib.ListN.{length, drop, drop-of-length-le}
 use lib.Seq.{getD-take, getD-drop, drop-cons}
@@ -16,26 +18,64 @@ use Rattle.bits.specs.Bytes.{Bytes}
 use Rattle.bits.specs.Encodings.{imagesOf, decode, Permutation}
 use Rattle.bits.specs.Lists.{at}
 use Rattle.bits.specs.Nibbles.{half, nibble}
+use Rattle.bits.specs.Vectors.{bit, unit}
 use Rattle.bits.proofs.laws.Lists.{length-tabulate, at-tabulate, at-past}
 use Rattle.bits.proofs.laws.Nibbles.{nibble-lt}
+use Rattle.bits.proofs.laws.Vectors.{bit-lt, bit-xor, bit-zero, bit-unit-same, bit-unit-other}
 use Rattle.bundle.specs.Format.{partOf}
 use Rattle.bundle.specs.Judge.{among, repeats, noPermutation}
 use Rattle.bundle.proofs.laws.Tests.{or-left, or-right, neither}
 
--- ---- one turn of each loop
-module _ (i j : ℕ) (f : ℕ → ℕ) (x : ℕ) (h : j < i) where
-  pub among-no : (f j ≡ x → ⊥) → among (i - j) j f x ≡ among (i - (j + 1)) (j + 1) f x
-  unfolding among
-  among-no ne = let k : i - j ≡ suc (i - (j + 1)) = omega arith in rw (k, ne-eqb _ _ ne, add-one j)
+-- ---- the numbers seen so far, as the bits of a number: bit y says whether y is among the first i
+abbrev pub Seen : ℕ → (ℕ → ℕ) → ℕ → Type 0
+Seen s f i = (y : ℕ) → y < 16 → eqb (bit 16 y s) 1 ≡ among i 0 f y
 
-  pub among-yes : f j ≡ x → among (i - j) j f x ≡ true
-  unfolding among
-  among-yes e = let k : i - j ≡ suc (i - (j + 1)) = omega arith in rw (k, eq-eqb _ _ e)
-
-pub among-end : (i j : ℕ) (f : ℕ → ℕ) (x : ℕ) → i ≤ j → among (i - j) j f x ≡ false
+pub seen-none : (f : ℕ → ℕ) → Seen 0 f 0
 unfolding among
-among-end i j f x h = let k : i - j ≡ 0 = omega arith in rw k
+seen-none f y h = rw (bit-zero 16 y)
 
+among-next : (k j : ℕ) (f : ℕ → ℕ) (x : ℕ) → among (suc k) j f x ≡ (among k j f x || eqb (f (j + k)) x)
+unfolding among
+among-next zero j f x = rw (add-zero j) (or-false (eqb (f j) x))
+among-next (suc k) j f x =
+    let e : suc j + k ≡ j + suc k = omega arith in
+    ap (λ (b : Bool). eqb (f j) x || b) (among-next k (suc j) f x ∙ rw e)
+    ∙ sym (or-assoc (eqb (f j) x) (among k (suc j) f x) (eqb (f (j + suc k)) x))
+
+module _ (s : ℕ) (f : ℕ → ℕ) (i : ℕ) (h : f i < 16) (new : among i 0 f (f i) ≡ false) (S : Seen s f i) where
+  next : (y : ℕ) → among (i + 1) 0 f y ≡ (among i 0 f y || eqb (f i) y)
+  next y = ap (λ (k : ℕ). among k 0 f y) (add-one i) ∙ among-next i 0 f y ∙ rw (zero-add i)
+
+  here : (y : ℕ) → y ≡ f i → eqb (bit 16 y (bitXor s (unit 16 (f i)))) 1 ≡ among (i + 1) 0 f y
+  here y e =
+      let z : bit 16 (f i) s ≡ 0 = omega (arith, bit-lt 16 (f i) s, eqb-false (bit 16 (f i) s) 1 (S (f i) h ∙ new)) in
+      let b : bit 16 (f i) (bitXor s (unit 16 (f i))) ≡ 1 =
+      bit-xor 16 (f i) s (unit 16 (f i)) ∙ ap₂ (λ (p q : ℕ). (p + q) % 2) z (bit-unit-same 16 (f i)) in
+      rw (next y, e, b, new, eq-eqb (f i) (f i) refl)
+
+  there : (y : ℕ) → y < 16 → (y ≡ f i → ⊥) → eqb (bit 16 y (bitXor s (unit 16 (f i)))) 1 ≡ among (i + 1) 0 f y
+  there y k e =
+      let b : bit 16 y (bitXor s (unit 16 (f i))) ≡ bit 16 y s =
+      bit-xor 16 y s (unit 16 (f i)) ∙ ap (λ (q : ℕ). (bit 16 y s + q) % 2) (bit-unit-other 16 (f i) y h k (λ q. e (sym q)))
+      ∙ omega (arith, bit-lt 16 y s) in
+      rw (next y, b, S y k, ne-eqb (f i) y (λ q. e (sym q))) (sym (or-false (among i 0 f y)))
+
+  seen-more : Seen (bitXor s (unit 16 (f i))) f (i + 1)
+  seen-more y k = elim (ℕ-discrete y (f i)) [
+    | yes e ↦ here y e
+    | no e ↦ there y k e
+  ]
+
+-- As the code has them: x is the number at place i.
+module _ (s : ℕ) (f : ℕ → ℕ) (i x : ℕ) (e : x ≡ f i) (h : x < 16) (S : Seen s f i) where
+  pub seen-told : (r : Bool) → r ≡ eqb (bit 16 x s) 1 → among i 0 f (f i) ≡ r
+  seen-told r q = ap (among i 0 f) (sym e) ∙ sym (S x h) ∙ sym q
+
+  pub seen-turned : among i 0 f (f i) ≡ false → (s′ : ℕ) → s′ ≡ bitXor s (unit 16 x) → Seen s′ f (i + 1)
+  seen-turned new s′ q =
+      subst (λ (z : ℕ). Seen z f (i + 1)) (sym (q ∙ ap (λ (z : ℕ). bitXor s (unit 16 z)) e)) (seen-more s f i (subst (λ (z : ℕ). z < 16) e h) new S)
+
+-- ---- one turn of the loop over the images
 module _ (m i : ℕ) (f : ℕ → ℕ) (h : i < m) where
   pub repeats-no : among i 0 f (f i) ≡ false → repeats (m - i) i f ≡ repeats (m - (i + 1)) (i + 1) f
   unfolding repeats
