@@ -1,9 +1,9 @@
 -- The bundle's format (document 01, "The bundle"): sizes, the five pairs, causes 2 and 3, and the sections' parts by number. Every
 -- size is over the number nr of rounds; document 01's own numbers are those for ten. Definitions only.
-use mathlib.Core.Bool.{Bool, true, false, not, _||_}
+use mathlib.Core.Bool.{Bool, not, _||_}
 use mathlib.Core.List.{List, []}
 use mathlib.Core.Path.{_≡_}
-use Prim.Native.Nat.{ℕ, zero, suc, _+_, _-_, _*_, _≤_, _<_}
+use Prim.Native.Nat.{ℕ, zero, suc, _+_, _-_, _*_, _≤_}
 use lib.Dec.{eqb, ltb}
 use lib.ListN.{length, take, drop}
 use Rattle.bits.specs.Bytes.{number}

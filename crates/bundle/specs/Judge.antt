@@ -1,6 +1,6 @@
 -- The judgement of a bundle: accepted, or the lowest cause of 2 to 7 that applies, with its first offender. What it means is said
 -- without its tests in Judgements.antt. Definitions only.
-use mathlib.Core.Bool.{Bool, true, false, not, _||_}
+use mathlib.Core.Bool.{Bool, false, not, _||_}
 use mathlib.Core.List.{List}
 use Prim.Native.Nat.{ℕ, zero, suc, _*_}
 use lib.Dec.{eqb}

@@ -1,6 +1,6 @@
 // Nibbles of bytes, and the encoding (list) that 8 bytes hold.
 ghost use mathlib.Core.Path.{_≡_};
-ghost use Prim.Native.Nat.{_<_, _≤_};
+ghost use Prim.Native.Nat.{_<_};
 ghost use Rattle.bits.specs.Encodings.{imagesOf, encode, decode};
 ghost use Rattle.bits.specs.Nibbles.{nibble};
 

@@ -2,10 +2,9 @@
 // as it was.
 ghost use mathlib.Core.Bool.{true};
 ghost use mathlib.Core.Path.{_≡_};
-ghost use Prim.Native.Nat.{ℕ, _+_, _<_, _≤_};
+ghost use Prim.Native.Nat.{_≤_};
 ghost use lib.ListN.{length};
 ghost use Rattle.bits.specs.Elimination.{invert};
-ghost use Rattle.bits.specs.Encodings.{Permutation};
 ghost use Rattle.bits.specs.Matrices.{matrixOf};
 ghost use Rattle.bits.specs.Words.{hasInverse};
 ghost use Rattle.bundle.specs.Format.{encodingOf};

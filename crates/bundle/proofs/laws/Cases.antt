@@ -1,14 +1,13 @@
 -- Laws, not definitions: the theorems of specs/Cases.antt.
 -- Assumes nothing.
 use mathlib.Core.List.{List}
-use mathlib.Core.Path.{_≡_, refl, sym, ap, _∙_, subst}
+use mathlib.Core.Path.{_≡_, refl, sym, _∙_, subst}
 use Prim.Native.Nat.{ℕ, _≤_, _<_}
 use native.Mathlib.Omega.{arith}
-use Rattle.bits.specs.Bytes.{Bytes}
 use Rattle.bits.proofs.laws.Bytes.{matrixOf-fits}
-use Rattle.bundle.specs.Cases.{RefusedWith, NoneBelow4, List0, Byte159}
+use Rattle.bundle.specs.Cases.{NoneBelow4, List0, Byte159}
 use Rattle.bundle.specs.Format.{encodings, byteMatrices, lengthBad, pairBad, frame, byteMatrix, byteMatrixPart}
-use Rattle.bundle.specs.Judge.{judge, judgeEncodings, judgeMatrices}
+use Rattle.bundle.specs.Judge.{judge}
 use Rattle.bundle.specs.Judgements.{Framed}
 use Rattle.bundle.specs.Refusals.{causeOf, unlessAt}
 use Rattle.bundle.specs.Search.{first}

@@ -2,14 +2,14 @@
 -- Assumes nothing.
 use mathlib.Core.Bool.{Bool, true, false, not}
 use mathlib.Core.List.{List, []}
-use mathlib.Core.Path.{_≡_, refl, sym, ap, ap₂, _∙_, subst}
-use Prim.Native.Nat.{ℕ, zero, suc, _+_, _-_, _*_, _/_, _^_, _≤_, _<_}
+use mathlib.Core.Path.{_≡_, refl, sym, ap, _∙_}
+use Prim.Native.Nat.{ℕ, zero, suc, _+_, _-_, _*_, _/_, _≤_, _<_}
 use native.Mathlib.Nat.{mul-le-mul, mul-le-mul-right, suc-mul, zero-mul, mul-div-cancel}
 use native.Mathlib.Omega.{arith}
 use lib.ListN.{length, take, drop}
 use borrow.Author.Tests.{eq-eqb, ne-eqb, lt-ltb, le-ltb}
 use Rattle.bits.specs.Bytes.{Bytes, number}
-use Rattle.bits.specs.Elimination.{Inversion, invert}
+use Rattle.bits.specs.Elimination.{invert}
 use Rattle.bits.specs.Lists.{at}
 use Rattle.bits.specs.Matrices.{matrixOf}
 use Rattle.bits.specs.Words.{wide, rowsOf, stored, hasInverse}
@@ -17,8 +17,8 @@ use Rattle.bits.proofs.laws.Bytes.{matrixOf-length}
 use Rattle.bits.proofs.laws.Groups.{joined-lt}
 use Rattle.bits.proofs.laws.Lists.{tabulate-at}
 use Rattle.bits.proofs.laws.Words.{rows-stored}
-use Rattle.bundle.specs.Format.{encodings, byteMatrices, columnMatrices, partCount, partSize, sectionLength, shortest, longest, numberAt, offset, stated, endBefore, PairRight, pairBad, lengthBad, frame, sectionOf, partOf, partAt, inputMatrixPart, outputMatrixPart}
-use Rattle.bundle.specs.Judge.{noPermutation, noInverse, encodingBad, byteMatrixBad, columnMatrixBad, judgeEncodings, judgeMatrices, judge}
+use Rattle.bundle.specs.Format.{encodings, byteMatrices, columnMatrices, partCount, partSize, sectionLength, shortest, longest, numberAt, offset, stated, endBefore, pairBad, lengthBad, frame, sectionOf, partOf, partAt, inputMatrixPart, outputMatrixPart}
+use Rattle.bundle.specs.Judge.{noPermutation, noInverse, byteMatrixBad, columnMatrixBad, judgeEncodings, judgeMatrices, judge}
 use Rattle.bundle.specs.Refusals.{unlessAt}
 use Rattle.bundle.specs.Search.{first}
 use Rattle.bundle.specs.declared.answer.Found.{Found}

@@ -1,9 +1,9 @@
 -- Laws, not definitions: causes 2 and 3, and what the sections are where neither applies.
 -- Assumes nothing.
-use mathlib.Core.Bool.{Bool, true, false, not, _||_}
+use mathlib.Core.Bool.{Bool, false, not, _||_}
 use mathlib.Core.List.{List, []}
-use mathlib.Core.Path.{_≡_, refl, sym, ap, ap₂, _∙_, subst}
-use Prim.Native.Nat.{ℕ, zero, suc, _+_, _-_, _*_, _≤_, _<_}
+use mathlib.Core.Path.{_≡_, refl, ap, ap₂, _∙_}
+use Prim.Native.Nat.{ℕ, zero, suc, _+_, _≤_, _<_}
 use native.Mathlib.Omega.{arith}
 use lib.Dec.{eqb, ltb}
 use lib.ListN.{length, take, drop, length-take, length-drop}
@@ -13,7 +13,7 @@ use Rattle.bundle.specs.Judgements.{Sizes, InRange, Framed, Apart}
 use Rattle.bundle.specs.Refusals.{unless, unlessAt}
 use Rattle.bundle.specs.Search.{first}
 use Rattle.bundle.specs.declared.answer.Found.{Found}
-use Rattle.bundle.specs.declared.answer.Found.the-variants.{At, Nothing}
+use Rattle.bundle.specs.declared.answer.Found.the-variants.{Nothing}
 use Rattle.bundle.specs.declared.answer.Judgement.{Judgement}
 use Rattle.bundle.specs.declared.answer.Judgement.the-variants.{Accepted, Refused}
 use Rattle.bundle.specs.declared.answer.Refusal.{Refusal}

@@ -1,24 +1,23 @@
 -- Laws, not definitions: the theorems of specs/Judgements.antt.
 -- Assumes nothing.
-use mathlib.Core.Bool.{Bool, true, false}
-use mathlib.Core.List.{List, []}
-use mathlib.Core.Path.{_≡_, refl, sym, ap, _∙_, subst}
-use Prim.Native.Nat.{ℕ, _≤_, _<_}
+use mathlib.Core.Bool.{false}
+use mathlib.Core.List.{List}
+use mathlib.Core.Path.{_≡_, _∙_, subst}
+use Prim.Native.Nat.{ℕ, _≤_}
 use native.Mathlib.Omega.{arith}
 use Rattle.bits.specs.Bytes.{Bytes}
-use Rattle.bundle.specs.Format.{encodings, byteMatrices, columnMatrices, PairRight, pairBad, lengthBad, frame, partAt, encodingPart, byteMatrixPart, columnMatrixPart, inputMatrixPart, outputMatrixPart}
+use Rattle.bundle.specs.Format.{encodings, byteMatrices, columnMatrices, PairRight, pairBad, lengthBad, frame, encodingPart, byteMatrixPart, columnMatrixPart, inputMatrixPart, outputMatrixPart}
 use Rattle.bundle.specs.Judge.{noInverse, encodingBad, byteMatrixBad, columnMatrixBad, judgeEncodings, judgeMatrices, judge}
-use Rattle.bundle.specs.Judgements.{InRange, Framed, GoodEncoding, GoodByteMatrix, GoodColumnMatrix, GoodInputMatrix, GoodOutputMatrix, GoodEncodings, GoodByteMatrices, GoodColumnMatrices, FirstBad, Sound, Why, Reasoned, Only, AcceptedExactly, PartRule, Parts}
-use Rattle.bundle.specs.Refusals.{causeOf, unless, unlessAt, andThen}
+use Rattle.bundle.specs.Judgements.{Framed, GoodEncoding, GoodByteMatrix, GoodColumnMatrix, GoodInputMatrix, GoodOutputMatrix, GoodEncodings, GoodByteMatrices, GoodColumnMatrices, Sound, Why, Reasoned, Only, AcceptedExactly, Parts}
+use Rattle.bundle.specs.Refusals.{causeOf, unlessAt, andThen}
 use Rattle.bundle.specs.Search.{first}
-use Rattle.bundle.specs.declared.answer.Found.{Found}
-use Rattle.bundle.specs.declared.answer.Found.the-variants.{At, Nothing}
+use Rattle.bundle.specs.declared.answer.Found.the-variants.{Nothing}
 use Rattle.bundle.specs.declared.answer.Judgement.{Judgement}
 use Rattle.bundle.specs.declared.answer.Judgement.the-variants.{Accepted, Refused}
 use Rattle.bundle.specs.declared.answer.Refusal.{Refusal}
 use Rattle.bundle.specs.declared.answer.Refusal.the-variants.{Length, Pair, Encoding, ByteMatrix, ColumnMatrix, InputMatrix, OutputMatrix}
 use Rattle.bundle.proofs.laws.Encodings.{good-permutation, permutation-good}
-use Rattle.bundle.proofs.laws.Frame.{pair-good, right-good, length-good, range-good, pairs-all, framed, frame-accepted}
+use Rattle.bundle.proofs.laws.Frame.{pair-good, right-good, length-good, range-good, framed, frame-accepted}
 use Rattle.bundle.proofs.laws.Matrices.{good-invertible, invertible-good}
 use Rattle.bundle.proofs.laws.Parts.{at-bytes, part-refused, part-behind, part-here, part-long}
 use Rattle.bundle.proofs.laws.Search.{none-all, all-none, at-bad, bad-at}

@@ -1,6 +1,6 @@
 -- Laws, not definitions: the test for a matrix without an inverse is exact, and a matrix with two equal rows has none.
 -- Assumes nothing.
-use mathlib.Core.Bool.{Bool, true, false, not}
+use mathlib.Core.Bool.{false, not}
 use mathlib.Core.List.{List}
 use mathlib.Core.Logic.{_≢_}
 use mathlib.Core.Path.{_≡_, refl, sym, ap, _∙_}

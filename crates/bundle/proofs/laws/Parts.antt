@@ -1,15 +1,14 @@
 -- Laws, not definitions: the parts of the sections by number: where they lie, where they are empty, and that they are bytes.
 -- Assumes nothing.
 use mathlib.Core.List.{List, []}
-use mathlib.Core.Path.{_≡_, refl, sym, ap, _∙_, subst}
-use Prim.Native.Nat.{ℕ, zero, suc, _+_, _-_, _*_, _/_, _≤_, _<_}
+use mathlib.Core.Path.{_≡_, refl, sym, ap, _∙_}
+use Prim.Native.Nat.{ℕ, suc, _+_, _-_, _*_, _≤_, _<_}
 use native.Mathlib.Decide.{decLt}
 use native.Mathlib.Nat.{mul-le-mul-right, suc-mul}
 use native.Mathlib.Omega.{arith}
 use lib.ListN.{length, take, drop, length-take, length-drop, drop-of-length-le}
 use lib.Seq.{take-nil, drop-nil, drop-drop, ext-getD, getD-take, getD-drop}
 use Rattle.bits.specs.Bytes.{Bytes}
-use Rattle.bits.specs.Lists.{at}
 use Rattle.bits.proofs.laws.Lists.{at-past}
 use Rattle.bundle.specs.Format.{partCount, partSize, sectionLength, offset, frame, whenAccepted, sectionOf, partOf, partAt}
 use Rattle.bundle.specs.declared.answer.Judgement.{Judgement}

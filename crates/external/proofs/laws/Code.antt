@@ -2,20 +2,20 @@
 -- Assumes nothing.
 use mathlib.Core.Bool.{Bool, true, false, cond, _&&_}
 use mathlib.Core.List.{List}
-use mathlib.Core.Path.{_≡_, refl, sym, ap, ap₂, _∙_, subst}
-use Prim.Native.Nat.{ℕ, _+_, _-_, _*_, _/_, _%_, _≤_, _<_}
+use mathlib.Core.Path.{_≡_, refl, sym, ap, ap₂, _∙_}
+use Prim.Native.Nat.{ℕ, _+_, _*_, _/_, _%_, _≤_, _<_}
 use native.Mathlib.Nat.{zero-add}
 use native.Mathlib.Omega.{arith}
 use lib.Dec.{eqb}
 use lib.ListN.{length}
 use borrow.Author.Tests.{eq-eqb, ne-eqb, eqb-true}
-use Rattle.bits.specs.Bytes.{Bytes, number, numberOf, bytesOf}
+use Rattle.bits.specs.Bytes.{Bytes, number, bytesOf}
 use Rattle.bits.specs.Elimination.{Inversion, inverse, singular, invert}
 use Rattle.bits.specs.Encodings.{encode, decode}
 use Rattle.bits.specs.Lists.{at, tabulate}
 use Rattle.bits.specs.Matrices.{product, RowsFit, Invertible, matrixOf}
 use Rattle.bits.specs.Nibbles.{pack, nibble, packed}
-use Rattle.bits.specs.Words.{rowsOf, stored, hasInverse, withInverse}
+use Rattle.bits.specs.Words.{rowsOf, hasInverse, withInverse}
 use Rattle.bits.proofs.laws.Bytes.{matrixOf-fits}
 use Rattle.bits.proofs.laws.Groups.{joined-same}
 use Rattle.bits.proofs.laws.Inverses.{answered, exact}

@@ -1,32 +1,28 @@
 -- Laws, not definitions: uncoding undoes coding and coding undoes uncoding.
 -- Assumes nothing.
-use mathlib.Core.Bool.{Bool, true, false}
 use mathlib.Core.List.{List}
 use mathlib.Core.Logic.{⊎-elim}
-use mathlib.Core.Path.{_≡_, refl, sym, ap, _∙_, subst}
-use Prim.Native.Nat.{ℕ, _+_, _-_, _*_, _/_, _^_, _≤_, _<_}
+use mathlib.Core.Path.{_≡_, sym, ap, _∙_}
+use Prim.Native.Nat.{ℕ, _+_, _*_, _/_, _≤_, _<_}
 use native.Mathlib.Omega.{arith}
-use lib.ListN.{length}
 use Rattle.bits.specs.Bytes.{Bytes, Block, numberOf, bytesOf}
-use Rattle.bits.specs.Elimination.{Inversion, inverse, singular, invert}
 use Rattle.bits.specs.Encodings.{encode, decode, Permutation}
 use Rattle.bits.specs.Inverses.{UndoesBothWays}
 use Rattle.bits.specs.Lists.{at}
-use Rattle.bits.specs.Matrices.{product, Undoes, RowsFit, Invertible, matrixOf}
+use Rattle.bits.specs.Matrices.{product, Undoes, RowsFit, Invertible}
 use Rattle.bits.specs.Nibbles.{nibble, packed}
-use Rattle.bits.proofs.laws.Bytes.{numberOf-lt, length-bytesOf, bytesOf-bytes, bytesOf-block, numberOf-bytesOf, bytesOf-numberOf, matrixOf-fits}
+use Rattle.bits.proofs.laws.Bytes.{numberOf-lt, bytesOf-block, numberOf-bytesOf, bytesOf-numberOf, matrixOf-fits}
 use Rattle.bits.proofs.laws.Encodings as single
 use Rattle.bits.proofs.laws.Inverses.{answered, exact}
 use Rattle.bits.proofs.laws.Matrices.{product-lt}
 use Rattle.bits.proofs.laws.Nibbles.{length-packed, at-packed, packed-ext, packed-nibbles, packed-bytes, nibble-lt, parity}
 use Rattle.bundle.specs.Format.{encodings, encodingOf, inputMatrix, outputMatrix, inputMatrixPart, outputMatrixPart}
 use Rattle.bundle.specs.Judge.{judge}
-use Rattle.bundle.specs.Judgements.{Sound}
 use Rattle.bundle.specs.declared.answer.Judgement.the-variants.{Accepted}
 use Rattle.bundle.proofs.laws.Judgements.{accepted-sound}
 use Rattle.bundle.proofs.laws.Parts.{at-bytes}
-use Rattle.external.specs.Coding.{encodeNibbles, decodeNibbles, multiply, rowsIn, inverseOf, encodeBy, decodeBy, encodeInput, decodeInput, outputFirst, encodeOutput, decodeOutput}
-use Rattle.external.specs.Undoing.{Undone, Undoing}
+use Rattle.external.specs.Coding.{encodeNibbles, decodeNibbles, multiply, inverseOf, encodeBy, decodeBy, encodeInput, decodeInput, outputFirst, encodeOutput, decodeOutput}
+use Rattle.external.specs.Undoing.{Undoing}
 
 -- Nibble q of packed bytes, where only the nibbles that are packed are known to be below 16.
 nibble-of : (n : ℕ) (f : ℕ → ℕ) → ((j : ℕ) → j < 2 * n → f j < 16) → (q : ℕ) → q < 2 * n → nibble (packed n f) q ≡ f q

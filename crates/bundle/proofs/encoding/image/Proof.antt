@@ -1,5 +1,5 @@
 -- `bundle::encoding::image` meets its contract. Assumes nothing.
-use mathlib.Core.Path.{_≡_, sym, ap, _∙_}
+use mathlib.Core.Path.{sym, ap, _∙_}
 use Rattle.bits.specs.Encodings.{imagesOf}
 use Rattle.bits.specs.Nibbles.{nibble}
 use Rattle.bits.proofs.laws.Lists.{at-past}

@@ -1,8 +1,6 @@
 -- `bundle::encoding::nibble` meets its contract. Assumes nothing.
-use mathlib.Core.Path.{_≡_, sym, ap, _∙_}
-use Prim.Native.Nat.{ℕ, _/_, _%_}
-use Rattle.bits.specs.Lists.{at}
-use Rattle.bits.specs.Nibbles.{half, nibble}
+use mathlib.Core.Path.{sym}
+use Prim.Native.Nat.{_/_}
 use Rattle.bundle.proofs.laws.Encodings.{nibble-past, nibble-high, nibble-low}
 use native.Mathlib.Omega.{arith}
 use borrow.Author.Needs.{needs}

@@ -1,5 +1,5 @@
 -- `bundle::encoding::place` meets its contract. Assumes nothing.
-use mathlib.Core.Path.{_≡_, sym, _∙_}
+use mathlib.Core.Path.{sym, _∙_}
 use Prim.Native.Nat.{_≤_, _-_}
 use Rattle.bits.specs.Encodings.{imagesOf}
 use Rattle.bundle.proofs.laws.Encodings.{Passed, passed-none, passed-more, passed-here, passed-all, images-long}

@@ -1,5 +1,5 @@
 -- `bundle::frame::end_before` meets its contract. Assumes nothing.
-use mathlib.Core.Path.{_≡_, ap₂, _∙_}
+use mathlib.Core.Path.{ap₂, _∙_}
 use Prim.Native.Nat.{_+_}
 use Rattle.bundle.proofs.laws.Code.{before-first, before-next}
 use borrow.Author.Needs.{needs}

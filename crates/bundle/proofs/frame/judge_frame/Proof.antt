@@ -1,5 +1,5 @@
 -- `bundle::frame::judge_frame` meets its contract. Assumes nothing.
-use mathlib.Core.Path.{_≡_, sym, _∙_}
+use mathlib.Core.Path.{sym, _∙_}
 use Rattle.bundle.specs.declared.answer.Found.the-variants.{At, Nothing}
 use Rattle.bundle.proofs.laws.Code.{frame-short, frame-long, frame-pairs}
 use Rattle.bundle.proofs.laws.Frame.{sizes}

@@ -1,5 +1,5 @@
 -- `bundle::frame::pair_bad` meets its contract. Assumes nothing.
-use mathlib.Core.Path.{_≡_, sym, _∙_}
+use mathlib.Core.Path.{sym, _∙_}
 use Rattle.bundle.proofs.laws.Code.{pair-length, pair-order, pair-end, pair-right}
 use borrow.Author.Needs.{needs}
 use Rattle.bundle.proofs.frame.pair_bad.Statement.{statement}

@@ -1,8 +1,5 @@
 -- `bundle::judge::first_bad_matrix` meets its contract. Assumes nothing.
-use mathlib.Core.Path.{_≡_, sym, ap, ap₂, _∙_}
-use Prim.Native.Nat.{_*_, _≤_}
-use lib.ListN.{length}
-use Rattle.bundle.specs.Format.{sectionLength}
+use mathlib.Core.Path.{_∙_}
 use Rattle.bundle.proofs.laws.Code.{section-search, section-room}
 use borrow.Author.Needs.{needs}
 use Rattle.bundle.proofs.judge.first_bad_matrix.Statement.{statement}

@@ -1,5 +1,5 @@
 -- `bundle::judge::judge_bundle` meets its contract. Assumes nothing.
-use mathlib.Core.Path.{_≡_, sym, _∙_}
+use mathlib.Core.Path.{sym, _∙_}
 use Rattle.bundle.proofs.laws.Code.{judge-frame, judge-encodings, judge-rest}
 use borrow.Author.Needs.{needs}
 use Rattle.bundle.proofs.judge.judge_bundle.Statement.{statement}

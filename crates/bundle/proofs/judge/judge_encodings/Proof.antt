@@ -1,6 +1,6 @@
 -- `bundle::judge::judge_encodings` meets its contract. Assumes nothing.
-use mathlib.Core.Path.{_≡_, sym, ap, _∙_}
-use Rattle.bundle.specs.Format.{encodings, partCount}
+use mathlib.Core.Path.{sym, _∙_}
+use Rattle.bundle.specs.Format.{partCount}
 use Rattle.bundle.specs.declared.answer.Found.the-variants.{At, Nothing}
 use Rattle.bundle.proofs.laws.Code.{encodings-judged}
 use borrow.Author.Needs.{needs}

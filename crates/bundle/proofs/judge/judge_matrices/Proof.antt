@@ -1,7 +1,5 @@
 -- `bundle::judge::judge_matrices` meets its contract. Assumes nothing.
-use mathlib.Core.Path.{_≡_, sym, refl, _∙_}
-use Prim.Native.Nat.{_≤_}
-use lib.ListN.{length}
+use mathlib.Core.Path.{sym, refl, _∙_}
 use Rattle.bundle.specs.Format.{partCount, partSize}
 use Rattle.bundle.proofs.laws.Code.{matrices-byte, matrices-column, matrices-input, matrices-output, matrices-good, block-room}
 use native.Mathlib.Omega.{arith}

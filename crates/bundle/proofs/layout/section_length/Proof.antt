@@ -1,5 +1,5 @@
 -- `bundle::layout::section_length` meets its contract. Assumes nothing.
-use mathlib.Core.Path.{_≡_, ap₂}
+use mathlib.Core.Path.{ap₂}
 use Prim.Native.Nat.{_*_}
 use Rattle.bundle.specs.Format.{sectionLength}
 use Rattle.bundle.proofs.laws.Code.{product-le}

@@ -1,7 +1,7 @@
 -- `bundle::search::first_singular` meets its contract. Assumes nothing.
-use mathlib.Core.Path.{_≡_, sym, subst, _∙_}
-use Prim.Native.Nat.{ℕ, _+_, _-_, _*_, _≤_}
-use lib.ListN.{length, take, drop, length-take, length-drop}
+use mathlib.Core.Path.{_≡_, sym, _∙_}
+use Prim.Native.Nat.{_-_, _≤_}
+use lib.ListN.{length-take, length-drop}
 use Rattle.bundle.specs.Search.{first, firstFrom}
 use Rattle.bundle.proofs.laws.Code.{singularIn, matrix-cut}
 use Rattle.bundle.proofs.laws.Parts.{parts-within}

@@ -1,8 +1,7 @@
 -- `bundle::search::marked` meets its contract. Assumes nothing.
-use mathlib.Core.Path.{_≡_, sym, ap, ap₂, _∙_}
+use mathlib.Core.Path.{_≡_, sym, ap, _∙_}
 use Prim.Native.Nat.{ℕ, suc, _-_, _/_, _%_, _^_}
 use lib.Dec.{eqb}
-use Rattle.bits.specs.Vectors.{bit}
 use Rattle.bits.proofs.laws.Vectors.{bit-shift}
 use native.Mathlib.Omega.{arith}
 use borrow.Author.Needs.{needs}

@@ -1,5 +1,5 @@
 -- `bundle::search::no_inverse` meets its contract. Assumes nothing.
-use mathlib.Core.Path.{_≡_, sym, ap, _∙_}
+use mathlib.Core.Path.{sym, ap, _∙_}
 use mathlib.Core.Bool.{not}
 use Rattle.bundle.proofs.laws.Code.{read-rows, inverse-told}
 use native.Mathlib.Omega.{arith}

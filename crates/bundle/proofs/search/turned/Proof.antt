@@ -1,6 +1,6 @@
 -- `bundle::search::turned` meets its contract. Assumes nothing.
-use mathlib.Core.Path.{_≡_, sym, ap, _∙_}
-use Prim.Native.Nat.{ℕ, suc, _-_, _*_, _%_, _^_, _<_}
+use mathlib.Core.Path.{_≡_, ap, _∙_}
+use Prim.Native.Nat.{ℕ, suc, _-_, _%_, _^_, _<_}
 use native.Mathlib.Nat.{one-mul, mod-eq-of-lt}
 use lib.Bits.{bitXor}
 use lib.Pow.{pow-lt}

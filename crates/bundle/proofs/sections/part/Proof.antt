@@ -1,5 +1,4 @@
 -- `bundle::sections::part` meets its contract. Assumes nothing.
-use mathlib.Core.Path.{_≡_}
 use Rattle.bundle.proofs.laws.Code.{inside, past}
 use Rattle.bundle.proofs.laws.Parts.{part-cut}
 use native.Mathlib.Omega.{arith}

@@ -1,8 +1,7 @@
 -- `bundle::sections::part_at` meets its contract. Assumes nothing.
-use mathlib.Core.Path.{_≡_, ap₂, _∙_, subst, sym}
+use mathlib.Core.Path.{ap₂, _∙_}
 use mathlib.Core.List.{List}
-use Prim.Native.Nat.{ℕ, _*_, _/_}
-use lib.ListN.{length}
+use Prim.Native.Nat.{ℕ}
 use Rattle.bundle.specs.Format.{partAt, partOf}
 use Rattle.bundle.proofs.laws.Code.{multiple}
 use native.Mathlib.Omega.{arith}

@@ -1,5 +1,5 @@
 -- `bundle::sections::section` meets its contract. Assumes nothing.
-use mathlib.Core.Path.{_≡_, sym, _∙_}
+use mathlib.Core.Path.{sym, _∙_}
 use Rattle.bundle.proofs.laws.Code.{section-cut, section-end}
 use Rattle.bundle.proofs.laws.Frame.{sizes, framed, section-none}
 use native.Mathlib.Omega.{arith}

@@ -1,5 +1,5 @@
 -- `external::block::decode_nibbles` meets its contract. Assumes nothing.
-use mathlib.Core.Path.{_≡_, refl, sym, subst, _∙_}
+use mathlib.Core.Path.{_≡_, refl, subst, _∙_}
 use Prim.Native.Nat.{ℕ, _+_, _-_, _*_, _≤_}
 use lib.ListN.{length, take, length-set}
 use Rattle.bits.specs.Encodings.{decode, Permutation}

@@ -1,7 +1,7 @@
 -- `external::block::decoded` meets its contract. Assumes nothing.
-use mathlib.Core.Path.{_≡_, ap, ap₂, _∙_}
+use mathlib.Core.Path.{ap, ap₂, _∙_}
 use mathlib.Core.List.{List}
-use Prim.Native.Nat.{ℕ, _+_, _*_, _/_, _%_, _<_}
+use Prim.Native.Nat.{ℕ, _+_, _*_, _/_, _%_}
 use Rattle.bits.specs.Encodings.{imagesOf, decode}
 use Rattle.bits.proofs.laws.Encodings.{decode-lt}
 use Rattle.bundle.specs.Format.{encodingOf}

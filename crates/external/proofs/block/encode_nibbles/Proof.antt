@@ -1,6 +1,6 @@
 -- `external::block::encode_nibbles` meets its contract. Assumes nothing.
-use mathlib.Core.Path.{_≡_, refl, sym, _∙_}
-use Prim.Native.Nat.{ℕ, _-_, _≤_}
+use mathlib.Core.Path.{_≡_, refl, _∙_}
+use Prim.Native.Nat.{_-_, _≤_}
 use lib.ListN.{length, take, length-set}
 use Rattle.bits.specs.Encodings.{encode}
 use Rattle.bits.specs.Lists.{tabulate}

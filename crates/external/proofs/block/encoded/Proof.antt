@@ -1,9 +1,8 @@
 -- `external::block::encoded` meets its contract. Assumes nothing.
-use mathlib.Core.Path.{_≡_, ap, ap₂, _∙_}
+use mathlib.Core.Path.{ap, ap₂, _∙_}
 use mathlib.Core.List.{List}
 use Prim.Native.Nat.{ℕ, _+_, _*_, _/_, _%_}
 use Rattle.bits.specs.Encodings.{imagesOf, encode}
-use Rattle.bits.specs.Nibbles.{pack}
 use borrow.Author.Needs.{needs}
 use Rattle.external.proofs.block.encoded.Statement.{statement}
 use Rattle.external.proofs.block.encoded.Tie as tie

@@ -1,10 +1,10 @@
 -- `external::block::unmultiply` meets its contract. Assumes nothing.
-use mathlib.Core.Path.{_≡_, ap, _∙_}
+use mathlib.Core.Path.{ap, _∙_}
 use mathlib.Core.List.{List}
 use Prim.Native.Nat.{ℕ}
 use Rattle.bits.specs.Elimination.{invert}
 use Rattle.bits.specs.Matrices.{matrixOf}
-use Rattle.bits.specs.Words.{rowsOf, hasInverse}
+use Rattle.bits.specs.Words.{hasInverse}
 use Rattle.bundle.proofs.laws.Code.{read-rows}
 use Rattle.external.specs.Coding.{multiply}
 use Rattle.external.proofs.laws.Code.{inverse-rows, never}

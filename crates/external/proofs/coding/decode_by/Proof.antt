@@ -1,5 +1,5 @@
 -- `external::coding::decode_by` meets its contract. Assumes nothing.
-use mathlib.Core.Path.{_≡_, refl, sym, _∙_}
+use mathlib.Core.Path.{refl, sym, _∙_}
 use Rattle.external.proofs.laws.Code.{done-ready, nibbles-long, wrote, kept-bundle, kept-length, decoded-by, encodings-ten}
 use Rattle.external.proofs.laws.Coding.{accepted-encodings}
 use native.Mathlib.Omega.{arith}

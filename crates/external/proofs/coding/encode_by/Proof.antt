@@ -1,5 +1,5 @@
 -- `external::coding::encode_by` meets its contract. Assumes nothing.
-use mathlib.Core.Path.{_≡_, refl, sym, _∙_}
+use mathlib.Core.Path.{refl, sym, _∙_}
 use Rattle.external.proofs.laws.Code.{done-ready, multiply-long, wrote, kept-bundle, kept-length, encoded-by}
 use borrow.Author.Needs.{needs}
 use Rattle.external.proofs.coding.encode_by.Statement.{statement}

@@ -1,11 +1,6 @@
 -- `external::coding::encode_input` meets its contract. Assumes nothing.
-use mathlib.Core.Path.{_≡_, ap, _∙_}
-use mathlib.Core.List.{List}
-use Prim.Native.Nat.{ℕ}
-use Rattle.bits.specs.Matrices.{matrixOf}
-use Rattle.bundle.specs.Format.{encodingOf}
-use Rattle.external.specs.Calls.{answer, written}
-use Rattle.external.specs.Coding.{encodeBy, encodeInput}
+use mathlib.Core.Path.{_∙_}
+use Rattle.external.specs.Coding.{encodeInput}
 use Rattle.external.proofs.laws.Code.{matrix-room}
 use native.Mathlib.Omega.{arith}
 use borrow.Author.Needs.{needs}

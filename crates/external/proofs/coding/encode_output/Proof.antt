@@ -1,7 +1,5 @@
 -- `external::coding::encode_output` meets its contract. Assumes nothing.
-use mathlib.Core.Path.{_≡_, ap, _∙_}
-use mathlib.Core.List.{List}
-use Prim.Native.Nat.{ℕ}
+use mathlib.Core.Path.{_∙_}
 use Rattle.external.specs.Coding.{encodeOutput}
 use Rattle.external.proofs.laws.Code.{matrix-room, output-first}
 use native.Mathlib.Omega.{arith}

@@ -1,5 +1,5 @@
 -- `external::coding::ready` meets its contract. Assumes nothing.
-use mathlib.Core.Path.{_≡_, sym, _∙_}
+use mathlib.Core.Path.{sym, _∙_}
 use Rattle.external.proofs.laws.Code.{answer-bundle, answer-from, answer-to, answer-done}
 use borrow.Author.Needs.{needs}
 use Rattle.external.proofs.coding.ready.Statement.{statement}
