@@ -3,6 +3,7 @@ use mathlib.Core.Bool.{_&&_, cond}
 use mathlib.Core.List.{List}
 use Prim.Native.Nat.{ℕ}
 use lib.Dec.{eqb}
+use lib.ListN.{length}
 use Rattle.bundle.specs.Judge.{judge}
 use Rattle.bundle.specs.Refusals as refusals
 use Rattle.bundle.specs.declared.answer.Judgement.{Judgement}
@@ -36,3 +37,7 @@ abbrev pub written : Coded → List ℕ → List ℕ → List ℕ
 written Done new old = new
 written (Bundle r) new old = old
 written BlockLength new old = old
+
+-- What a call that codes by f leaves of the lent block o, where it reads the block x.
+abbrev pub leaves : ℕ → List ℕ → (List ℕ → List ℕ) → List ℕ → List ℕ → List ℕ
+leaves nr l f x o = written (answer nr l (length x) (length o)) (f x) o

@@ -10,7 +10,7 @@ ghost use Rattle.bits.specs.Words.{hasInverse};
 ghost use Rattle.bundle.specs.Format.{encodingOf};
 ghost use Rattle.bundle.specs.Judge.{judge};
 ghost use Rattle.bundle.specs.declared.answer.Judgement.the-variants.{Accepted};
-ghost use Rattle.external.specs.Calls.{causeOf, secondOf, answer, written};
+ghost use Rattle.external.specs.Calls.{causeOf, secondOf, answer, leaves};
 ghost use Rattle.external.specs.Coding.{encodeBy, decodeBy, encodeInput, decodeInput, encodeOutput, decodeOutput};
 use crate::block;
 use bundle::answer;
@@ -18,6 +18,9 @@ use bundle::answer::Judgement;
 use bundle::answer::Refusal;
 use bundle::judge;
 use bundle::parts;
+
+// The first of the output coding's 32 encodings.
+const OUTPUT_FIRST: usize = 6016;
 
 // What a call answers: `causeOf` and `secondOf` of specs/ give document 01's two numbers of each.
 pub enum Coded {
@@ -69,7 +72,7 @@ fn encode_by(bundle: &[u8], first: usize, m: &[u8], block: &[u8], out: &mut [u8]
     requires { ⌜ first ≤ 6016 ⌝ }
     requires { ⌜ (judge 10 (now bundle) ≡ Accepted → 2048 ≤ length (now m)) ⌝ }
     ensures answer { λ r. ⌜ r ≡ answer 10 (now (bundle .entry)) (length (now (block .entry))) (length (now (out .entry))) ⌝ }
-    ensures block { λ _. ⌜ now (out .exit) ≡ written (answer 10 (now (bundle .entry)) (length (now (block .entry))) (length (now (out .entry)))) (encodeBy (encodingOf 10 (now (bundle .entry))) first (matrixOf 16 (now (m .entry))) (now (block .entry))) (now (out .entry)) ⌝ }
+    ensures block { λ _. ⌜ now (out .exit) ≡ leaves 10 (now (bundle .entry)) (encodeBy (encodingOf 10 (now (bundle .entry))) first (matrixOf 16 (now (m .entry)))) (now (block .entry)) (now (out .entry)) ⌝ }
 {
     match ready(bundle, block.len(), out.len()) {
         Coded::Done => {
@@ -88,7 +91,7 @@ fn decode_by(bundle: &[u8], first: usize, m: &[u8], block: &[u8], out: &mut [u8]
     requires { ⌜ first ≤ 6016 ⌝ }
     requires { ⌜ (judge 10 (now bundle) ≡ Accepted → (2048 ≤ length (now m)) × (hasInverse (invert 128 (matrixOf 16 (now m))) ≡ true)) ⌝ }
     ensures answer { λ r. ⌜ r ≡ answer 10 (now (bundle .entry)) (length (now (block .entry))) (length (now (out .entry))) ⌝ }
-    ensures block { λ _. ⌜ now (out .exit) ≡ written (answer 10 (now (bundle .entry)) (length (now (block .entry))) (length (now (out .entry)))) (decodeBy (encodingOf 10 (now (bundle .entry))) first (matrixOf 16 (now (m .entry))) (now (block .entry))) (now (out .entry)) ⌝ }
+    ensures block { λ _. ⌜ now (out .exit) ≡ leaves 10 (now (bundle .entry)) (decodeBy (encodingOf 10 (now (bundle .entry))) first (matrixOf 16 (now (m .entry)))) (now (block .entry)) (now (out .entry)) ⌝ }
 {
     match ready(bundle, block.len(), out.len()) {
         Coded::Done => {
@@ -105,7 +108,7 @@ fn decode_by(bundle: &[u8], first: usize, m: &[u8], block: &[u8], out: &mut [u8]
 // The input coding of a block ("coding").
 pub fn encode_input(bundle: &[u8], block: &[u8], out: &mut [u8]) -> Coded
     ensures answer { λ r. ⌜ r ≡ answer 10 (now (bundle .entry)) (length (now (block .entry))) (length (now (out .entry))) ⌝ }
-    ensures block { λ _. ⌜ now (out .exit) ≡ written (answer 10 (now (bundle .entry)) (length (now (block .entry))) (length (now (out .entry)))) (encodeInput 10 (now (bundle .entry)) (now (block .entry))) (now (out .entry)) ⌝ }
+    ensures block { λ _. ⌜ now (out .exit) ≡ leaves 10 (now (bundle .entry)) (encodeInput 10 (now (bundle .entry))) (now (block .entry)) (now (out .entry)) ⌝ }
 {
     encode_by(bundle, 0, parts::input_matrix_part(bundle), block, out)
 }
@@ -113,7 +116,7 @@ pub fn encode_input(bundle: &[u8], block: &[u8], out: &mut [u8]) -> Coded
 // The input coding taken off ("uncoding").
 pub fn decode_input(bundle: &[u8], block: &[u8], out: &mut [u8]) -> Coded
     ensures answer { λ r. ⌜ r ≡ answer 10 (now (bundle .entry)) (length (now (block .entry))) (length (now (out .entry))) ⌝ }
-    ensures block { λ _. ⌜ now (out .exit) ≡ written (answer 10 (now (bundle .entry)) (length (now (block .entry))) (length (now (out .entry)))) (decodeInput 10 (now (bundle .entry)) (now (block .entry))) (now (out .entry)) ⌝ }
+    ensures block { λ _. ⌜ now (out .exit) ≡ leaves 10 (now (bundle .entry)) (decodeInput 10 (now (bundle .entry))) (now (block .entry)) (now (out .entry)) ⌝ }
 {
     decode_by(bundle, 0, parts::input_matrix_part(bundle), block, out)
 }
@@ -121,15 +124,27 @@ pub fn decode_input(bundle: &[u8], block: &[u8], out: &mut [u8]) -> Coded
 // The output coding of a block.
 pub fn encode_output(bundle: &[u8], block: &[u8], out: &mut [u8]) -> Coded
     ensures answer { λ r. ⌜ r ≡ answer 10 (now (bundle .entry)) (length (now (block .entry))) (length (now (out .entry))) ⌝ }
-    ensures block { λ _. ⌜ now (out .exit) ≡ written (answer 10 (now (bundle .entry)) (length (now (block .entry))) (length (now (out .entry)))) (encodeOutput 10 (now (bundle .entry)) (now (block .entry))) (now (out .entry)) ⌝ }
+    ensures block { λ _. ⌜ now (out .exit) ≡ leaves 10 (now (bundle .entry)) (encodeOutput 10 (now (bundle .entry))) (now (block .entry)) (now (out .entry)) ⌝ }
 {
-    encode_by(bundle, 6016, parts::output_matrix_part(bundle), block, out)
+    encode_by(
+        bundle,
+        OUTPUT_FIRST,
+        parts::output_matrix_part(bundle),
+        block,
+        out,
+    )
 }
 
 // The output coding taken off.
 pub fn decode_output(bundle: &[u8], block: &[u8], out: &mut [u8]) -> Coded
     ensures answer { λ r. ⌜ r ≡ answer 10 (now (bundle .entry)) (length (now (block .entry))) (length (now (out .entry))) ⌝ }
-    ensures block { λ _. ⌜ now (out .exit) ≡ written (answer 10 (now (bundle .entry)) (length (now (block .entry))) (length (now (out .entry)))) (decodeOutput 10 (now (bundle .entry)) (now (block .entry))) (now (out .entry)) ⌝ }
+    ensures block { λ _. ⌜ now (out .exit) ≡ leaves 10 (now (bundle .entry)) (decodeOutput 10 (now (bundle .entry))) (now (block .entry)) (now (out .entry)) ⌝ }
 {
-    decode_by(bundle, 6016, parts::output_matrix_part(bundle), block, out)
+    decode_by(
+        bundle,
+        OUTPUT_FIRST,
+        parts::output_matrix_part(bundle),
+        block,
+        out,
+    )
 }

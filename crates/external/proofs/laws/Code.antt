@@ -128,16 +128,16 @@ pub done-ready : (nr : ℕ) (l : List ℕ) (from to : ℕ) → answer nr l from 
 unfolding answer
 done-ready nr l from to = ready-by nr l from to (judge nr l) refl
 
--- ---- the lent block
+-- ---- what a call answers and leaves
 module _ (c : Coded) (new old : List ℕ) where
-  pub wrote : Done ≡ c → (out : List ℕ) → out ≡ new → out ≡ written c new old
-  wrote e out q = q ∙ ap (λ (x : Coded). written x new old) e
+  pub done : Done ≡ c → (out : List ℕ) → out ≡ new → (Done ≡ c) × (out ≡ written c new old)
+  done e out q = (e, q ∙ ap (λ (x : Coded). written x new old) e)
 
-  pub kept-bundle : (r : Refusal) → Bundle r ≡ c → old ≡ written c new old
-  kept-bundle r e = ap (λ (x : Coded). written x new old) e
+  pub bundle-refused : (r : Refusal) → Bundle r ≡ c → (Bundle r ≡ c) × (old ≡ written c new old)
+  bundle-refused r e = (e, ap (λ (x : Coded). written x new old) e)
 
-  pub kept-length : BlockLength ≡ c → old ≡ written c new old
-  kept-length e = ap (λ (x : Coded). written x new old) e
+  pub block-refused : BlockLength ≡ c → (BlockLength ≡ c) × (old ≡ written c new old)
+  block-refused e = (e, ap (λ (x : Coded). written x new old) e)
 
 -- ---- both steps
 module _ (E : ℕ → List ℕ) (first : ℕ) (m x t o : List ℕ) where

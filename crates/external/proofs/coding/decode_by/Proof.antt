@@ -1,6 +1,6 @@
 -- `external::coding::decode_by` meets its contract. Assumes nothing.
 use mathlib.Core.Path.{refl, sym, _∙_}
-use Rattle.external.proofs.laws.Code.{done-ready, nibbles-long, wrote, kept-bundle, kept-length, decoded-by, encodings-ten}
+use Rattle.external.proofs.laws.Code.{done-ready, nibbles-long, done, bundle-refused, block-refused, decoded-by, encodings-ten}
 use Rattle.external.proofs.laws.Coding.{accepted-encodings}
 use native.Mathlib.Omega.{arith}
 use borrow.Author.Needs.{needs}
@@ -40,19 +40,13 @@ same-length : tie.Need-same-length
 same-length c = search needs
 
 returns : tie.Need-returns
-returns c =
-    let e = sym (c .before .before .before .before .before .before .before .before .enum-told .given .1) ∙ c .before .before .before .before .before .before .before .before .before .before .ready .ensures in
-    (e, wrote _ _ _ e _ (decoded-by _ _ _ _ _ _ (c .before .before .before .before .before .before .decode-nibbles .ensures) (c .before .before .unmultiply .ensures)))
+returns c = done _ _ _ (sym (c .before .before .before .before .before .before .before .before .enum-told .given .1) ∙ c .before .before .before .before .before .before .before .before .before .before .ready .ensures) _ (decoded-by _ _ _ _ _ _ (c .before .before .before .before .before .before .decode-nibbles .ensures) (c .before .before .unmultiply .ensures))
 
 returns-2 : tie.Need-returns-2
-returns-2 c =
-    let e = sym (c .before .r .given .1) ∙ c .before .before .before .ready .ensures in
-    (e, kept-bundle _ _ _ _ e)
+returns-2 c = bundle-refused _ _ _ _ (sym (c .before .r .given .1) ∙ c .before .before .before .ready .ensures)
 
 returns-3 : tie.Need-returns-3
-returns-3 c =
-    let e = sym (c .enum-told2 .given .1) ∙ c .before .before .ready .ensures in
-    (e, kept-length _ _ _ e)
+returns-3 c = block-refused _ _ _ (sym (c .enum-told2 .given .1) ∙ c .before .before .ready .ensures)
 
 pub decode-by-spec : {M : Type 1} → statement M
 decode-by-spec =

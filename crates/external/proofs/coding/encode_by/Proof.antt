@@ -1,6 +1,6 @@
 -- `external::coding::encode_by` meets its contract. Assumes nothing.
 use mathlib.Core.Path.{refl, sym, _∙_}
-use Rattle.external.proofs.laws.Code.{done-ready, multiply-long, wrote, kept-bundle, kept-length, encoded-by}
+use Rattle.external.proofs.laws.Code.{done-ready, multiply-long, done, bundle-refused, block-refused, encoded-by}
 use borrow.Author.Needs.{needs}
 use Rattle.external.proofs.coding.encode_by.Statement.{statement}
 use Rattle.external.proofs.coding.encode_by.Tie as tie
@@ -37,19 +37,13 @@ same-length : tie.Need-same-length
 same-length c = search needs
 
 returns : tie.Need-returns
-returns c =
-    let e = sym (c .before .before .before .before .before .before .before .before .enum-told .given .1) ∙ c .before .before .before .before .before .before .before .before .before .before .ready .ensures in
-    (e, wrote _ _ _ e _ (encoded-by _ _ _ _ _ _ (c .before .before .before .before .before .before .multiply .ensures) (c .before .before .encode-nibbles .ensures)))
+returns c = done _ _ _ (sym (c .before .before .before .before .before .before .before .before .enum-told .given .1) ∙ c .before .before .before .before .before .before .before .before .before .before .ready .ensures) _ (encoded-by _ _ _ _ _ _ (c .before .before .before .before .before .before .multiply .ensures) (c .before .before .encode-nibbles .ensures))
 
 returns-2 : tie.Need-returns-2
-returns-2 c =
-    let e = sym (c .before .r .given .1) ∙ c .before .before .before .ready .ensures in
-    (e, kept-bundle _ _ _ _ e)
+returns-2 c = bundle-refused _ _ _ _ (sym (c .before .r .given .1) ∙ c .before .before .before .ready .ensures)
 
 returns-3 : tie.Need-returns-3
-returns-3 c =
-    let e = sym (c .enum-told2 .given .1) ∙ c .before .before .ready .ensures in
-    (e, kept-length _ _ _ e)
+returns-3 c = block-refused _ _ _ (sym (c .enum-told2 .given .1) ∙ c .before .before .ready .ensures)
 
 pub encode-by-spec : {M : Type 1} → statement M
 encode-by-spec =
