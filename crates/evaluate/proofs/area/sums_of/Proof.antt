@@ -5,8 +5,7 @@ use lib.ListN.{length}
 use Rattle.bits.specs.Lists.{at}
 use Rattle.bits.proofs.laws.Filled.{Filled, filled-none, filled-more, filled-all}
 use Rattle.network.specs.Lookups.{sums}
-use Rattle.evaluate.proofs.laws.Area.{sum-within}
-use borrow.Author.Needs.{needs}
+use Rattle.evaluate.proofs.laws.Area.{sum-place}
 use native.Mathlib.Omega.{arith}
 use Rattle.evaluate.proofs.area.sums_of.Statement.{statement}
 use Rattle.evaluate.proofs.area.sums_of.Tie as tie
@@ -21,25 +20,25 @@ loop-holds : tie.Need-loop-holds Inv-loop μ-loop
 loop-holds c = filled-none 16 _ _ refl
 
 div-r : tie.Need-div-r Inv-loop μ-loop
-div-r c = omega arith
+div-r c = omega (arith, sum-place (c .before .before .args .width) (c .before .loop .q) (c .before .before .pre) (omega arith))
 
 mul-r : tie.Need-mul-r Inv-loop μ-loop
-mul-r c = omega arith
+mul-r c = omega (arith, sum-place (c .before .before .args .width) (c .before .loop .q) (c .before .before .pre) (omega arith))
 
 mul-r-2 : tie.Need-mul-r-2 Inv-loop μ-loop
-mul-r-2 c = omega arith
+mul-r-2 c = omega (arith, sum-place (c .before .before .args .width) (c .before .loop .q) (c .before .before .pre) (omega arith))
 
 rem-r : tie.Need-rem-r Inv-loop μ-loop
-rem-r c = omega arith
+rem-r c = omega (arith, sum-place (c .before .before .args .width) (c .before .loop .q) (c .before .before .pre) (omega arith))
 
 add-r : tie.Need-add-r Inv-loop μ-loop
-add-r c = omega arith
+add-r c = omega (arith, sum-place (c .before .before .args .width) (c .before .loop .q) (c .before .before .pre) (omega arith))
 
 element-copy-out-r : tie.Need-element-copy-out-r Inv-loop μ-loop
-element-copy-out-r c = omega arith
+element-copy-out-r c = omega (arith, sum-place (c .before .before .args .width) (c .before .loop .q) (c .before .before .pre) (omega arith))
 
 array-write-r : tie.Need-array-write-r Inv-loop μ-loop
-array-write-r c = search needs
+array-write-r c = omega arith
 
 add-q : tie.Need-add-q Inv-loop μ-loop
 add-q c = omega arith

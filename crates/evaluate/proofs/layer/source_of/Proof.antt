@@ -1,5 +1,9 @@
 -- `evaluate::layer::source_of` meets its contract. Assumes nothing.
-use Rattle.network.specs.Stages.{shifted}
+use mathlib.Core.Path.{sym, ap, _∙_}
+use Rattle.network.specs.Stages.{sourceOf, shifted}
+use Rattle.network.specs.declared.stage.Stage.{Stage}
+use Rattle.evaluate.proofs.laws.Layers.{shifted-lt}
+use native.Mathlib.Omega.{arith}
 use borrow.Author.Needs.{needs}
 use Rattle.evaluate.proofs.layer.source_of.Statement.{statement}
 use Rattle.evaluate.proofs.layer.source_of.Tie as tie
@@ -29,15 +33,13 @@ returns : tie.Need-returns
 returns c = search needs
 
 returns-2 : tie.Need-returns-2
-unfolding shifted
-returns-2 c = search needs
+returns-2 c = (c .shifted-from .ensures ∙ sym (ap (λ (s : Stage). sourceOf shifted s (c .before .before .before .args .p)) (c .before .enum-told2 .given .1)), omega (arith, c .shifted-from .ensures, shifted-lt (c .before .before .before .args .p)))
 
 returns-3 : tie.Need-returns-3
 returns-3 c = search needs
 
 returns-4 : tie.Need-returns-4
-unfolding shifted
-returns-4 c = search needs
+returns-4 c = (c .shifted-from2 .ensures ∙ sym (ap (λ (s : Stage). sourceOf shifted s (c .before .before .before .args .p)) (c .before .enum-told4 .given .1)), omega (arith, c .shifted-from2 .ensures, shifted-lt (c .before .before .before .args .p)))
 
 returns-5 : tie.Need-returns-5
 returns-5 c = search needs
