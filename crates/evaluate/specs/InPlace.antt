@@ -6,6 +6,7 @@ use mathlib.Core.Logic.{_⊎_}
 use mathlib.Core.Path.{_≡_}
 use Prim.Native.Nat.{ℕ, suc, _/_, _%_, _<_}
 use lib.Dec.{eqb}
+use lib.ListN.{length}
 use Rattle.bits.specs.Nibbles.{pack}
 use Rattle.network.specs.Lookups.{Shape, lookupIn}
 use Rattle.network.specs.Order.{layerLookups}
@@ -26,6 +27,7 @@ pub record Fits (s : Stage) (j long : ℕ) : Type 0 where
 abbrev pub XorIn : ℕ → ℕ → Type 0
 XorIn m x = ((m ≡ 16) × (x < 480)) ⊎ ((m ≡ 4) × (x < 96))
 
--- Lookup j over the table t turns standing bytes s and area a into s′ and a′, at any count.
+-- Lookup j over the table t turns standing bytes s and area a into s′ and a′ of the same length, at any count.
 pub record LookedUp (S : Shape) (j : ℕ) (t s a s′ a′ : List ℕ) : Type 0 where
   pub walk : (n : ℕ) → lookupIn S j t (record { count = n; standing = s; area = a }) ≡ record { count = suc n; standing = s′; area = a′ }
+  pub long : length a′ ≡ length a

@@ -26,7 +26,11 @@ fn with_half(x: u8, q: usize, v: u8) -> u8
     requires { ⌜ v < 16 ⌝ }
     ensures { λ r. ⌜ r ≡ withHalf x q v ⌝ }
 {
-    if q % 2 == 0 { v * 16 + x % 16 } else { x / 16 * 16 + v }
+    if q % 2 == 0 {
+        v * 16 + x % 16
+    } else {
+        x / 16 * 16 + v
+    }
 }
 
 // An XOR lookup: the nibbles at `sum` and `added` pick the nibble of the table that replaces the first.
@@ -48,6 +52,7 @@ pub fn xor(area: &mut [u8; 256], table: &[u8], sum: usize, added: usize)
 pub fn spread(area: &mut [u8; 256], table: &[u8], width: usize, p: usize, s: u8)
     requires { ⌜ (length (now area) ≡ 256) × (width ≤ 16) × (p < 16) × (length (now table) ≡ 256 * width) ⌝ }
     ensures { λ _. ⌜ now (area .exit) ≡ paste (now (area .entry)) (p * width) (drop (s * width) (now (table .entry))) width ⌝ }
+    ensures { λ _. ⌜ length (now (area .exit)) ≡ length (now (area .entry)) ⌝ }
 {
     let to = p * width;
     let from = wide(s) * width;

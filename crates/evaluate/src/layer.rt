@@ -7,7 +7,6 @@ ghost use Rattle.network.specs.Lookups.{xorArea};
 ghost use Rattle.network.specs.Order.{layerLookups};
 ghost use Rattle.network.specs.Stages.{widthOf, sourceOf, shapeAt, shifted};
 ghost use Rattle.evaluate.specs.InPlace.{Fits, XorIn, LookedUp};
-
 use crate::area;
 use network::stage::Stage;
 
@@ -69,7 +68,13 @@ fn xor_in(area: &mut [u8; 256], table: &[u8], width: usize, x: usize)
 
 // Lookup j of a stage or half: the standing bytes afterwards. "The last XOR of a stage or half copies the sums to the standing bytes and
 // zeroes the area."
-pub fn lookup_in(standing: [u8; 16], area: &mut [u8; 256], table: &[u8], stage: Stage, j: usize) -> [u8; 16]
+pub fn lookup_in(
+    standing: [u8; 16],
+    area: &mut [u8; 256],
+    table: &[u8],
+    stage: Stage,
+    j: usize,
+) -> [u8; 16]
     requires { ⌜ Fits stage j (length (now table)) × (length (now area) ≡ 256) ⌝ }
     ensures { λ r. ⌜ LookedUp (shapeAt shifted stage) j (now (table .entry)) standing (now (area .entry)) r (now (area .exit)) ⌝ }
 {

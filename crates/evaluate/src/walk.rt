@@ -6,8 +6,9 @@ ghost use Rattle.network.specs.Stages.{shifted};
 ghost use Rattle.whitebox.specs.Calls as calls;
 ghost use Rattle.evaluate.specs.Answers.{startedReply, movedReply, fetchedReply};
 ghost use Rattle.evaluate.specs.Held.{held};
-
-use crate::answer::{Fetched, Moved, Started};
+use crate::answer::Fetched;
+use crate::answer::Moved;
+use crate::answer::Started;
 use crate::layer;
 use network::stage::place_of;
 
@@ -40,7 +41,11 @@ pub fn start(block: &[u8]) -> Opening
     if block.len() != 16 {
         return Opening {
             answer: Started::BlockLength,
-            walk: Walk { count: 0, standing: standing, area: area },
+            walk: Walk {
+                count: 0,
+                standing: standing,
+                area: area,
+            },
         };
     }
     let mut i = 0;
@@ -50,7 +55,11 @@ pub fn start(block: &[u8]) -> Opening
     }
     Opening {
         answer: Started::Done,
-        walk: Walk { count: 0, standing: standing, area: area },
+        walk: Walk {
+            count: 0,
+            standing: standing,
+            area: area,
+        },
     }
 }
 
@@ -81,16 +90,28 @@ pub fn move_to(walk: Walk, set: &[u8], stop: usize) -> Move
     ensures walk { λ r. ⌜ held (r .walk) ≡ calls.handed shifted 10 (calls.toStop (now (set .entry)) stop) (held walk) ⌝ }
 {
     if set.len() != 770048 {
-        return Move { answer: Moved::WrongLength, walk: walk };
+        return Move {
+            answer: Moved::WrongLength,
+            walk: walk,
+        };
     }
     if stop > 3008 {
-        return Move { answer: Moved::BadStop, walk: walk };
+        return Move {
+            answer: Moved::BadStop,
+            walk: walk,
+        };
     }
     if stop < walk.count {
-        return Move { answer: Moved::BadStop, walk: walk };
+        return Move {
+            answer: Moved::BadStop,
+            walk: walk,
+        };
     }
     let w = advance(walk, set, stop);
-    Move { answer: Moved::Done, walk: w }
+    Move {
+        answer: Moved::Done,
+        walk: w,
+    }
 }
 
 // A move of one lookup, with only that table lent.
@@ -100,11 +121,17 @@ pub fn move_one(walk: Walk, table: &[u8]) -> Move
 {
     let n = walk.count;
     if n >= 3008 {
-        return Move { answer: Moved::BadStop, walk: walk };
+        return Move {
+            answer: Moved::BadStop,
+            walk: walk,
+        };
     }
     let p = place_of(n);
     if table.len() != p.size {
-        return Move { answer: Moved::WrongLength, walk: walk };
+        return Move {
+            answer: Moved::WrongLength,
+            walk: walk,
+        };
     }
     let mut w = walk;
     let stage = p.stage;
@@ -113,7 +140,10 @@ pub fn move_one(walk: Walk, table: &[u8]) -> Move
     let next = layer::lookup_in(s, &mut w.area, table, stage, index);
     w.standing = next;
     w.count = n + 1;
-    Move { answer: Moved::Done, walk: w }
+    Move {
+        answer: Moved::Done,
+        walk: w,
+    }
 }
 
 // The answer: the standing bytes, once all lookups are made.

@@ -59,7 +59,7 @@ module _ (n : ℕ) (p : Place) (h : n < 3008) (e : p ≡ placeOf 10 n) where
   part-fits set l =
       let k : p .offset + p .size - p .offset ≡ p .size = omega arith in
       let long : length (take (p .offset + p .size - p .offset) (drop (p .offset) set)) ≡ p .size =
-          simp (length-take, length-drop) (omega (arith, part-within)) in
+      simp (length-take, length-drop) (omega (arith, part-within)) in
       subst (λ (x : ℕ). Fits (p .stage) (p .index) x) (sym long) fits-at
 
   -- The lookup made in place is the walk's.
@@ -84,8 +84,8 @@ module _ (n : ℕ) (p : Place) (h : n < 3008) (e : p ≡ placeOf 10 n) where
         let d : stop - n ≡ suc (stop - (n + 1)) = omega arith in
         let k : p .offset + p .size - p .offset ≡ p .size = omega arith in
         let part : take (tableSize 10 n) (drop (tableOffset 10 n) set) ≡ t =
-            ap (λ (p : Place). take (p .size) (drop (p .offset) set)) (sym e)
-            ∙ ap (λ (x : ℕ). take x (drop (p .offset) set)) (sym k) ∙ sym f in
+        ap (λ (p : Place). take (p .size) (drop (p .offset) set)) (sym e)
+        ∙ ap (λ (x : ℕ). take x (drop (p .offset) set)) (sym k) ∙ sym f in
         ap (λ (x : ℕ). advance shifted 10 set x w) d
         ∙ ap (advance shifted 10 set (stop - (n + 1))) (ap (λ (t : List ℕ). lookup (shapes shifted 10) t w) part ∙ looked-up)
 
@@ -154,18 +154,20 @@ module _ (table : List ℕ) (w : Walk) where
 
     pub wrong-table : (length table ≡ p .size → ⊥) → Answers (oneLookup table) w (refused 9 0) w
     unfolding reply handed judgeOne lowest
-    wrong-table n =
-        (rw (starred .all-lookups, lt-ltb (w .count) 3008 h, size-is, ne-eqb (length table) (p .size) n),
-        rw (starred .all-lookups, lt-ltb (w .count) 3008 h, size-is, ne-eqb (length table) (p .size) n))
+    wrong-table n = (
+      rw (starred .all-lookups, lt-ltb (w .count) 3008 h, size-is, ne-eqb (length table) (p .size) n),
+      rw (starred .all-lookups, lt-ltb (w .count) 3008 h, size-is, ne-eqb (length table) (p .size) n),
+    )
 
     pub one-done : (s′ a′ : List ℕ) → length table ≡ p .size
         → LookedUp (shapeAt shifted (p .stage)) (p .index) table (w .standing) (w .area) s′ a′
         → Answers (oneLookup table) w accepted (record { count = w .count + 1; standing = s′; area = a′ })
     unfolding reply handed judgeOne lowest
-    one-done s′ a′ l u =
-        (rw (starred .all-lookups, lt-ltb (w .count) 3008 h, size-is, eq-eqb (length table) (p .size) l),
-        rw (starred .all-lookups, lt-ltb (w .count) 3008 h, size-is, eq-eqb (length table) (p .size) l)
-        (sym (looked-up (w .count) p h e table (w .standing) (w .area) s′ a′ u)))
+    one-done s′ a′ l u = (
+      rw (starred .all-lookups, lt-ltb (w .count) 3008 h, size-is, eq-eqb (length table) (p .size) l),
+      rw (starred .all-lookups, lt-ltb (w .count) 3008 h, size-is, eq-eqb (length table) (p .size) l)
+          (sym (looked-up (w .count) p h e table (w .standing) (w .area) s′ a′ u)),
+    )
 
 -- ---- fetch
 abbrev pub Fetches : List ℕ → Walk → Reply → List ℕ → Type 0
@@ -178,12 +180,14 @@ module _ (block : List ℕ) (w : Walk) where
 
   pub unfinished : length block ≡ 16 → (w .count ≡ 3008 → ⊥) → Fetches block w (refused 12 0) block
   unfolding reply blockLeft judgeFetch lowest
-  unfinished l n =
-      (rw (eq-eqb (length block) 16 l, starred .all-lookups, ne-eqb (w .count) 3008 n),
-      rw (eq-eqb (length block) 16 l, starred .all-lookups, ne-eqb (w .count) 3008 n))
+  unfinished l n = (
+    rw (eq-eqb (length block) 16 l, starred .all-lookups, ne-eqb (w .count) 3008 n),
+    rw (eq-eqb (length block) 16 l, starred .all-lookups, ne-eqb (w .count) 3008 n),
+  )
 
   pub fetched : (left : List ℕ) → length block ≡ 16 → w .count ≡ 3008 → left ≡ w .standing → Fetches block w accepted left
   unfolding reply blockLeft judgeFetch lowest
-  fetched left l n e =
-      (rw (eq-eqb (length block) 16 l, starred .all-lookups, eq-eqb (w .count) 3008 n),
-      rw (eq-eqb (length block) 16 l, starred .all-lookups, eq-eqb (w .count) 3008 n) e)
+  fetched left l n e = (
+    rw (eq-eqb (length block) 16 l, starred .all-lookups, eq-eqb (w .count) 3008 n),
+    rw (eq-eqb (length block) 16 l, starred .all-lookups, eq-eqb (w .count) 3008 n) e,
+  )

@@ -7,7 +7,7 @@ use Prim.Native.Nat.{ℕ, suc, _+_, _-_, _*_, _≤_, _<_}
 use native.Mathlib.Numerals.{add-one}
 use native.Mathlib.Omega.{arith}
 use borrow.Author.Tests.{eq-eqb, ne-eqb, lt-ltb, le-ltb}
-use lib.ListN.{length, drop, length-set}
+use lib.ListN.{length, drop, length-set, length-replicate}
 use lib.Seq.{paste}
 use Rattle.bits.specs.Lists.{at}
 use Rattle.bits.specs.Nibbles.{nibble, setNibble, pack}
@@ -98,15 +98,17 @@ next : ℕ → List ℕ → List ℕ → Walk
 next n s a = record { count = suc n; standing = s; area = a }
 
 module _ (S : Shape) (j m : ℕ) (t s a : List ℕ) (e : m ≡ S .width) where
-  pub by-spread : (i : ℕ) (a′ : List ℕ) → j < 16 → i ≡ S .source j → a′ ≡ paste a (j * m) (drop (at s i * m) t) m → LookedUp S j t s a s a′
+  pub by-spread : (i : ℕ) (a′ : List ℕ) → j < 16 → i ≡ S .source j → a′ ≡ paste a (j * m) (drop (at s i * m) t) m
+      → length a′ ≡ length a → LookedUp S j t s a s a′
   unfolding lookupIn spreadArea next
-  by-spread i a′ h f g =
+  by-spread i a′ h f g l =
       record {
         walk =
-          λ n.
-          rw (lt-ltb j 16 h)
-          (ap (next n s)
-          (ap₂ (λ (m i : ℕ). paste a (j * m) (drop (at s i * m) t) m) (sym e) (sym f) ∙ sym g));
+            λ n.
+            rw (lt-ltb j 16 h)
+            (ap (next n s)
+            (ap₂ (λ (m i : ℕ). paste a (j * m) (drop (at s i * m) t) m) (sym e) (sym f) ∙ sym g));
+        long = l;
       }
 
   pub by-xor : (a′ : List ℕ) → 16 ≤ j → a′ ≡ xorArea m (j - 16) t a → (suc j ≡ layerLookups m → ⊥) → LookedUp S j t s a s a′
@@ -114,18 +116,20 @@ module _ (S : Shape) (j m : ℕ) (t s a : List ℕ) (e : m ≡ S .width) where
   by-xor a′ h g l =
       record {
         walk =
-          λ n.
-          rw (le-ltb j 16 h, ← e, ne-eqb (suc j) (layerLookups m) l)
-          (ap (next n s) (sym g));
+            λ n.
+            rw (le-ltb j 16 h, ← e, ne-eqb (suc j) (layerLookups m) l)
+            (ap (next n s) (sym g));
+        long = ap length g ∙ length-xor m (j - 16) t a;
       }
 
   pub by-last : (x s′ a′ : List ℕ) → 16 ≤ j → x ≡ xorArea m (j - 16) t a → suc j ≡ layerLookups m → s′ ≡ sums m x → a′ ≡ zeroArea
-      → LookedUp S j t s a s′ a′
+      → length a ≡ 256 → LookedUp S j t s a s′ a′
   unfolding lookupIn next
-  by-last x s′ a′ h g l p q =
+  by-last x s′ a′ h g l p q b =
       record {
         walk =
-          λ n.
-          rw (le-ltb j 16 h, ← e, eq-eqb (suc j) (layerLookups m) l)
-          (ap₂ (next n) (ap (sums m) (sym g) ∙ sym p) (sym q));
+            λ n.
+            rw (le-ltb j 16 h, ← e, eq-eqb (suc j) (layerLookups m) l)
+            (ap₂ (next n) (ap (sums m) (sym g) ∙ sym p) (sym q));
+        long = ap length q ∙ length-replicate {A = ℕ} 256 0 ∙ sym b;
       }

@@ -2,8 +2,8 @@
 use mathlib.Core.Path.{_≡_, refl, sym, ap, _∙_, subst}
 use Prim.Native.Nat.{ℕ, _+_, _-_, _*_, _≤_, _<_}
 use native.Mathlib.Nat.{mul-le-mul-right}
-use lib.ListN.{length, drop, length-set}
-use lib.Seq.{paste, paste-zero}
+use lib.ListN.{length, drop, length-drop}
+use lib.Seq.{paste, paste-zero, length-paste}
 use Rattle.evaluate.proofs.laws.Area.{copy-more}
 use native.Mathlib.Omega.{arith}
 use Rattle.evaluate.proofs.area.spread.Statement.{statement}
@@ -69,7 +69,10 @@ returns c =
     let L = c .before .loop in
     let A = c .before .before .before .before .args in
     let d : L .b ≡ A .width = omega arith in
-    L .inv .4 ∙ cc
+    let e : L .area ≡ paste (A .area .now) (A .p * A .width) (drop (c .before .before .wide .result * A .width) (A .table .now)) (A .width) = L .inv .4 ∙ ap (paste (A .area .now) (A .p * A .width) (drop (c .before .before .wide .result * A .width) (A .table .now))) d in (
+      e ∙ cc,
+      ap length e ∙ length-paste (A .area .now) (A .p * A .width) (drop (c .before .before .wide .result * A .width) (A .table .now)) (A .width) (omega arith) (omega (arith, length-drop (c .before .before .wide .result * A .width) (A .table .now))),
+    )
 
 pub spread-spec : {M : Type 1} → statement M
 spread-spec =

@@ -29,7 +29,7 @@ spread-requires c κs =
 returns : tie.Need-returns
 returns c =
     let A = c .before .before .before .before .before .before .args in
-    by-spread (shapeAt shifted (A .stage)) (A .j) (c .before .before .before .before .width-of .result) (A .table .now) (A .t1) (A .area .now) (c .before .before .before .before .width-of .ensures) (c .before .before .source-of .result) (c .spread .last .0) (c .before .before .before .if1 .taken) (c .before .before .source-of .ensures .0) (c .spread .ensures)
+    by-spread (shapeAt shifted (A .stage)) (A .j) (c .before .before .before .before .width-of .result) (A .table .now) (A .t1) (A .area .now) (c .before .before .before .before .width-of .ensures) (c .before .before .source-of .result) (c .spread .last .0) (c .before .before .before .if1 .taken) (c .before .before .source-of .ensures .0) (c .spread .ensures .0) (c .spread .ensures .1)
 
 xor-in-requires : tie.Need-xor-in-requires
 xor-in-requires c κs =
@@ -66,7 +66,7 @@ clear-requires c κs =
 returns-3 : tie.Need-returns-3
 returns-3 c =
     let A = c .before .before .before .before .before .before .before .before .before .before .before .args in
-    by-last (shapeAt shifted (A .stage)) (A .j) (c .before .before .before .before .before .before .before .before .before .width-of .result) (A .table .now) (A .t1) (A .area .now) (c .before .before .before .before .before .before .before .before .before .width-of .ensures) (c .before .before .before .before .before .before .xor-in .last .0) (c .before .before .sums-of .result) (c .clear .last .0) (omega (arith, c .before .before .before .before .before .before .before .before .if1 .left)) (c .before .before .before .before .before .before .xor-in .ensures) (sym (add-one (A .j)) ∙ c .before .before .before .before .if2 .left ∙ c .before .before .before .before .before .lookups-of .ensures) (c .before .before .sums-of .ensures) (c .clear .ensures)
+    by-last (shapeAt shifted (A .stage)) (A .j) (c .before .before .before .before .before .before .before .before .before .width-of .result) (A .table .now) (A .t1) (A .area .now) (c .before .before .before .before .before .before .before .before .before .width-of .ensures) (c .before .before .before .before .before .before .xor-in .last .0) (c .before .before .sums-of .result) (c .clear .last .0) (omega (arith, c .before .before .before .before .before .before .before .before .if1 .left)) (c .before .before .before .before .before .before .xor-in .ensures) (sym (add-one (A .j)) ∙ c .before .before .before .before .if2 .left ∙ c .before .before .before .before .before .lookups-of .ensures) (c .before .before .sums-of .ensures) (c .clear .ensures) (c .before .before .before .before .before .before .before .before .before .before .before .pre .1)
 
 pub lookup-in-spec : {M : Type 1} → statement M
 lookup-in-spec =
