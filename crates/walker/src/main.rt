@@ -1,10 +1,17 @@
 // The walker: reads a block and then a set to the end of the input, and holds one table of it. It prints the answer in hex, or the refusal.
 ghost use mathlib.Core.Path.{_≡_};
 ghost use lib.ListN.{length};
-
-use evaluate::answer::{Moved, Started, move_cause, start_cause};
-use evaluate::walk::{Move, Walk, fetch, move_one, start};
-use libc::{STDIN_FILENO, STDOUT_FILENO};
+use evaluate::answer::Moved;
+use evaluate::answer::Started;
+use evaluate::answer::move_cause;
+use evaluate::answer::start_cause;
+use evaluate::walk::Move;
+use evaluate::walk::Walk;
+use evaluate::walk::fetch;
+use evaluate::walk::move_one;
+use evaluate::walk::start;
+use libc::STDIN_FILENO;
+use libc::STDOUT_FILENO;
 use network::stage::place_of;
 
 fn wide(x: u8) -> u64 {
