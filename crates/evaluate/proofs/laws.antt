@@ -1,3 +1,4 @@
 pub mod Area
 pub mod Layers
 pub mod Calls
+pub mod Demands
