@@ -10,7 +10,7 @@ use Rattle.evaluate.proofs.walk.move_one.Statement.{statement}
 use Rattle.evaluate.proofs.walk.move_one.Tie as tie
 
 returns : tie.Need-returns
-returns c = no-lookup (c .before .before .args .table .now) (held (c .before .before .args .walk)) (c .if1 .taken)
+returns c = no-lookup (c .before .before .args .table .now) (held (c .before .before .args .walk)) (omega (arith, c .if1 .taken))
 
 place-of-requires : tie.Need-place-of-requires
 place-of-requires c κs = search needs
