@@ -1,0 +1,4 @@
+pub mod Area
+pub mod Layers
+pub mod Calls
+pub mod Demands

@@ -1,0 +1,135 @@
+-- Laws, not definitions: a lookup of a stage or half, made in place.
+-- Assumes nothing.
+use mathlib.Core.List.{List}
+use mathlib.Core.Logic.{⊎-elim, _⊎_, inl, inr}
+use mathlib.Core.Path.{_≡_, refl, sym, ap, ap₂, _∙_, subst}
+use Prim.Native.Nat.{ℕ, suc, _+_, _-_, _*_, _≤_, _<_}
+use native.Mathlib.Numerals.{add-one}
+use native.Mathlib.Omega.{arith}
+use borrow.Author.Tests.{eq-eqb, ne-eqb, lt-ltb, le-ltb}
+use lib.ListN.{length, drop, length-set, length-replicate}
+use lib.Seq.{paste}
+use Rattle.bits.specs.Lists.{at}
+use Rattle.bits.specs.Nibbles.{nibble, setNibble, pack}
+use Rattle.network.specs.Lookups.{Walk, Shape, spreadArea, xorArea, sums, zeroArea, lookupIn}
+use Rattle.network.specs.Order.{xors, layerLookups, sumPlace, addedPlace}
+use Rattle.network.specs.Stages.{widthOf, shifted}
+use Rattle.network.specs.declared.stage.Stage.{Stage}
+use Rattle.network.specs.declared.stage.Stage.the-variants.{Entry, First, Second, Exit, Beyond}
+use Rattle.network.proofs.laws.Stages.{lookups-16, lookups-4}
+use Rattle.evaluate.specs.InPlace.{Fits, XorIn, LookedUp}
+
+-- ---- an XOR lookup at its two places
+xor-at : (m x p q : ℕ) (t a : List ℕ) → p ≡ sumPlace m x → q ≡ addedPlace m x
+    → setNibble a p (nibble t (pack (nibble a p) (nibble a q))) ≡ xorArea m x t a
+unfolding xorArea
+xor-at m x p q t a e f = ap₂ (λ (p q : ℕ). setNibble a p (nibble t (pack (nibble a p) (nibble a q)))) e f
+
+-- Entry and exit: one group of 16 words.
+pub below-480 : (m x : ℕ) → m ≡ 16 → XorIn m x → x < 480
+below-480 m x e k = ⊎-elim (λ p. p .1) (λ p. absurd (omega arith)) k
+
+pub xor-16 : (m x p q : ℕ) (t a : List ℕ) → m ≡ 16 → p ≡ sumPlace 16 x → q ≡ addedPlace 16 x
+    → setNibble a p (nibble t (pack (nibble a p) (nibble a q))) ≡ xorArea m x t a
+xor-16 m x p q t a e f g = xor-at 16 x p q t a f g ∙ ap (λ (m : ℕ). xorArea m x t a) (sym e)
+
+-- A half: four groups of 4 words.
+pub is-4 : (m x : ℕ) → (m ≡ 16 → ⊥) → XorIn m x → (m ≡ 4) × (x < 96)
+is-4 m x n k = ⊎-elim (λ p. absurd (n (p .0))) (λ p. p) k
+
+pub xor-4 : (m x p q : ℕ) (t a : List ℕ) → m ≡ 4 → p ≡ sumPlace 4 x → q ≡ addedPlace 4 x
+    → setNibble a p (nibble t (pack (nibble a p) (nibble a q))) ≡ xorArea m x t a
+xor-4 m x p q t a e f g = xor-at 4 x p q t a f g ∙ ap (λ (m : ℕ). xorArea m x t a) (sym e)
+
+pub length-xor : (m x : ℕ) (t a : List ℕ) → length (xorArea m x t a) ≡ length a
+unfolding xorArea setNibble
+length-xor m x t a = simp length-set
+
+pub shifted-lt : (p : ℕ) → shifted p < 16
+unfolding shifted
+shifted-lt p = omega arith
+
+-- ---- what a lookup that fits has
+lookups-0 : layerLookups 0 ≡ 16
+unfolding layerLookups xors
+lookups-0 = refl
+
+pub record Spreads (m long : ℕ) : Type 0 where
+  pub narrow : m ≤ 16
+  pub sized : long ≡ 256 * m
+
+pub spreads : (s : Stage) (j long : ℕ) → Fits s j long → j < 16 → Spreads (widthOf s) long
+spreads s j long f h = record { narrow = most s; sized = rw (lt-ltb j 16 h) at (f .sized) }
+  where
+    most : (s : Stage) → widthOf s ≤ 16
+    most Entry = omega arith
+    most (First r) = omega arith
+    most (Second r) = omega arith
+    most Exit = omega arith
+    most Beyond = omega arith
+
+pub record Xors (m j long : ℕ) : Type 0 where
+  pub within : XorIn m (j - 16)
+  pub sized : long ≡ 128
+
+pub xors-in : (s : Stage) (j long : ℕ) → Fits s j long → 16 ≤ j → Xors (widthOf s) j long
+xors-in s j long f h = record { within = kind s (f .within); sized = rw (le-ltb j 16 h) at (f .sized) }
+  where
+    kind : (s : Stage) → j < layerLookups (widthOf s) → XorIn (widthOf s) (j - 16)
+    kind Entry w = inl (refl, omega (arith, lookups-16))
+    kind (First r) w = inr (refl, omega (arith, lookups-4))
+    kind (Second r) w = inr (refl, omega (arith, lookups-4))
+    kind Exit w = inl (refl, omega (arith, lookups-16))
+    kind Beyond w = absurd (omega (arith, lookups-0))
+
+pub record Groups (m j : ℕ) : Type 0 where
+  pub width : (m ≡ 4) ⊎ (m ≡ 16)
+  pub below : j < 496
+
+pub groups : (s : Stage) (j long : ℕ) → Fits s j long → 16 ≤ j → Groups (widthOf s) j
+groups s j long f h =
+    ⊎-elim
+    (λ p. record { width = inr (p .0); below = omega arith })
+    (λ p. record { width = inl (p .0); below = omega arith })
+    (xors-in s j long f h .within)
+
+-- ---- the lookup, from what its parts left
+next : ℕ → List ℕ → List ℕ → Walk
+next n s a = record { count = suc n; standing = s; area = a }
+
+module _ (S : Shape) (j m : ℕ) (t s a : List ℕ) (e : m ≡ S .width) where
+  pub by-spread : (i : ℕ) (a′ : List ℕ) → j < 16 → i ≡ S .source j → a′ ≡ paste a (j * m) (drop (at s i * m) t) m
+      → length a′ ≡ length a → LookedUp S j t s a s a′
+  unfolding lookupIn spreadArea next
+  by-spread i a′ h f g l =
+      record {
+        walk =
+            λ n.
+            rw (lt-ltb j 16 h)
+            (ap (next n s)
+            (ap₂ (λ (m i : ℕ). paste a (j * m) (drop (at s i * m) t) m) (sym e) (sym f) ∙ sym g));
+        long = l;
+      }
+
+  pub by-xor : (a′ : List ℕ) → 16 ≤ j → a′ ≡ xorArea m (j - 16) t a → (suc j ≡ layerLookups m → ⊥) → LookedUp S j t s a s a′
+  unfolding lookupIn next
+  by-xor a′ h g l =
+      record {
+        walk =
+            λ n.
+            rw (le-ltb j 16 h, ← e, ne-eqb (suc j) (layerLookups m) l)
+            (ap (next n s) (sym g));
+        long = ap length g ∙ length-xor m (j - 16) t a;
+      }
+
+  pub by-last : (x s′ a′ : List ℕ) → 16 ≤ j → x ≡ xorArea m (j - 16) t a → suc j ≡ layerLookups m → s′ ≡ sums m x → a′ ≡ zeroArea
+      → length a ≡ 256 → LookedUp S j t s a s′ a′
+  unfolding lookupIn next
+  by-last x s′ a′ h g l p q b =
+      record {
+        walk =
+            λ n.
+            rw (le-ltb j 16 h, ← e, eq-eqb (suc j) (layerLookups m) l)
+            (ap₂ (next n) (ap (sums m) (sym g) ∙ sym p) (sym q));
+        long = ap length q ∙ length-replicate {A = ℕ} 256 0 ∙ sym b;
+      }

@@ -1,0 +1,55 @@
+-- `evaluate::walk::start` meets its contract. Assumes nothing.
+use mathlib.Core.Path.{_≡_, refl, sym, ap, _∙_}
+use Prim.Native.Nat.{ℕ, _-_, _≤_, _<_}
+use lib.ListN.{length}
+use Rattle.bits.specs.Lists.{at}
+use Rattle.bits.proofs.laws.Filled.{Filled, filled-none, filled-more, copied}
+use Rattle.evaluate.proofs.laws.Calls.{start-refused, start-done}
+use native.Mathlib.Omega.{arith}
+use Rattle.evaluate.proofs.walk.start.Statement.{statement}
+use Rattle.evaluate.proofs.walk.start.Tie as tie
+
+abbrev Inv-loop : tie.InvT-loop
+Inv-loop block standing₀ area i₀ standing i = Filled 16 (at block) standing i
+
+abbrev μ-loop : tie.MeasureT-loop
+μ-loop block standing₀ area i₀ standing i = 16 - i
+
+returns : tie.Need-returns Inv-loop μ-loop
+returns c = start-refused (c .before .args .block .now) (c .if1 .taken)
+
+loop-holds : tie.Need-loop-holds Inv-loop μ-loop
+loop-holds c = filled-none 16 _ _ refl
+
+shared-slice-read-standing : tie.Need-shared-slice-read-standing Inv-loop μ-loop
+shared-slice-read-standing c = omega arith
+
+array-write-standing : tie.Need-array-write-standing Inv-loop μ-loop
+array-write-standing c = omega arith
+
+add-i : tie.Need-add-i Inv-loop μ-loop
+add-i c = omega arith
+
+loop-less : tie.Need-loop-less Inv-loop μ-loop
+loop-less c = omega arith
+
+loop-again : tie.Need-loop-again Inv-loop μ-loop
+loop-again c = filled-more (c .before .before .loop .inv) (omega arith) refl
+
+returns-2 : tie.Need-returns-2 Inv-loop μ-loop
+returns-2 c = start-done (c .before .before .before .args .block .now) (c .before .loop .standing) (c .before .before .if1 .left) (copied (c .before .loop .inv) (omega arith) (c .before .before .if1 .left))
+
+pub start-spec : {M : Type 1} → statement M
+start-spec =
+    tie.close
+    (tie.spec
+    Inv-loop
+    μ-loop
+    returns
+    loop-holds
+    shared-slice-read-standing
+    array-write-standing
+    add-i
+    loop-less
+    loop-again
+    returns-2)

@@ -1,0 +1,90 @@
+// The spread area, changed in place.
+ghost use mathlib.Core.Logic.{_⊎_};
+ghost use mathlib.Core.Path.{_≡_};
+ghost use Prim.Native.Nat.{_+_, _*_, _%_, _<_, _≤_};
+ghost use lib.ListN.{length, drop};
+ghost use lib.Seq.{paste};
+ghost use Rattle.bits.specs.Nibbles.{half, nibble, setNibble, pack};
+ghost use Rattle.network.specs.Lookups.{sums, zeroArea};
+ghost use Rattle.evaluate.specs.InPlace.{withHalf};
+
+fn wide(x: u8) -> usize
+    ensures { λ r. ⌜ (r ≡ x) × (r < 256) ⌝ }
+{
+    x as usize
+}
+
+// The half of the byte x that is nibble q of a list.
+fn half_of(x: u8, q: usize) -> u8
+    ensures { λ r. ⌜ (r ≡ half (q % 2) x) × (r < 16) ⌝ }
+{
+    if q % 2 == 0 { x / 16 } else { x % 16 }
+}
+
+// The byte x with that half replaced by v.
+fn with_half(x: u8, q: usize, v: u8) -> u8
+    requires { ⌜ v < 16 ⌝ }
+    ensures { λ r. ⌜ r ≡ withHalf x q v ⌝ }
+{
+    if q % 2 == 0 {
+        v * 16 + x % 16
+    } else {
+        x / 16 * 16 + v
+    }
+}
+
+// An XOR lookup: the nibbles at `sum` and `added` pick the nibble of the table that replaces the first.
+pub fn xor(area: &mut [u8; 256], table: &[u8], sum: usize, added: usize)
+    requires { ⌜ (sum < 512) × (added < 512) × (length (now table) ≡ 128) ⌝ }
+    ensures { λ _. ⌜ now (area .exit) ≡ setNibble (now (area .entry)) sum (nibble (now (table .entry)) (pack (nibble (now (area .entry)) sum) (nibble (now (area .entry)) added))) ⌝ }
+{
+    let i = sum / 2;
+    let j = added / 2;
+    let a = half_of(area[i], sum);
+    let b = half_of(area[j], added);
+    let e = wide(a) * 16 + wide(b);
+    let k = e / 2;
+    let v = half_of(table[k], e);
+    area[i] = with_half(area[i], sum, v);
+}
+
+// A spread lookup: the byte s picks a word of the table, which becomes word p of the area.
+pub fn spread(area: &mut [u8; 256], table: &[u8], width: usize, p: usize, s: u8)
+    requires { ⌜ (length (now area) ≡ 256) × (width ≤ 16) × (p < 16) × (length (now table) ≡ 256 * width) ⌝ }
+    ensures { λ _. ⌜ now (area .exit) ≡ paste (now (area .entry)) (p * width) (drop (s * width) (now (table .entry))) width ⌝ }
+    ensures { λ _. ⌜ length (now (area .exit)) ≡ length (now (area .entry)) ⌝ }
+{
+    let to = p * width;
+    let from = wide(s) * width;
+    let mut b = 0;
+    while b < width {
+        area[to + b] = table[from + b];
+        b += 1;
+    }
+}
+
+// The sums: word 0 of each group.
+pub fn sums_of(area: &[u8; 256], width: usize) -> [u8; 16]
+    requires { ⌜ ((width ≡ 4) ⊎ (width ≡ 16)) ⌝ }
+    ensures { λ r. ⌜ r ≡ sums width (now (area .entry)) ⌝ }
+{
+    let mut r = [0u8; 16];
+    let mut q = 0;
+    while q < 16 {
+        r[q] = area[q / width * width * width + q % width];
+        q += 1;
+    }
+    r
+}
+
+// The area is made zero.
+pub fn clear(area: &mut [u8; 256])
+    requires { ⌜ length (now area) ≡ 256 ⌝ }
+    ensures { λ _. ⌜ now (area .exit) ≡ zeroArea ⌝ }
+{
+    let mut i = 0;
+    while i < 256 {
+        area[i] = 0;
+        i += 1;
+    }
+}

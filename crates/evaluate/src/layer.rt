@@ -1,0 +1,94 @@
+// A lookup of a stage or half, in place: the area is lent, and the standing bytes are handed back.
+ghost use mathlib.Core.Logic.{_⊎_};
+ghost use mathlib.Core.Path.{_≡_};
+ghost use Prim.Native.Nat.{_<_};
+ghost use lib.ListN.{length};
+ghost use Rattle.network.specs.Lookups.{xorArea};
+ghost use Rattle.network.specs.Order.{layerLookups};
+ghost use Rattle.network.specs.Stages.{widthOf, sourceOf, shapeAt, shifted};
+ghost use Rattle.evaluate.specs.InPlace.{Fits, XorIn, LookedUp};
+use crate::area;
+use network::stage::Stage;
+
+// The bytes of a word.
+fn width_of(stage: Stage) -> usize
+    ensures { λ r. ⌜ r ≡ widthOf stage ⌝ }
+{
+    match stage {
+        Stage::Entry => 16,
+        Stage::First(_) => 4,
+        Stage::Second(_) => 4,
+        Stage::Exit => 16,
+        Stage::Beyond => 0,
+    }
+}
+
+// The row shift of FIPS 197: "position p = 4c+q: read byte j = 4((c+q) mod 4)+q".
+fn shifted_from(p: usize) -> usize
+    requires { ⌜ p < 16 ⌝ }
+    ensures { λ r. ⌜ r ≡ shifted p ⌝ }
+{
+    4 * ((p / 4 + p % 4) % 4) + p % 4
+}
+
+// The standing byte that spread lookup p reads.
+fn source_of(stage: Stage, p: usize) -> usize
+    requires { ⌜ p < 16 ⌝ }
+    ensures { λ r. ⌜ (r ≡ sourceOf shifted stage p) × (r < 16) ⌝ }
+{
+    match stage {
+        Stage::Entry => p,
+        Stage::First(_) => shifted_from(p),
+        Stage::Second(_) => p,
+        Stage::Exit => shifted_from(p),
+        Stage::Beyond => p,
+    }
+}
+
+// All lookups of a stage or half.
+fn lookups_of(width: usize) -> usize
+    requires { ⌜ ((width ≡ 4) ⊎ (width ≡ 16)) ⌝ }
+    ensures { λ r. ⌜ r ≡ layerLookups width ⌝ }
+{
+    if width == 16 { 496 } else { 112 }
+}
+
+// XOR lookup x of a stage or half. Entry and exit have one group of 16 words, a half has four of 4 words.
+fn xor_in(area: &mut [u8; 256], table: &[u8], width: usize, x: usize)
+    requires { ⌜ XorIn width x × (length (now table) ≡ 128) ⌝ }
+    ensures { λ _. ⌜ now (area .exit) ≡ xorArea width x (now (table .entry)) (now (area .entry)) ⌝ }
+{
+    if width == 16 {
+        area::xor(area, table, x % 32, x + 32);
+    } else {
+        let group = x / 24 * 32;
+        area::xor(area, table, group + x % 8, group + 8 + x % 24);
+    }
+}
+
+// Lookup j of a stage or half: the standing bytes afterwards. "The last XOR of a stage or half copies the sums to the standing bytes and
+// zeroes the area."
+pub fn lookup_in(
+    standing: [u8; 16],
+    area: &mut [u8; 256],
+    table: &[u8],
+    stage: Stage,
+    j: usize,
+) -> [u8; 16]
+    requires { ⌜ Fits stage j (length (now table)) × (length (now area) ≡ 256) ⌝ }
+    ensures { λ r. ⌜ LookedUp (shapeAt shifted stage) j (now (table .entry)) standing (now (area .entry)) r (now (area .exit)) ⌝ }
+{
+    let width = width_of(stage);
+    if j < 16 {
+        let i = source_of(stage, j);
+        area::spread(area, table, width, j, standing[i]);
+        return standing;
+    }
+    xor_in(area, table, width, j - 16);
+    if j + 1 != lookups_of(width) {
+        return standing;
+    }
+    let sums = area::sums_of(area, width);
+    area::clear(area);
+    sums
+}
