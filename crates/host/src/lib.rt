@@ -1,6 +1,7 @@
 // The calls for a host program in C: numbers and byte slices, each slice a pointer and a length. A call returns 0 where it is accepted,
 // else cause * 65536 + the number returned with it.
 mod number;
+pub mod walk;
 
 ghost use mathlib.Core.Path.{_≡_};
 ghost use lib.ListN.{length};

@@ -9,7 +9,7 @@ use bundle::answer::Judgement;
 use external::coding;
 use external::coding::Coded;
 
-fn returned(cause: usize, second: usize) -> u32
+pub fn returned(cause: usize, second: usize) -> u32
     requires { ⌜ (cause < 16) × (second < 65536) ⌝ }
     ensures { λ r. ⌜ r ≡ returned cause second ⌝ }
 {
