@@ -1,0 +1,57 @@
+/* Tazhikko: white-box AES-128 table sets, for programs in C.
+ *
+ * Every call takes slices as a pointer and a length, of any length; a pointer may be null only where its length is 0. Lent memory that a
+ * call writes must not overlap what it reads. A call returns 0 where it is accepted, else a refusal: TAZHIKKO_CAUSE and TAZHIKKO_SECOND read
+ * its two numbers. A refused call leaves the lent memory as it was. */
+#ifndef TAZHIKKO_H
+#define TAZHIKKO_H
+
+#include <stddef.h>
+#include <stdint.h>
+
+#ifdef __cplusplus
+extern "C" {
+#endif
+
+/* Lengths in bytes. */
+#define TAZHIKKO_KEY_BYTES 16
+#define TAZHIKKO_BLOCK_BYTES 16
+#define TAZHIKKO_BUNDLE_MIN_BYTES 58408
+#define TAZHIKKO_BUNDLE_MAX_BYTES 65536
+#define TAZHIKKO_SET_BYTES 770048
+
+/* Why a call is refused; the lowest number that applies is given. */
+#define TAZHIKKO_KEY_LENGTH 1     /* the key is not of 16 bytes */
+#define TAZHIKKO_BUNDLE_LENGTH 2  /* the bundle is too short or too long */
+#define TAZHIKKO_SECTION 3        /* second number: the first bad pair, 0 to 4 */
+#define TAZHIKKO_ENCODING 4       /* second number: the first list that is no permutation */
+#define TAZHIKKO_BYTE_MATRIX 5    /* second number: the first byte matrix that has no inverse */
+#define TAZHIKKO_COLUMN_MATRIX 6  /* second number: the first column matrix that has no inverse */
+#define TAZHIKKO_BLOCK_MATRIX 7   /* second number: 0 input or both, 1 output only */
+#define TAZHIKKO_SET_LENGTH 9     /* the set is not of TAZHIKKO_SET_BYTES bytes */
+#define TAZHIKKO_BLOCK_LENGTH 10  /* a block, in or out, is not of 16 bytes */
+
+#define TAZHIKKO_CAUSE(refusal) ((refusal) / 65536u)
+#define TAZHIKKO_SECOND(refusal) ((refusal) % 65536u)
+
+/* The judgement of a bundle. */
+uint32_t tazhikko_judge_bundle(const uint8_t *bundle, size_t bundle_len);
+
+/* The input and the output coding of a block under a bundle, and both taken off again. */
+uint32_t tazhikko_encode_input(const uint8_t *bundle, size_t bundle_len, const uint8_t *block, size_t block_len, uint8_t *out, size_t out_len);
+uint32_t tazhikko_decode_input(const uint8_t *bundle, size_t bundle_len, const uint8_t *block, size_t block_len, uint8_t *out, size_t out_len);
+uint32_t tazhikko_encode_output(const uint8_t *bundle, size_t bundle_len, const uint8_t *block, size_t block_len, uint8_t *out, size_t out_len);
+uint32_t tazhikko_decode_output(const uint8_t *bundle, size_t bundle_len, const uint8_t *block, size_t block_len, uint8_t *out, size_t out_len);
+
+/* FIPS 197's AES-128. */
+uint32_t tazhikko_encipher(const uint8_t *key, size_t key_len, const uint8_t *block, size_t block_len, uint8_t *out, size_t out_len);
+uint32_t tazhikko_decipher(const uint8_t *key, size_t key_len, const uint8_t *block, size_t block_len, uint8_t *out, size_t out_len);
+
+/* The walk of a set over a block under the input coding: the answer is the cipher block under the output coding. */
+uint32_t tazhikko_walk(const uint8_t *set, size_t set_len, const uint8_t *block, size_t block_len, uint8_t *answer, size_t answer_len);
+
+#ifdef __cplusplus
+}
+#endif
+
+#endif
