@@ -1,7 +1,6 @@
 -- `evaluate::layer::lookup_in` meets its contract. Assumes nothing.
-use mathlib.Core.Logic.{⊎-elim, inl, inr}
-use mathlib.Core.Path.{_≡_, refl, sym, ap, _∙_, subst}
-use Prim.Native.Nat.{ℕ, suc, _+_, _-_, _≤_}
+use mathlib.Core.Path.{sym, ap, _∙_, subst}
+use Prim.Native.Nat.{ℕ, _-_}
 use native.Mathlib.Numerals.{add-one}
 use lib.ListN.{length}
 use Rattle.network.specs.Stages.{shapeAt, shifted}

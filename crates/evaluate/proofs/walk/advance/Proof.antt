@@ -1,6 +1,6 @@
 -- `evaluate::walk::advance` meets its contract. Assumes nothing.
 use mathlib.Core.Path.{_≡_, refl, sym, ap, _∙_}
-use Prim.Native.Nat.{ℕ, _+_, _-_, _≤_, _<_}
+use Prim.Native.Nat.{ℕ, _-_, _≤_}
 use lib.ListN.{length}
 use Rattle.network.specs.Stages.{shifted}
 use Rattle.whitebox.specs.Calls.{advance}
