@@ -1,4 +1,4 @@
--- One lookup as the code makes it: the area changes in place, and the standing bytes are handed back. Definitions only, for the private
+-- One lookup as the code makes it: the standing bytes and the area change in place. Definitions only, for the private
 -- functions.
 use mathlib.Core.Bool.{cond}
 use mathlib.Core.List.{List}
@@ -27,7 +27,8 @@ pub record Fits (s : Stage) (j long : ℕ) : Type 0 where
 abbrev pub XorIn : ℕ → ℕ → Type 0
 XorIn m x = ((m ≡ 16) × (x < 480)) ⊎ ((m ≡ 4) × (x < 96))
 
--- Lookup j over the table t turns standing bytes s and area a into s′ and a′ of the same length, at any count.
+-- Lookup j over the table t turns standing bytes s and area a into s′ and a′ of the same lengths, at any count.
 pub record LookedUp (S : Shape) (j : ℕ) (t s a s′ a′ : List ℕ) : Type 0 where
   pub walk : (n : ℕ) → lookupIn S j t (record { count = n; standing = s; area = a }) ≡ record { count = suc n; standing = s′; area = a′ }
+  pub kept : length s′ ≡ length s
   pub long : length a′ ≡ length a

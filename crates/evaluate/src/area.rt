@@ -63,18 +63,16 @@ pub fn spread(area: &mut [u8; 256], table: &[u8], width: usize, p: usize, s: u8)
     }
 }
 
-// The sums: word 0 of each group.
-pub fn sums_of(area: &[u8; 256], width: usize) -> [u8; 16]
-    requires { ⌜ ((width ≡ 4) ⊎ (width ≡ 16)) ⌝ }
-    ensures { λ r. ⌜ r ≡ sums width (now (area .entry)) ⌝ }
+// The sums, word 0 of each group, become the standing bytes.
+pub fn take_sums(standing: &mut [u8; 16], area: &[u8; 256], width: usize)
+    requires { ⌜ (length (now standing) ≡ 16) × ((width ≡ 4) ⊎ (width ≡ 16)) ⌝ }
+    ensures { λ _. ⌜ now (standing .exit) ≡ sums width (now (area .entry)) ⌝ }
 {
-    let mut r = [0u8; 16];
     let mut q = 0;
     while q < 16 {
-        r[q] = area[q / width * width * width + q % width];
+        standing[q] = area[q / width * width * width + q % width];
         q += 1;
     }
-    r
 }
 
 // The area is made zero.

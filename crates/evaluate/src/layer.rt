@@ -1,4 +1,4 @@
-// A lookup of a stage or half, in place: the area is lent, and the standing bytes are handed back.
+// A lookup of a stage or half, in place: the standing bytes and the area are lent.
 ghost use mathlib.Core.Logic.{_⊎_};
 ghost use mathlib.Core.Path.{_≡_};
 ghost use Prim.Native.Nat.{_<_};
@@ -66,29 +66,27 @@ fn xor_in(area: &mut [u8; 256], table: &[u8], width: usize, x: usize)
     }
 }
 
-// Lookup j of a stage or half: the standing bytes afterwards. "The last XOR of a stage or half copies the sums to the standing bytes and
-// zeroes the area."
+// Lookup j of a stage or half. "The last XOR of a stage or half copies the sums to the standing bytes and zeroes the area."
 pub fn lookup_in(
-    standing: [u8; 16],
+    standing: &mut [u8; 16],
     area: &mut [u8; 256],
     table: &[u8],
     stage: Stage,
     j: usize,
-) -> [u8; 16]
-    requires { ⌜ Fits stage j (length (now table)) × (length (now area) ≡ 256) ⌝ }
-    ensures { λ r. ⌜ LookedUp (shapeAt shifted stage) j (now (table .entry)) standing (now (area .entry)) r (now (area .exit)) ⌝ }
+)
+    requires { ⌜ Fits stage j (length (now table)) × (length (now area) ≡ 256) × (length (now standing) ≡ 16) ⌝ }
+    ensures { λ _. ⌜ LookedUp (shapeAt shifted stage) j (now (table .entry)) (now (standing .entry)) (now (area .entry)) (now (standing .exit)) (now (area .exit)) ⌝ }
 {
     let width = width_of(stage);
     if j < 16 {
         let i = source_of(stage, j);
         area::spread(area, table, width, j, standing[i]);
-        return standing;
+        return;
     }
     xor_in(area, table, width, j - 16);
     if j + 1 != lookups_of(width) {
-        return standing;
+        return;
     }
-    let sums = area::sums_of(area, width);
+    area::take_sums(standing, area, width);
     area::clear(area);
-    sums
 }

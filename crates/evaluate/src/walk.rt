@@ -68,20 +68,23 @@ fn advance(walk: Walk, set: &[u8], stop: usize) -> Walk
     requires { ⌜ (length (now set) ≡ 770048) × (stop ≤ 3008) × (walk .count ≤ stop) ⌝ }
     ensures { λ r. ⌜ held r ≡ calls.advance shifted 10 (now (set .entry)) (stop - walk .count) (held walk) ⌝ }
 {
-    let mut w = walk;
-    while w.count < stop {
-        let n = w.count;
+    let mut standing = walk.standing;
+    let mut area = walk.area;
+    let mut n = walk.count;
+    while n < stop {
         let p = place_of(n);
         let from = p.offset;
         let to = from + p.size;
         let stage = p.stage;
         let index = p.index;
-        let s = w.standing;
-        let next = layer::lookup_in(s, &mut w.area, &set[from..to], stage, index);
-        w.standing = next;
-        w.count = n + 1;
+        layer::lookup_in(&mut standing, &mut area, &set[from..to], stage, index);
+        n += 1;
     }
-    w
+    Walk {
+        count: n,
+        standing: standing,
+        area: area,
+    }
 }
 
 // A move to a stop.
@@ -133,16 +136,18 @@ pub fn move_one(walk: Walk, table: &[u8]) -> Move
             walk: walk,
         };
     }
-    let mut w = walk;
+    let mut standing = walk.standing;
+    let mut area = walk.area;
     let stage = p.stage;
     let index = p.index;
-    let s = w.standing;
-    let next = layer::lookup_in(s, &mut w.area, table, stage, index);
-    w.standing = next;
-    w.count = n + 1;
+    layer::lookup_in(&mut standing, &mut area, table, stage, index);
     Move {
         answer: Moved::Done,
-        walk: w,
+        walk: Walk {
+            count: n + 1,
+            standing: standing,
+            area: area,
+        },
     }
 }
 

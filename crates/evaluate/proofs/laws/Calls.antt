@@ -1,9 +1,8 @@
 -- Laws, not definitions: the calls, from what their parts left.
 -- Assumes nothing.
-use mathlib.Core.Bool.{cond}
 use mathlib.Core.List.{List}
-use mathlib.Core.Path.{_≡_, refl, sym, ap, ap₂, _∙_, subst}
-use Prim.Native.Nat.{ℕ, suc, _+_, _-_, _*_, _/_, _%_, _≤_, _<_}
+use mathlib.Core.Path.{_≡_, sym, ap, _∙_, subst}
+use Prim.Native.Nat.{ℕ, suc, _+_, _-_, _/_, _%_, _≤_, _<_}
 use native.Mathlib.Decide.{decLt}
 use native.Mathlib.Numerals.{add-one}
 use native.Mathlib.Omega.{arith}
@@ -11,7 +10,7 @@ use borrow.Author.Tests.{eq-eqb, ne-eqb, lt-ltb, le-ltb}
 use lib.ListN.{length, take, drop, replicate, length-take, length-drop}
 use Rattle.network.specs.Lookups.{Walk, zeroArea, lookup, lookupIn}
 use Rattle.network.specs.Order.{layerLookups}
-use Rattle.network.specs.Stages.{widthOf, shapeAt, shapes, shifted, lookups, setBytes, tableSize, tableOffset, stageOf, indexOf, placeOf, firstLookup}
+use Rattle.network.specs.Stages.{widthOf, shapeAt, shapes, shifted, lookups, tableSize, tableOffset, stageOf, indexOf, placeOf, firstLookup}
 use Rattle.network.specs.declared.stage.Place.{Place}
 use Rattle.network.specs.declared.stage.Stage.{Stage}
 use Rattle.network.specs.declared.stage.Stage.the-variants.{Entry, First, Second, Exit}

@@ -2,15 +2,15 @@
 -- Assumes nothing.
 use mathlib.Core.List.{List}
 use mathlib.Core.Logic.{⊎-elim, _⊎_, inl, inr}
-use mathlib.Core.Path.{_≡_, refl, sym, ap, ap₂, _∙_, subst}
-use Prim.Native.Nat.{ℕ, suc, _+_, _-_, _*_, _≤_, _<_}
-use native.Mathlib.Numerals.{add-one}
+use mathlib.Core.Path.{_≡_, refl, sym, ap, ap₂, _∙_}
+use Prim.Native.Nat.{ℕ, suc, _-_, _*_, _≤_, _<_}
 use native.Mathlib.Omega.{arith}
 use borrow.Author.Tests.{eq-eqb, ne-eqb, lt-ltb, le-ltb}
 use lib.ListN.{length, drop, length-set, length-replicate}
 use lib.Seq.{paste}
 use Rattle.bits.specs.Lists.{at}
 use Rattle.bits.specs.Nibbles.{nibble, setNibble, pack}
+use Rattle.bits.proofs.laws.Lists.{length-tabulate}
 use Rattle.network.specs.Lookups.{Walk, Shape, spreadArea, xorArea, sums, zeroArea, lookupIn}
 use Rattle.network.specs.Order.{xors, layerLookups, sumPlace, addedPlace}
 use Rattle.network.specs.Stages.{widthOf, shifted}
@@ -93,6 +93,10 @@ groups s j long f h =
     (λ p. record { width = inl (p .0); below = omega arith })
     (xors-in s j long f h .within)
 
+length-sums : (m : ℕ) (a : List ℕ) → length (sums m a) ≡ 16
+unfolding sums
+length-sums m a = length-tabulate 16 _
+
 -- ---- the lookup, from what its parts left
 next : ℕ → List ℕ → List ℕ → Walk
 next n s a = record { count = suc n; standing = s; area = a }
@@ -108,6 +112,7 @@ module _ (S : Shape) (j m : ℕ) (t s a : List ℕ) (e : m ≡ S .width) where
             rw (lt-ltb j 16 h)
             (ap (next n s)
             (ap₂ (λ (m i : ℕ). paste a (j * m) (drop (at s i * m) t) m) (sym e) (sym f) ∙ sym g));
+        kept = refl;
         long = l;
       }
 
@@ -119,17 +124,19 @@ module _ (S : Shape) (j m : ℕ) (t s a : List ℕ) (e : m ≡ S .width) where
             λ n.
             rw (le-ltb j 16 h, ← e, ne-eqb (suc j) (layerLookups m) l)
             (ap (next n s) (sym g));
+        kept = refl;
         long = ap length g ∙ length-xor m (j - 16) t a;
       }
 
   pub by-last : (x s′ a′ : List ℕ) → 16 ≤ j → x ≡ xorArea m (j - 16) t a → suc j ≡ layerLookups m → s′ ≡ sums m x → a′ ≡ zeroArea
-      → length a ≡ 256 → LookedUp S j t s a s′ a′
+      → length s ≡ 16 → length a ≡ 256 → LookedUp S j t s a s′ a′
   unfolding lookupIn next
-  by-last x s′ a′ h g l p q b =
+  by-last x s′ a′ h g l p q k b =
       record {
         walk =
             λ n.
             rw (le-ltb j 16 h, ← e, eq-eqb (suc j) (layerLookups m) l)
             (ap₂ (next n) (ap (sums m) (sym g) ∙ sym p) (sym q));
+        kept = ap length p ∙ length-sums m x ∙ sym k;
         long = ap length q ∙ length-replicate {A = ℕ} 256 0 ∙ sym b;
       }

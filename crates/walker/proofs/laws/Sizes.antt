@@ -5,7 +5,7 @@ use mathlib.Core.Path.{_≡_, sym, ap, _∙_, subst}
 use Prim.Native.Nat.{ℕ, _*_, _≤_, _<_}
 use native.Mathlib.Omega.{arith}
 use lib.Dec.{ltb}
-use Rattle.network.specs.Stages.{widthOf, lookups, tableSize, stageOf, indexOf, placeOf}
+use Rattle.network.specs.Stages.{widthOf, stageOf, indexOf, placeOf}
 use Rattle.network.specs.declared.stage.Place.{Place}
 use Rattle.network.specs.declared.stage.Stage.{Stage}
 use Rattle.network.specs.declared.stage.Stage.the-variants.{Entry, First, Second, Exit, Beyond}

@@ -1,6 +1,6 @@
 -- `walker::over_input` ends and reads within its memory. Assumes nothing.
-use mathlib.Core.Path.{_≡_, refl, ap, _∙_}
-use Prim.Native.Nat.{ℕ, _-_, _≤_, _<_}
+use mathlib.Core.Path.{_≡_}
+use Prim.Native.Nat.{_-_, _≤_}
 use lib.ListN.{length, length-take, length-drop, length-append}
 use Rattle.walker.proofs.laws.Sizes.{table-fits}
 use borrow.Author.Needs.{needs}

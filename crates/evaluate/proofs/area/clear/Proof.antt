@@ -1,7 +1,6 @@
 -- `evaluate::area::clear` meets its contract. Assumes nothing.
-use mathlib.Core.Path.{_≡_, refl, sym, ap, _∙_, subst}
-use Prim.Native.Nat.{ℕ, _-_, _≤_, _<_}
-use lib.ListN.{length}
+use mathlib.Core.Path.{refl, _∙_}
+use Prim.Native.Nat.{_-_}
 use Rattle.bits.proofs.laws.Filled.{Filled, filled-none, filled-more, filled-all}
 use Rattle.evaluate.proofs.laws.Area.{zeros}
 use native.Mathlib.Omega.{arith}

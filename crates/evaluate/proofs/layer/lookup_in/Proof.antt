@@ -1,7 +1,6 @@
 -- `evaluate::layer::lookup_in` meets its contract. Assumes nothing.
-use mathlib.Core.Logic.{⊎-elim, inl, inr}
-use mathlib.Core.Path.{_≡_, refl, sym, ap, _∙_, subst}
-use Prim.Native.Nat.{ℕ, suc, _+_, _-_, _≤_}
+use mathlib.Core.Path.{sym, ap, _∙_, subst}
+use Prim.Native.Nat.{ℕ, _-_}
 use native.Mathlib.Numerals.{add-one}
 use lib.ListN.{length}
 use Rattle.network.specs.Stages.{shapeAt, shifted}
@@ -18,18 +17,18 @@ width-of-requires c κs = search needs
 source-of-requires : tie.Need-source-of-requires
 source-of-requires c κs = search needs
 
-array-read-spread : tie.Need-array-read-spread
-array-read-spread c = search needs
+element-copy-out-spread : tie.Need-element-copy-out-spread
+element-copy-out-spread c = search needs
 
 spread-requires : tie.Need-spread-requires
 spread-requires c κs =
-    let A = c .before .before .before .before .before .args in
-    omega (arith, c .before .before .before .before .before .pre .1, c .before .before .before .width-of .ensures, spreads (A .stage) (A .j) (length (A .table .now)) (c .before .before .before .before .before .pre .0) (c .before .before .if1 .taken))
+    let A = c .before .before .before .before .before .before .args in
+    omega (arith, c .before .before .before .before .before .before .pre .1, c .before .before .before .before .width-of .ensures, spreads (A .stage) (A .j) (length (A .table .now)) (c .before .before .before .before .before .before .pre .0) (c .before .before .before .if1 .taken))
 
 returns : tie.Need-returns
 returns c =
-    let A = c .before .before .before .before .before .before .args in
-    by-spread (shapeAt shifted (A .stage)) (A .j) (c .before .before .before .before .width-of .result) (A .table .now) (A .t1) (A .area .now) (c .before .before .before .before .width-of .ensures) (c .before .before .source-of .result) (c .spread .last .0) (c .before .before .before .if1 .taken) (c .before .before .source-of .ensures .0) (c .spread .ensures .0) (c .spread .ensures .1)
+    let A = c .before .before .before .before .before .before .before .args in
+    by-spread (shapeAt shifted (A .stage)) (A .j) (c .before .before .before .before .before .width-of .result) (A .table .now) (A .standing .now) (A .area .now) (c .before .before .before .before .before .width-of .ensures) (c .before .before .before .source-of .result) (c .spread .last .0) (c .before .before .before .before .if1 .taken) (c .before .before .before .source-of .ensures .0) (c .spread .ensures .0) (c .spread .ensures .1)
 
 xor-in-requires : tie.Need-xor-in-requires
 xor-in-requires c κs =
@@ -51,22 +50,22 @@ lookups-of-requires c κs =
 returns-2 : tie.Need-returns-2
 returns-2 c =
     let A = c .before .before .before .before .before .before .before .args in
-    by-xor (shapeAt shifted (A .stage)) (A .j) (c .before .before .before .before .before .width-of .result) (A .table .now) (A .t1) (A .area .now) (c .before .before .before .before .before .width-of .ensures) (c .before .before .xor-in .last .0) (omega (arith, c .before .before .before .before .if1 .left)) (c .before .before .xor-in .ensures) (λ e. c .if2 .taken (add-one (A .j) ∙ e ∙ sym (c .before .lookups-of .ensures)))
+    by-xor (shapeAt shifted (A .stage)) (A .j) (c .before .before .before .before .before .width-of .result) (A .table .now) (A .standing .now) (A .area .now) (c .before .before .before .before .before .width-of .ensures) (c .before .before .xor-in .last .0) (omega (arith, c .before .before .before .before .if1 .left)) (c .before .before .xor-in .ensures) (λ e. c .if2 .taken (add-one (A .j) ∙ e ∙ sym (c .before .lookups-of .ensures)))
 
-sums-of-requires : tie.Need-sums-of-requires
-sums-of-requires c κs =
-    let A = c .before .before .before .before .before .before .before .before .args in
-    rw (c .before .before .before .before .before .before .width-of .ensures) (groups (A .stage) (A .j) (length (A .table .now)) (c .before .before .before .before .before .before .before .before .pre .0) (omega (arith, c .before .before .before .before .before .if1 .left)) .width)
+take-sums-requires : tie.Need-take-sums-requires
+take-sums-requires c κs =
+    let A = c .before .before .before .before .before .before .before .before .before .args in
+    (c .before .before .before .before .before .before .before .before .before .pre .2, rw (c .before .before .before .before .before .before .before .width-of .ensures) (groups (A .stage) (A .j) (length (A .table .now)) (c .before .before .before .before .before .before .before .before .before .pre .0) (omega (arith, c .before .before .before .before .before .before .if1 .left)) .width))
 
 clear-requires : tie.Need-clear-requires
 clear-requires c κs =
-    let A = c .before .before .before .before .before .before .before .before .before .before .args in
-    ap length (c .before .before .before .before .before .xor-in .ensures) ∙ length-xor (c .before .before .before .before .before .before .before .before .width-of .result) (A .j - 16) (A .table .now) (A .area .now) ∙ c .before .before .before .before .before .before .before .before .before .before .pre .1
+    let A = c .before .before .before .before .before .before .before .before .before .before .before .args in
+    ap length (c .before .before .before .before .before .before .xor-in .ensures) ∙ length-xor (c .before .before .before .before .before .before .before .before .before .width-of .result) (A .j - 16) (A .table .now) (A .area .now) ∙ c .before .before .before .before .before .before .before .before .before .before .before .pre .1
 
 returns-3 : tie.Need-returns-3
 returns-3 c =
-    let A = c .before .before .before .before .before .before .before .before .before .before .before .args in
-    by-last (shapeAt shifted (A .stage)) (A .j) (c .before .before .before .before .before .before .before .before .before .width-of .result) (A .table .now) (A .t1) (A .area .now) (c .before .before .before .before .before .before .before .before .before .width-of .ensures) (c .before .before .before .before .before .before .xor-in .last .0) (c .before .before .sums-of .result) (c .clear .last .0) (omega (arith, c .before .before .before .before .before .before .before .before .if1 .left)) (c .before .before .before .before .before .before .xor-in .ensures) (sym (add-one (A .j)) ∙ c .before .before .before .before .if2 .left ∙ c .before .before .before .before .before .lookups-of .ensures) (c .before .before .sums-of .ensures) (c .clear .ensures) (c .before .before .before .before .before .before .before .before .before .before .before .pre .1)
+    let A = c .before .before .before .before .before .before .before .before .before .before .before .before .args in
+    by-last (shapeAt shifted (A .stage)) (A .j) (c .before .before .before .before .before .before .before .before .before .before .width-of .result) (A .table .now) (A .standing .now) (A .area .now) (c .before .before .before .before .before .before .before .before .before .before .width-of .ensures) (c .before .before .before .before .before .before .before .xor-in .last .0) (c .before .before .take-sums .last .0) (c .clear .last .0) (omega (arith, c .before .before .before .before .before .before .before .before .before .if1 .left)) (c .before .before .before .before .before .before .before .xor-in .ensures) (sym (add-one (A .j)) ∙ c .before .before .before .before .before .if2 .left ∙ c .before .before .before .before .before .before .lookups-of .ensures) (c .before .before .take-sums .ensures) (c .clear .ensures) (c .before .before .before .before .before .before .before .before .before .before .before .before .pre .2) (c .before .before .before .before .before .before .before .before .before .before .before .before .pre .1)
 
 pub lookup-in-spec : {M : Type 1} → statement M
 lookup-in-spec =
@@ -74,13 +73,13 @@ lookup-in-spec =
     (tie.spec
     width-of-requires
     source-of-requires
-    array-read-spread
+    element-copy-out-spread
     spread-requires
     returns
     xor-in-requires
     add-if2
     lookups-of-requires
     returns-2
-    sums-of-requires
+    take-sums-requires
     clear-requires
     returns-3)

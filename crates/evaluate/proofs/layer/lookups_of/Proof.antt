@@ -1,7 +1,6 @@
 -- `evaluate::layer::lookups_of` meets its contract. Assumes nothing.
 use mathlib.Core.Logic.{⊎-elim}
-use mathlib.Core.Path.{_≡_, sym, ap, _∙_}
-use Prim.Native.Nat.{ℕ}
+use mathlib.Core.Path.{sym, ap, _∙_}
 use Rattle.network.specs.Order.{layerLookups}
 use Rattle.network.proofs.laws.Stages.{lookups-16, lookups-4}
 use Rattle.evaluate.proofs.layer.lookups_of.Statement.{statement}

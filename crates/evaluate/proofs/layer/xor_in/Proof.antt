@@ -1,5 +1,5 @@
 -- `evaluate::layer::xor_in` meets its contract. Assumes nothing.
-use mathlib.Core.Path.{_≡_, sym, ap, _∙_}
+use mathlib.Core.Path.{_∙_}
 use Rattle.evaluate.proofs.laws.Layers.{below-480, xor-16, is-4, xor-4}
 use native.Mathlib.Omega.{arith}
 use Rattle.evaluate.proofs.layer.xor_in.Statement.{statement}

@@ -20,15 +20,15 @@ returns-2 c = wrong-table (c .before .before .before .before .before .args .tabl
 
 lookup-in-requires : tie.Need-lookup-in-requires
 lookup-in-requires c κs =
-    let p = c .before .before .before .before .place-of .result in
-    (subst (λ (x : ℕ). Fits (p .stage) (p .index) x) (sym (c .before .before .if2 .left)) (fits-at (c .before .before .before .before .before .before .before .args .walk .count) p (omega arith) (c .before .before .before .before .place-of .ensures)), search needs)
+    let p = c .before .before .before .before .before .before .place-of .result in
+    (subst (λ (x : ℕ). Fits (p .stage) (p .index) x) (sym (c .before .before .before .before .if2 .left)) (fits-at (c .before .before .before .before .before .before .before .before .before .args .walk .count) p (omega arith) (c .before .before .before .before .before .before .place-of .ensures)), search needs, search needs)
 
-add-w : tie.Need-add-w
-add-w c = search needs
+add-t11 : tie.Need-add-t11
+add-t11 c = search needs
 
 returns-3 : tie.Need-returns-3
-returns-3 c = one-done (c .before .before .before .before .before .before .before .before .args .table .now) (held (c .before .before .before .before .before .before .before .before .args .walk)) (c .before .before .before .before .before .place-of .result) (omega arith) (c .before .before .before .before .before .place-of .ensures) _ _ (c .before .before .before .if2 .left) (c .lookup-in .ensures)
+returns-3 c = one-done (c .before .before .before .before .before .before .before .before .before .before .args .table .now) (held (c .before .before .before .before .before .before .before .before .before .before .args .walk)) (c .before .before .before .before .before .before .before .place-of .result) (omega arith) (c .before .before .before .before .before .before .before .place-of .ensures) _ _ (c .before .before .before .before .before .if2 .left) (c .lookup-in .ensures)
 
 pub move-one-spec : {M : Type 1} → statement M
 move-one-spec =
-    tie.close (tie.spec returns place-of-requires returns-2 lookup-in-requires add-w returns-3)
+    tie.close (tie.spec returns place-of-requires returns-2 lookup-in-requires add-t11 returns-3)
