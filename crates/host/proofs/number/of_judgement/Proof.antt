@@ -23,11 +23,10 @@ second-requires : tie.Need-second-requires
 second-requires c κs = search needs
 
 returned-requires-2 : tie.Need-returned-requires-2
-returned-requires-2 c κs =
-    (
-      subst (λ n. n < 16) (sym (c .before .cause .ensures)) (cause-below (c .before .before .before .j .given .0 .0)),
-      subst (λ n. n < 65536) (sym (c .second .ensures)) (subst (λ j. secondOf j < 65536) (c .before .before .before .j .given .1) (c .before .before .before .before .before .pre)),
-    )
+returned-requires-2 c κs = (
+  subst (λ n. n < 16) (sym (c .before .cause .ensures)) (cause-below (c .before .before .before .j .given .0 .0)),
+  subst (λ n. n < 65536) (sym (c .second .ensures)) (subst (λ j. secondOf j < 65536) (c .before .before .before .j .given .1) (c .before .before .before .before .before .pre)),
+)
 
 returns : tie.Need-returns
 returns c = c .returned .ensures ∙ ap ofJudgement (sym (c .before .enum-told .given .1))

@@ -1,0 +1,34 @@
+-- `walk_cases::every` meets its contract. Assumes nothing.
+use Prim.Native.Nat.{_≤_, _-_}
+use borrow.Author.Needs.{needs}
+use Rattle.walk_cases.proofs.every.Statement.{statement}
+use Rattle.walk_cases.proofs.every.Tie as tie
+
+abbrev Inv-loop : tie.InvT-loop
+Inv-loop mem w₀ stop₀ w stop = stop ≤ 3009
+
+abbrev μ-loop : tie.MeasureT-loop
+μ-loop mem w₀ stop₀ w stop = 3009 - stop
+
+loop-holds : tie.Need-loop-holds Inv-loop μ-loop
+loop-holds c = search needs
+
+long-move-requires : tie.Need-long-move-requires Inv-loop μ-loop
+long-move-requires c κs = search needs
+
+add-stop : tie.Need-add-stop Inv-loop μ-loop
+add-stop c = search needs
+
+loop-less : tie.Need-loop-less Inv-loop μ-loop
+loop-less c = search needs
+
+loop-again : tie.Need-loop-again Inv-loop μ-loop
+loop-again c = search needs
+
+returns : tie.Need-returns Inv-loop μ-loop
+returns c = search needs
+
+pub every-spec : {M : Type 1} → statement M
+every-spec =
+    tie.close
+    (tie.spec Inv-loop μ-loop loop-holds long-move-requires add-stop loop-less loop-again returns)

@@ -1,0 +1,108 @@
+-- `walk_cases::run` meets its contract. Assumes nothing.
+use mathlib.Core.Path.{_≡_}
+use lib.ListN.{length}
+use Prim.Native.Nat.{_≤_}
+use borrow.Author.Needs.{needs}
+use Rattle.walk_cases.proofs.run.Statement.{statement}
+use Rattle.walk_cases.proofs.run.Tie as tie
+
+abbrev Inv-loop : tie.InvT-loop
+Inv-loop mem walk₀ h₀ left₀ walk h left = (left ≤ 10000) × (length h ≡ 8)
+
+abbrev μ-loop : tie.MeasureT-loop
+μ-loop mem walk₀ h₀ left₀ walk h left = left
+
+loop-holds : tie.Need-loop-holds Inv-loop μ-loop
+loop-holds c = search needs
+
+slice-aggregate-read-full : tie.Need-slice-aggregate-read-full Inv-loop μ-loop
+slice-aggregate-read-full c = search needs
+
+read-full-requires : tie.Need-read-full-requires Inv-loop μ-loop
+read-full-requires c κs = search needs
+
+returns : tie.Need-returns Inv-loop μ-loop
+returns c = search needs
+
+array-read-three : tie.Need-array-read-three Inv-loop μ-loop
+array-read-three c = search needs
+
+array-read-three-2 : tie.Need-array-read-three-2 Inv-loop μ-loop
+array-read-three-2 c = search needs
+
+array-read-three-3 : tie.Need-array-read-three-3 Inv-loop μ-loop
+array-read-three-3 c = search needs
+
+three-requires : tie.Need-three-requires Inv-loop μ-loop
+three-requires c κs = search needs
+
+mul-n : tie.Need-mul-n Inv-loop μ-loop
+mul-n c = search needs
+
+array-read-three-4 : tie.Need-array-read-three-4 Inv-loop μ-loop
+array-read-three-4 c = search needs
+
+array-read-three-5 : tie.Need-array-read-three-5 Inv-loop μ-loop
+array-read-three-5 c = search needs
+
+array-read-three-6 : tie.Need-array-read-three-6 Inv-loop μ-loop
+array-read-three-6 c = search needs
+
+three-requires-2 : tie.Need-three-requires-2 Inv-loop μ-loop
+three-requires-2 c κs = search needs
+
+add-n : tie.Need-add-n Inv-loop μ-loop
+add-n c = search needs
+
+array-read-order : tie.Need-array-read-order Inv-loop μ-loop
+array-read-order c = search needs
+
+array-read-wide : tie.Need-array-read-wide Inv-loop μ-loop
+array-read-wide c = search needs
+
+wide-requires : tie.Need-wide-requires Inv-loop μ-loop
+wide-requires c κs = search needs
+
+order-requires : tie.Need-order-requires Inv-loop μ-loop
+order-requires c κs = search needs
+
+sub-left : tie.Need-sub-left Inv-loop μ-loop
+sub-left c = search needs
+
+loop-less : tie.Need-loop-less Inv-loop μ-loop
+loop-less c = search needs
+
+loop-again : tie.Need-loop-again Inv-loop μ-loop
+loop-again c = search needs
+
+returns-2 : tie.Need-returns-2 Inv-loop μ-loop
+returns-2 c = search needs
+
+pub run-spec : {M : Type 1} → statement M
+run-spec =
+    tie.close
+    (tie.spec
+    Inv-loop
+    μ-loop
+    loop-holds
+    slice-aggregate-read-full
+    read-full-requires
+    returns
+    array-read-three
+    array-read-three-2
+    array-read-three-3
+    three-requires
+    mul-n
+    array-read-three-4
+    array-read-three-5
+    array-read-three-6
+    three-requires-2
+    add-n
+    array-read-order
+    array-read-wide
+    wide-requires
+    order-requires
+    sub-left
+    loop-less
+    loop-again
+    returns-2)

@@ -1,0 +1,250 @@
+// Reads orders from standard input, and writes what the calls of a walk answer over memory that a formula fills. An order is 8 bytes: its
+// kind, a small number k and a number n of six bytes. The expected output is made by a program of other authorship (tests/walk_cases.py).
+ghost use Prim.Native.Nat.{_<_};
+use evaluate::answer::fetch_cause;
+use evaluate::answer::move_cause;
+use evaluate::answer::start_cause;
+use evaluate::walk::Walk;
+use evaluate::walk::fetch;
+use evaluate::walk::move_one;
+use evaluate::walk::move_to;
+use evaluate::walk::start;
+use libc::STDIN_FILENO;
+use libc::STDOUT_FILENO;
+use network::stage::place_of;
+
+fn wide(x: u8) -> usize
+    ensures { λ r. ⌜ r < 256 ⌝ }
+{
+    x as usize
+}
+
+// The memory: a linear congruence, its upper bits a byte each.
+fn next(x: u64) -> u64 {
+    (x % 2147483648 * 1103515245 + 12345) % 2147483648
+}
+
+fn byte_of(x: u64) -> u8 {
+    (x / 65536 % 256) as u8
+}
+
+fn fill(set: &mut [u8]) {
+    let mut x: u64 = 197;
+    let mut i = 0;
+    while i < set.len() {
+        x = next(x);
+        set[i] = byte_of(x);
+        i += 1;
+    }
+}
+
+fn change(i: usize, x: u8) {
+    io::write_all(STDOUT_FILENO, b" ");
+    io::print_decimal(STDOUT_FILENO, i as u64);
+    io::write_all(STDOUT_FILENO, b":");
+    io::print_decimal(STDOUT_FILENO, wide(x) as u64);
+}
+
+// The places where two lists of bytes differ, with the new byte.
+fn changes(old: &[u8], new: &[u8]) {
+    let mut i = 0;
+    while i < new.len() {
+        if i < old.len() {
+            if old[i] != new[i] {
+                change(i, new[i]);
+            }
+        }
+        i += 1;
+    }
+}
+
+// The cause, the count and all that a call changed in the walk.
+fn report(cause: usize, old: Walk, new: Walk) {
+    io::print_decimal(STDOUT_FILENO, cause as u64);
+    io::write_all(STDOUT_FILENO, b" ");
+    io::print_decimal(STDOUT_FILENO, new.count as u64);
+    let s = old.standing;
+    let t = new.standing;
+    changes(&s, &t);
+    io::write_all(STDOUT_FILENO, b" area");
+    let a = old.area;
+    let b = new.area;
+    changes(&a, &b);
+    io::write_all(STDOUT_FILENO, b"\n");
+}
+
+// The next n bytes of the input.
+fn take(b: &mut [u8], n: usize) {
+    if n <= b.len() {
+        io::read_full(STDIN_FILENO, &mut b[0..n]);
+    }
+}
+
+// Starts over the first k bytes.
+fn start_over(walk: Walk, block: &[u8], k: usize) -> Walk {
+    if block.len() < k {
+        return walk;
+    }
+    let o = start(&block[0..k]);
+    let answer = o.answer;
+    let w = o.walk;
+    report(start_cause(answer), walk, w);
+    w
+}
+
+// Starts over a block of k bytes, the next of the input.
+fn started(walk: Walk, k: usize) -> Walk {
+    let mut block = [0u8; 256];
+    take(&mut block, k);
+    start_over(walk, &block, k)
+}
+
+// A walk of any content: the next bytes of the input.
+fn given(walk: Walk, k: usize, n: usize) -> Walk {
+    let mut standing = [0u8; 16];
+    let mut area = [0u8; 256];
+    io::read_full(STDIN_FILENO, &mut standing);
+    io::read_full(STDIN_FILENO, &mut area);
+    let w = Walk {
+        count: far(k, n),
+        standing: standing,
+        area: area,
+    };
+    report(0, walk, w);
+    w
+}
+
+// The number n, or for k = 1 one near 2^64.
+fn far(k: usize, n: usize) -> usize {
+    if k == 1 {
+        return n % 281474976710656 * 65536 + 65535;
+    }
+    n
+}
+
+fn moved_to(walk: Walk, set: &[u8], stop: usize) -> Walk {
+    let m = move_to(walk, set, stop);
+    let answer = m.answer;
+    let w = m.walk;
+    report(move_cause(answer), walk, w);
+    w
+}
+
+// A move over memory of 770,048 bytes and k - 2 more.
+fn long_move(walk: Walk, mem: &[u8], k: usize, stop: usize) -> Walk {
+    if 3 < k {
+        return walk;
+    }
+    let n = 770046 + k;
+    if mem.len() < n {
+        return walk;
+    }
+    moved_to(walk, &mem[0..n], stop)
+}
+
+// A move of one lookup with a table of its length and k - 2 more bytes.
+fn one(walk: Walk, mem: &[u8], k: usize) -> Walk {
+    let p = place_of(walk.count);
+    let from = p.offset;
+    if 3 < k {
+        return walk;
+    }
+    if mem.len() < from {
+        return walk;
+    }
+    if 4096 < p.size {
+        return walk;
+    }
+    let n = p.size + k;
+    if n < 2 {
+        return walk;
+    }
+    if mem.len() - from < n - 2 {
+        return walk;
+    }
+    let to = from + (n - 2);
+    let m = move_one(walk, &mem[from..to]);
+    let answer = m.answer;
+    let w = m.walk;
+    report(move_cause(answer), walk, w);
+    w
+}
+
+// Fetches into the first k bytes.
+fn fetch_into(walk: Walk, block: &mut [u8], k: usize) {
+    if block.len() < k {
+        return;
+    }
+    let f = fetch(walk, &mut block[0..k]);
+    io::print_decimal(STDOUT_FILENO, fetch_cause(f) as u64);
+}
+
+// Fetches into k bytes, and writes all that changed in and behind them.
+fn fetched(walk: Walk, k: usize) {
+    let old = [90u8; 256];
+    let mut block = [90u8; 256];
+    fetch_into(walk, &mut block, k);
+    changes(&old, &block);
+    io::write_all(STDOUT_FILENO, b"\n");
+}
+
+// Stop by stop.
+fn every(walk: Walk, mem: &[u8]) -> Walk {
+    let mut w = walk;
+    let mut stop: usize = 0;
+    while stop <= 3008 {
+        w = long_move(w, mem, 2, stop);
+        stop += 1;
+    }
+    w
+}
+
+fn order(walk: Walk, mem: &[u8], kind: u8, k: usize, n: usize) -> Walk {
+    match kind {
+        0 => started(walk, k),
+        1 => given(walk, k, n),
+        2 => long_move(walk, mem, k, n),
+        3 => long_move(walk, mem, k, far(1, n)),
+        4 => one(walk, mem, k),
+        5 => {
+            fetched(walk, k);
+            walk
+        }
+        _ => every(walk, mem),
+    }
+}
+
+fn three(a: u8, b: u8, c: u8) -> usize
+    ensures { λ r. ⌜ r < 16777216 ⌝ }
+{
+    (wide(a) * 256 + wide(b)) * 256 + wide(c)
+}
+
+// Order after order, to the end of the input.
+fn run(mem: &[u8]) {
+    let mut walk = Walk {
+        count: 0,
+        standing: [0u8; 16],
+        area: [0u8; 256],
+    };
+    let mut h = [0u8; 8];
+    let mut left: usize = 10000;
+    while 0 < left {
+        if io::read_full(STDIN_FILENO, &mut h) != 8 {
+            return;
+        }
+        let n = three(h[2], h[3], h[4]) * 16777216 + three(h[5], h[6], h[7]);
+        walk = order(walk, mem, h[0], wide(h[1]), n);
+        left -= 1;
+    }
+}
+
+fn work(mem: &mut [u8; 770049]) {
+    fill(mem);
+    run(mem);
+}
+
+fn main() {
+    let mut mem = [0u8; 770049];
+    work(&mut mem);
+}
