@@ -1,0 +1,2 @@
+// The maker: one table, and the whole set.
+pub mod table;
