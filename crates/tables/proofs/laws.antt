@@ -1,2 +1,3 @@
 pub mod Spread
 pub mod Words
+pub mod Xors

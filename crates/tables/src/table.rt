@@ -89,7 +89,7 @@ fn basis_of(bundle: &[u8], columns: &[u64], input: &[u64], s: Stage, p: usize, b
 }
 
 // Spread table p.
-pub fn spread_table(
+fn spread_table(
     bundle: &[u8],
     keys: &[u8],
     columns: &[u64],
@@ -111,4 +111,52 @@ pub fn spread_table(
     let first = numbers::first_number(s) + p * d;
     lists::all_images(bundle, first, d, &mut images);
     spread::write(&values, &basis, &images, m, dst);
+}
+
+// The number of the encoding of the sum so far: of the group's first word, or of the XOR before.
+fn sum_so_far(added: usize, spread: usize, before: usize) -> usize
+    ensures { λ r. ⌜ r ≡ cond (eqb added 0) spread before ⌝ }
+{
+    if added == 0 { spread } else { before }
+}
+
+// XOR table x of a layer of width m whose results are numbered from `first` on.
+fn xor_table(bundle: &[u8], m: usize, first: usize, x: usize, dst: &mut [u8])
+    requires { ⌜ GoodWidth m × (first + layerResults m ≤ 6048) × (x < xors m) × (length (now dst) ≡ 128) ⌝ }
+    ensures { λ _. ⌜ now (dst .exit) ≡ xorTable (codingsOf 10 (now (bundle .entry)) .encoding) m first x ⌝ }
+{
+    let d = 2 * m;
+    let h = x % d;
+    let turn = x / d;
+    let word = turn / (m - 1) * m;
+    let added = turn % (m - 1);
+    let result = first + 16 * d + x;
+    let sum = sum_so_far(added, first + word * d + h, result - d);
+    xors::write(bundle, sum, first + (word + added + 1) * d + h, result, dst);
+}
+
+// Table j of a stage or half.
+pub fn write(
+    bundle: &[u8],
+    keys: &[u8],
+    columns: &[u64],
+    input: &[u64],
+    s: Stage,
+    j: usize,
+    dst: &mut [u8],
+)
+    requires { ⌜ Ready (now bundle) (now columns) (now input) × (length (now keys) ≡ 176) × (1 ≤ roundOf s) × (roundOf s ≤ 9) × (j < layerLookups (widthOf s)) × (length (now dst) ≡ sizeOf (widthOf s) j) ⌝ }
+    ensures { λ _. ⌜ now (dst .exit) ≡ tableIn (codingsOf 10 (now (bundle .entry)) .encoding) (layerOf (forward 10 (now (keys .entry))) (codingsOf 10 (now (bundle .entry))) 10 s) (numbersOf 10 s) j ⌝ }
+{
+    if j < 16 {
+        spread_table(bundle, keys, columns, input, s, j, dst);
+    } else {
+        xor_table(
+            bundle,
+            numbers::width_of(s),
+            numbers::first_number(s),
+            j - 16,
+            dst,
+        );
+    }
 }
