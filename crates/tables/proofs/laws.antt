@@ -1,3 +1,4 @@
 pub mod Spread
 pub mod Words
 pub mod Xors
+pub mod Set

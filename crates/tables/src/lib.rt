@@ -1,2 +1,3 @@
 // The maker: one table, and the whole set.
-pub mod table;
+pub mod set;
+mod table;
