@@ -2,3 +2,4 @@ pub mod Spread
 pub mod Words
 pub mod Xors
 pub mod Set
+pub mod Calls
