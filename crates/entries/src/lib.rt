@@ -1,0 +1,4 @@
+// The bytes of one table from its encodings (lists) and, for a spread table, from eight words: the writers of both kinds of table.
+pub mod lists;
+pub mod spread;
+pub mod xors;

@@ -1,0 +1,81 @@
+// Encodings (lists) of a bundle, one nibble to a byte.
+ghost use mathlib.Core.Path.{_≡_};
+ghost use Prim.Native.Nat.{ℕ, _+_, _*_, _/_, _%_, _<_, _≤_};
+ghost use lib.ListN.{length, take};
+ghost use Rattle.bits.specs.Encodings.{imagesOf, decode, Permutation};
+ghost use Rattle.bits.specs.Lists.{at, tabulate, concat};
+ghost use Rattle.bits.specs.Nibbles.{pack};
+ghost use Rattle.bundle.specs.Format.{encodingOf};
+use bundle::encoding;
+use bundle::parts;
+
+// A byte as an index.
+pub fn widened(x: u8) -> usize
+    ensures { λ r. ⌜ (r ≡ x) × (r < 256) ⌝ }
+{
+    x as usize
+}
+
+// The images that an encoding's 8 bytes give.
+pub fn images(p: &[u8], dst: &mut [u8])
+    requires { ⌜ length (now dst) ≡ 16 ⌝ }
+    ensures { λ _. ⌜ now (dst .exit) ≡ imagesOf (now (p .entry)) ⌝ }
+{
+    let mut v: usize = 0;
+    while v < 16 {
+        dst[v] = encoding::nibble(p, v);
+        v += 1;
+    }
+}
+
+// What undoes them: the nibble of each image.
+pub fn places(p: &[u8], dst: &mut [u8])
+    requires { ⌜ length (now dst) ≡ 16 ⌝ }
+    ensures { λ _. ⌜ now (dst .exit) ≡ tabulate 16 (decode (imagesOf (now (p .entry)))) ⌝ }
+{
+    let mut v: usize = 0;
+    let mut y: u8 = 0;
+    while v < 16 {
+        dst[v] = encoding::place(p, y);
+        v += 1;
+        y += 1;
+    }
+}
+
+// The images of the encodings n, n + 1, .., `count` of them, one after the other.
+pub fn all_images(bundle: &[u8], n: usize, count: usize, dst: &mut [u8])
+    requires { ⌜ (n ≤ 6048) × (count ≤ 32) × (16 * count ≤ length (now dst)) ⌝ }
+    ensures { λ _. ⌜ take (count * 16) (now (dst .exit)) ≡ concat count (λ h. encodingOf 10 (now (bundle .entry)) (n + h)) ⌝ }
+{
+    let mut h: usize = 0;
+    while h < count {
+        let a = h * 16;
+        let e = a + 16;
+        images(parts::encoding_part(bundle, n + h), &mut dst[a..e]);
+        h += 1;
+    }
+}
+
+// Byte x with its nibbles decoded, from what undoes their encodings.
+fn decoded(high: &[u8], low: &[u8], x: usize) -> u8
+    requires { ⌜ (length (now high) ≡ 16) × (length (now low) ≡ 16) × (x < 256) × ((i : ℕ) → i < 16 → at (now high) i < 16) × ((i : ℕ) → i < 16 → at (now low) i < 16) ⌝ }
+    ensures { λ r. ⌜ r ≡ pack (at (now (high .entry)) (x / 16)) (at (now (low .entry)) (x % 16)) ⌝ }
+{
+    high[x / 16] * 16 + low[x % 16]
+}
+
+// Every byte with its nibbles decoded by the encodings numbered `high` and `low`.
+pub fn decoded_bytes(bundle: &[u8], high: usize, low: usize, dst: &mut [u8])
+    requires { ⌜ (length (now dst) ≡ 256) × Permutation (encodingOf 10 (now bundle) high) × Permutation (encodingOf 10 (now bundle) low) ⌝ }
+    ensures { λ _. ⌜ now (dst .exit) ≡ tabulate 256 (λ x. pack (decode (encodingOf 10 (now (bundle .entry)) high) (x / 16)) (decode (encodingOf 10 (now (bundle .entry)) low) (x % 16))) ⌝ }
+{
+    let mut a = [0u8; 16];
+    let mut b = [0u8; 16];
+    places(parts::encoding_part(bundle, high), &mut a);
+    places(parts::encoding_part(bundle, low), &mut b);
+    let mut x: usize = 0;
+    while x < 256 {
+        dst[x] = decoded(&a, &b, x);
+        x += 1;
+    }
+}

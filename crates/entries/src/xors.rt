@@ -1,0 +1,56 @@
+// XOR tables: "index 16a+b, a the sum so far and b the next word's half-byte, both encoded".
+ghost use mathlib.Core.Path.{_≡_};
+ghost use Prim.Native.Nat.{ℕ, _+_, _*_, _/_, _%_, _<_, _≤_};
+ghost use lib.Bits.{bitXor};
+ghost use lib.ListN.{length};
+ghost use Rattle.bits.specs.Encodings.{encode, decode};
+ghost use Rattle.bits.specs.Lists.{at};
+ghost use Rattle.bits.specs.Nibbles.{packed};
+ghost use Rattle.bundle.specs.Format.{encodingOf};
+use crate::lists;
+use bundle::parts;
+
+// Element x; 0 behind the last.
+fn element(s: &[u8], x: u8) -> u8
+    ensures { λ r. ⌜ r ≡ at (now (s .entry)) x ⌝ }
+{
+    let i = lists::widened(x);
+    if i < s.len() { s[i] } else { 0 }
+}
+
+// Entry e: `sum` and `added` undo the encodings of the two nibbles, and `result` has the images of the sum.
+fn entry(sum: &[u8], added: &[u8], result: &[u8], e: usize) -> u8
+    requires { ⌜ (length (now sum) ≡ 16) × (length (now added) ≡ 16) × (e < 256) ⌝ }
+    ensures { λ r. ⌜ r ≡ at (now (result .entry)) (bitXor (at (now (sum .entry)) (e / 16)) (at (now (added .entry)) (e % 16))) ⌝ }
+{
+    let x = sum[e / 16] ^ added[e % 16];
+    element(result, x)
+}
+
+// "Entry e stands in byte e/2, even e in the high half."
+fn write_entries(sum: &[u8], added: &[u8], result: &[u8], dst: &mut [u8])
+    requires { ⌜ (length (now sum) ≡ 16) × (length (now added) ≡ 16) × (length (now dst) ≡ 128) × ((v : ℕ) → at (now result) v < 16) ⌝ }
+    ensures { λ _. ⌜ now (dst .exit) ≡ packed 128 (λ e. at (now (result .entry)) (bitXor (at (now (sum .entry)) (e / 16)) (at (now (added .entry)) (e % 16)))) ⌝ }
+{
+    let mut i: usize = 0;
+    while i < 128 {
+        let high = entry(sum, added, result, 2 * i);
+        let low = entry(sum, added, result, 2 * i + 1);
+        dst[i] = high * 16 + low;
+        i += 1;
+    }
+}
+
+// The XOR table for the encodings of the sum so far, of the nibble that is added, and of the result, by number.
+pub fn write(bundle: &[u8], sum: usize, added: usize, result: usize, dst: &mut [u8])
+    requires { ⌜ length (now dst) ≡ 128 ⌝ }
+    ensures { λ _. ⌜ now (dst .exit) ≡ packed 128 (λ e. encode (encodingOf 10 (now (bundle .entry)) result) (bitXor (decode (encodingOf 10 (now (bundle .entry)) sum) (e / 16)) (decode (encodingOf 10 (now (bundle .entry)) added) (e % 16)))) ⌝ }
+{
+    let mut a = [0u8; 16];
+    let mut b = [0u8; 16];
+    let mut c = [0u8; 16];
+    lists::places(parts::encoding_part(bundle, sum), &mut a);
+    lists::places(parts::encoding_part(bundle, added), &mut b);
+    lists::images(parts::encoding_part(bundle, result), &mut c);
+    write_entries(&a, &b, &c, dst);
+}

@@ -1,0 +1,111 @@
+-- Laws, not definitions: a word is linear in its byte, so the words of 2^0 to 2^7 give all of them.
+-- Assumes nothing.
+use mathlib.Core.Bool.{Bool, true, false, cond}
+use mathlib.Core.List.{List}
+use mathlib.Core.Path.{_≡_, refl, sym, ap, ap₂, _∙_, subst}
+use Prim.Native.Nat.{ℕ, zero, suc, _+_, _-_, _*_, _/_, _%_, _^_, _≤_, _<_}
+use native.Mathlib.Nat.{zero-mul, one-mul}
+use native.Mathlib.Omega.{arith}
+use lib.Bits.{bitXor, xor-self, xor-zero-l, xor-zero-r}
+use lib.Dec.{eqb, eqb→eq}
+use Rattle.aes.specs.State.{mixRows, entry}
+use Rattle.bits.specs.Bytes.{number, byte, placed}
+use Rattle.bits.specs.Groups.{joined, group, xorAll}
+use Rattle.bits.specs.Lists.{at}
+use Rattle.bits.specs.Matrices.{product}
+use Rattle.bits.specs.Vectors.{dot}
+use Rattle.bits.proofs.laws.Checked.{all, all-at}
+use Rattle.bits.proofs.laws.Groups.{joined-same, joined-xor, group-xor}
+use Rattle.bits.proofs.laws.Matrices.{product-lt, product-xor}
+use Rattle.bits.proofs.laws.Vectors.{dot-power, dot-xor, dot-lt}
+use Rattle.bits.proofs.laws.Xor.{Linear, two}
+use Rattle.bits.proofs.laws.XorAll.{xorAll-same, xorAll-one, linear-xorAll}
+use Rattle.entries.specs.Spread.{combined}
+use Rattle.field.specs.Field.{mul}
+use Rattle.field.proofs.laws.Field.{mul-xor, mul-lt}
+use Rattle.field.proofs.laws.OnBytes.{OnBytes, same}
+
+-- ---- the xor of eight words
+scale-xor : (c a b : ℕ) → a < 2 → b < 2 → (a + b) % 2 * c ≡ bitXor (a * c) (b * c)
+scale-xor c a b h k =
+    two (λ (a : ℕ). (b : ℕ) → b < 2 → (a + b) % 2 * c ≡ bitXor (a * c) (b * c))
+    (λ b k. two (λ (b : ℕ). (0 + b) % 2 * c ≡ bitXor (0 * c) (b * c)) (zeros c) (left c) b k)
+    (λ b k. two (λ (b : ℕ). (1 + b) % 2 * c ≡ bitXor (1 * c) (b * c)) (right c) (both c) b k) a h b k
+  where
+    zeros : (c : ℕ) → 0 * c ≡ bitXor (0 * c) (0 * c)
+    zeros c = rw zero-mul (sym (xor-self 0))
+
+    left : (c : ℕ) → 1 * c ≡ bitXor (0 * c) (1 * c)
+    left c = rw (zero-mul, one-mul) (sym (xor-zero-l c))
+
+    right : (c : ℕ) → 1 * c ≡ bitXor (1 * c) (0 * c)
+    right c = rw (zero-mul, one-mul) (sym (xor-zero-r c))
+
+    both : (c : ℕ) → 0 * c ≡ bitXor (1 * c) (1 * c)
+    both c = rw (zero-mul, one-mul) (sym (xor-self c))
+
+bit-linear : (i c : ℕ) → Linear (λ y. (y / 2 ^ i % 2) * c)
+bit-linear i c x y =
+    ap (λ (b : ℕ). b * c) (sym (dot-power i (bitXor x y)) ∙ dot-xor (2 ^ i) x y)
+    ∙ scale-xor c (dot (2 ^ i) x) (dot (2 ^ i) y) (dot-lt (2 ^ i) x) (dot-lt (2 ^ i) y)
+    ∙ ap₂ (λ (a b : ℕ). bitXor (a * c) (b * c)) (dot-power i x) (dot-power i y)
+
+combined-linear : (f : ℕ → ℕ) → Linear (combined f)
+unfolding combined
+combined-linear f = linear-xorAll 8 (λ i y. (y / 2 ^ i % 2) * f i) (λ i. bit-linear i (f i))
+
+abbrev bitIs : ℕ → ℕ → Bool
+bitIs j i = eqb (2 ^ j / 2 ^ i % 2) (cond (eqb j i) 1 0)
+
+one-bit : (j i : ℕ) → j < 8 → i < 8 → 2 ^ j / 2 ^ i % 2 ≡ cond (eqb j i) 1 0
+one-bit j i h k = eqb→eq _ _ (all-at 8 (bitIs j) (all-at 8 (λ j. all 8 (bitIs j)) tt j h) i k)
+
+picked : (b : Bool) (x : ℕ) → cond b 1 0 * x ≡ cond b x 0
+picked true x = omega arith
+picked false x = omega arith
+
+combined-power : (f : ℕ → ℕ) (j : ℕ) → j < 8 → combined f (2 ^ j) ≡ f j
+unfolding combined
+combined-power f j h =
+    xorAll-same 8 _ _ (λ i k. ap (λ (b : ℕ). b * f i) (one-bit j i h k) ∙ picked (eqb j i) (f i)) ∙ xorAll-one 8 j f h
+
+-- Every byte's word is the xor of the words at its bits.
+pub by-powers : (W f : ℕ → ℕ) → OnBytes W → ((j : ℕ) → j < 8 → f j ≡ W (2 ^ j)) → (y : ℕ) → y < 256 → combined f y ≡ W y
+by-powers W f lin e = same (combined f) W (λ x y h k. combined-linear f x y) lin (λ j h. combined-power f j h ∙ e j h)
+
+-- ---- the three forms of a word
+cond-xor : (b : Bool) (x y : ℕ) → cond b (bitXor x y) 0 ≡ bitXor (cond b x 0) (cond b y 0)
+cond-xor true x y = refl
+cond-xor false x y = refl
+
+cond-lt : (b : Bool) (x : ℕ) → x < 256 → cond b x 0 < 256
+cond-lt true x h = h
+cond-lt false x h = omega arith
+
+pub placed-xor : (n i : ℕ) → OnBytes (placed n i)
+unfolding placed
+placed-xor n i x y h k =
+    joined-same 8 n _ _ (λ j g. cond-xor (eqb j i) x y)
+    ∙ joined-xor 8 n (λ j. cond (eqb j i) x 0) (λ j. cond (eqb j i) y 0) (λ j g. cond-lt (eqb j i) x h) (λ j g. cond-lt (eqb j i) y k)
+
+-- A linear map of n bytes, then each byte by a matrix.
+bytes-xor : (n : ℕ) (B : ℕ → List ℕ) → Linear (λ v. number n (λ j. product 8 (B j) (byte n j v)))
+bytes-xor n B x y =
+    joined-same 8 n _ _ (λ j h. ap (product 8 (B j)) (group-xor 8 n j x y) ∙ product-xor 8 (at (B j)) (byte n j x) (byte n j y))
+    ∙ joined-xor 8 n (λ j. product 8 (B j) (byte n j x)) (λ j. product 8 (B j) (byte n j y)) (λ j h. product-lt 8 (at (B j)) _) (λ j h. product-lt 8 (at (B j)) _)
+
+pub spread-xor : (n w i : ℕ) (M : List ℕ) (B : ℕ → List ℕ) → OnBytes (λ y. number n (λ j. product 8 (B j) (byte n j (product w M (placed n i y)))))
+spread-xor n w i M B x y h k =
+    ap (λ (v : ℕ). number n (λ j. product 8 (B j) (byte n j (product w M v)))) (placed-xor n i x y h k)
+    ∙ ap (λ (v : ℕ). number n (λ j. product 8 (B j) (byte n j v))) (product-xor w (at M) (placed n i x) (placed n i y))
+    ∙ bytes-xor n B (product w M (placed n i x)) (product w M (placed n i y))
+
+pub mixed-xor : (M : List ℕ) (c : ℕ → ℕ) → ((t : ℕ) → t < 4 → c t < 256) → OnBytes (λ y. product 32 M (number 4 (λ t. mul (c t) y)))
+mixed-xor M c below x y h k =
+    ap (product 32 M)
+    (joined-same 8 4 _ _ (λ t g. mul-xor (c t) x y)
+    ∙ joined-xor 8 4 (λ t. mul (c t) x) (λ t. mul (c t) y) (λ t g. mul-lt (c t) x (below t g)) (λ t g. mul-lt (c t) y (below t g)))
+    ∙ product-xor 32 (at M) (number 4 (λ t. mul (c t) x)) (number 4 (λ t. mul (c t) y))
+
+pub exit-xor : (M : List ℕ) (i : ℕ) → OnBytes (λ y. product 128 M (placed 16 i y))
+exit-xor M i x y h k = ap (product 128 M) (placed-xor 16 i x y h k) ∙ product-xor 128 (at M) (placed 16 i x) (placed 16 i y)

@@ -1,0 +1,65 @@
+-- What a table of a layer is made from. Definitions only.
+use mathlib.Core.List.{List, []}
+use mathlib.Core.Path.{_≡_}
+use Prim.Native.Nat.{ℕ, _+_, _*_, _/_, _%_, _<_}
+use lib.ListN.{length, take, drop}
+use Rattle.bits.specs.Bytes.{numberOf}
+use Rattle.bits.specs.Elimination.{inverseOf}
+use Rattle.bits.specs.Encodings.{decode}
+use Rattle.bits.specs.Nibbles.{pack}
+use Rattle.bits.specs.Words.{rowsOf}
+use Rattle.bundle.specs.Format.{encodingOf, columnMatrix, inputMatrix}
+use Rattle.bundle.specs.Judge.{judge}
+use Rattle.bundle.specs.declared.answer.Judgement.the-variants.{Accepted}
+use Rattle.network.specs.Stages.{widthOf, shifted, sourceOf, standingNumber}
+use Rattle.network.specs.declared.stage.Stage.{Stage}
+use Rattle.network.specs.declared.stage.Stage.the-variants.{Entry, First, Second, Exit, Beyond}
+use Rattle.whitebox.specs.Codings.{Codings}
+use Rattle.whitebox.specs.Parts.{Parts}
+use Rattle.whitebox.specs.Words.{entryWord, mixedWord, secondWord, placedWord, substituted}
+
+-- The round of a half, 1 to 9; any of these for entry and exit.
+abbrev pub roundOf : Stage → ℕ
+roundOf Entry = 1
+roundOf (First r) = r
+roundOf (Second r) = r
+roundOf Exit = 9
+roundOf Beyond = 0
+
+-- The inverses of a bundle's 36 column matrices as rows, one after the other: 64 words each.
+pub record ColumnInverses (l c : List ℕ) : Type 0 where
+  pub long : length c ≡ 2304
+  pub rows : (n : ℕ) → n < 36 → rowsOf 32 (take 64 (drop (n * 64) c)) ≡ inverseOf 32 (columnMatrix 10 l n)
+
+-- What is worked out once for a whole set, from an accepted bundle: these, and the rows of the inverse of the input matrix.
+pub record Ready (l columns input : List ℕ) : Type 0 where
+  pub judged : judge 10 l ≡ Accepted
+  pub inverses : ColumnInverses l columns
+  pub long : length input ≡ 256
+  pub rows : rowsOf 128 input ≡ inverseOf 128 (inputMatrix 10 l)
+
+-- The byte x that position p reads, decoded "by the two lists of its place".
+unfoldable pub readByte : List ℕ → Stage → ℕ → ℕ → ℕ
+readByte l s p x =
+    let j = sourceOf shifted s p in
+    pack (decode (encodingOf 10 l (standingNumber 10 s (2 * j))) (x / 16)) (decode (encodingOf 10 l (standingNumber 10 s (2 * j + 1))) (x % 16))
+
+module _ (P : Parts) (C : Codings) where
+  -- The byte that a word is linear in: behind the S-box in first halves and in the exit, else the byte read.
+  abbrev pub acted : ℕ → Stage → ℕ → ℕ → ℕ
+  acted nr Entry p x = x
+  acted nr (First r) p x = substituted P C r p x
+  acted nr (Second r) p x = x
+  acted nr Exit p x = substituted P C nr p x
+  acted nr Beyond p x = x
+
+  -- The word of that byte, and its number.
+  abbrev pub linearWord : Stage → ℕ → ℕ → List ℕ
+  linearWord Entry p y = entryWord P C p y
+  linearWord (First r) p y = mixedWord P C r p y
+  linearWord (Second r) p y = secondWord P C r p y
+  linearWord Exit p y = placedWord P C p y
+  linearWord Beyond p y = []
+
+  unfoldable pub wordNumber : Stage → ℕ → ℕ → ℕ
+  wordNumber s p y = numberOf (widthOf s) (linearWord s p y)

@@ -1,0 +1,83 @@
+// Widths and numbers of encodings (lists) by stage.
+ghost use mathlib.Core.Path.{_≡_};
+ghost use Prim.Native.Nat.{_+_, _*_, _<_, _≤_};
+ghost use Rattle.layers.specs.Layers.{roundOf};
+ghost use Rattle.network.specs.Numbers.{sumNumber};
+ghost use Rattle.network.specs.Stages.{widthOf, shifted, sourceOf, firstNumber, standingNumber};
+use network::stage::Stage;
+
+// "Position p = 4c+q: read byte j = 4((c+q) mod 4)+q".
+pub fn shifted(p: usize) -> usize
+    requires { ⌜ p < 16 ⌝ }
+    ensures { λ r. ⌜ (r ≡ shifted p) × (r < 16) ⌝ }
+{
+    4 * ((p / 4 + p % 4) % 4) + p % 4
+}
+
+// The byte that position p reads.
+pub fn source_of(s: Stage, p: usize) -> usize
+    requires { ⌜ p < 16 ⌝ }
+    ensures { λ r. ⌜ (r ≡ sourceOf shifted s p) × (r < 16) ⌝ }
+{
+    match s {
+        Stage::Entry => p,
+        Stage::First(_) => shifted(p),
+        Stage::Second(_) => p,
+        Stage::Exit => shifted(p),
+        Stage::Beyond => p,
+    }
+}
+
+// The bytes of a word.
+pub fn width_of(s: Stage) -> usize
+    ensures { λ r. ⌜ (r ≡ widthOf s) × (r ≤ 16) ⌝ }
+{
+    match s {
+        Stage::Entry => 16,
+        Stage::First(_) => 4,
+        Stage::Second(_) => 4,
+        Stage::Exit => 16,
+        Stage::Beyond => 0,
+    }
+}
+
+// The number of the encoding of a stage's first result.
+pub fn first_number(s: Stage) -> usize
+    requires { ⌜ (1 ≤ roundOf s) × (roundOf s ≤ 9) ⌝ }
+    ensures { λ r. ⌜ (r ≡ firstNumber 10 s) × (r ≤ 5056) ⌝ }
+{
+    match s {
+        Stage::Entry => 32,
+        Stage::First(r) => 1024 + 448 * (r - 1),
+        Stage::Second(r) => 1248 + 448 * (r - 1),
+        Stage::Exit => 5056,
+        Stage::Beyond => 5056,
+    }
+}
+
+// The number of the encoding of nibble q of a half's sums, whose results are numbered from `first` on.
+fn sum_number(first: usize, q: usize) -> usize
+    requires { ⌜ (first ≤ 4832) × (q < 32) ⌝ }
+    ensures { λ r. ⌜ (r ≡ sumNumber 4 first q) × (r < 6048) ⌝ }
+{
+    first + 128 + (q / 8 * 3 + 2) * 8 + q % 8
+}
+
+// The number of the encoding of standing nibble q as a stage begins.
+pub fn standing_number(s: Stage, q: usize) -> usize
+    requires { ⌜ (1 ≤ roundOf s) × (roundOf s ≤ 9) × (q < 32) ⌝ }
+    ensures { λ r. ⌜ (r ≡ standingNumber 10 s q) × (r < 6048) ⌝ }
+{
+    match s {
+        Stage::Entry => q,
+        Stage::First(r) => {
+            if r == 1 {
+                return 992 + q;
+            }
+            sum_number(1248 + 448 * (r - 2), q)
+        }
+        Stage::Second(r) => sum_number(1024 + 448 * (r - 1), q),
+        Stage::Exit => sum_number(4832, q),
+        Stage::Beyond => q,
+    }
+}

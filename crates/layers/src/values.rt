@@ -1,0 +1,61 @@
+// The byte behind the S-box, for each byte that a first half or the exit reads.
+ghost use mathlib.Core.Bool.{cond};
+ghost use mathlib.Core.Path.{_≡_};
+ghost use Prim.Native.Nat.{ℕ, _+_, _*_, _<_, _≤_};
+ghost use lib.Bits.{bitXor};
+ghost use lib.Dec.{eqb};
+ghost use lib.ListN.{length};
+ghost use Rattle.aes.specs.Key.{keyOf};
+ghost use Rattle.bits.specs.Lists.{at, tabulate};
+ghost use Rattle.bits.specs.Matrices.{product};
+ghost use Rattle.bits.specs.Words.{rowsOf};
+ghost use Rattle.bundle.specs.Judge.{judge};
+ghost use Rattle.bundle.specs.declared.answer.Judgement.the-variants.{Accepted};
+ghost use Rattle.field.specs.Sbox.{sboxOf};
+ghost use Rattle.whitebox.specs.Bundles.{codingsOf};
+ghost use Rattle.whitebox.specs.Parts.{forward};
+ghost use Rattle.whitebox.specs.Words.{substituted};
+use crate::inverses;
+use crate::numbers;
+use crate::words;
+use bundle::parts;
+
+fn substituted(inverse: &[u64], before: u8, behind: u8, x: u8) -> u8
+    requires { ⌜ 16 ≤ length (now inverse) ⌝ }
+    ensures { λ r. ⌜ r ≡ bitXor (sboxOf (bitXor (product 8 (rowsOf 8 (now (inverse .entry))) x) before)) behind ⌝ }
+{
+    field::sub(words::byte_by(inverse, x) ^ before) ^ behind
+}
+
+// Of every byte of `read`.
+fn substitute(inverse: &[u64], before: u8, behind: u8, read: &[u8], dst: &mut [u8])
+    requires { ⌜ (16 ≤ length (now inverse)) × (length (now read) ≡ 256) × (length (now dst) ≡ 256) ⌝ }
+    ensures { λ _. ⌜ now (dst .exit) ≡ tabulate 256 (λ x. bitXor (sboxOf (bitXor (product 8 (rowsOf 8 (now (inverse .entry))) (at (now (read .entry)) x)) before)) behind) ⌝ }
+{
+    let mut x: usize = 0;
+    while x < 256 {
+        dst[x] = substituted(inverse, before, behind, read[x]);
+        x += 1;
+    }
+}
+
+// The key byte behind the S-box: byte p of round key 10 in round 10, else none.
+fn key_behind(keys: &[u8], r: usize, p: usize) -> u8
+    requires { ⌜ (length (now keys) ≡ 176) × (p < 16) ⌝ }
+    ensures { λ b. ⌜ b ≡ cond (eqb r 10) (at (keyOf (now (keys .entry)) 10) p) 0 ⌝ }
+{
+    if r == 10 { keys[160 + p] } else { 0 }
+}
+
+// Round r, position p: "read byte j [..], multiply by the inverse of matrix (r, j), XOR byte j of round key r−1, S-box".
+pub fn behind_sbox(bundle: &[u8], keys: &[u8], r: usize, p: usize, read: &[u8], dst: &mut [u8])
+    requires { ⌜ (judge 10 (now bundle) ≡ Accepted) × (length (now keys) ≡ 176) × (1 ≤ r) × (r ≤ 10) × (p < 16) × (length (now read) ≡ 256) × (length (now dst) ≡ 256) ⌝ }
+    ensures { λ _. ⌜ now (dst .exit) ≡ tabulate 256 (λ x. substituted (forward 10 (now (keys .entry))) (codingsOf 10 (now (bundle .entry))) r p (at (now (read .entry)) x)) ⌝ }
+{
+    let k = 16 * (r - 1) + numbers::shifted(p);
+    let mut rows = [0u64; 16];
+    inverses::inverse(parts::byte_matrix_part(bundle, k), &mut rows, 1);
+    let before = keys[k];
+    let behind = key_behind(keys, r, p);
+    substitute(&rows, before, behind, read, dst);
+}

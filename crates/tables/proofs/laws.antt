@@ -1,0 +1,5 @@
+pub mod Spread
+pub mod Words
+pub mod Xors
+pub mod Set
+pub mod Calls

@@ -1,0 +1,238 @@
+-- Laws, not definitions: a spread table from the bytes, the words and the images that the code gathers.
+-- Assumes nothing.
+use mathlib.Core.Bool.{Bool, cond}
+use mathlib.Core.List.{List}
+use mathlib.Core.Path.{_≡_, refl, sym, ap, ap₂, _∙_, subst}
+use Prim.Native.Nat.{ℕ, zero, suc, _+_, _-_, _*_, _/_, _%_, _^_, _≤_, _<_}
+use native.Mathlib.Nat.{div-add-mod', div-lt-iff-lt-mul, mod-lt}
+use native.Mathlib.Omega.{arith}
+use lib.ListN.{length, take}
+use lib.Seq.{getD-take}
+use Rattle.aes.specs.State.{mixRows, entry}
+use Rattle.bits.specs.Bytes.{Bytes, number, numberOf, byte, bytesOf, placed}
+use Rattle.bits.specs.Elimination.{inverseOf}
+use Rattle.bits.specs.Encodings.{encode, decode, imagesOf}
+use Rattle.bits.specs.Lists.{at, tabulate, concat}
+use Rattle.bits.specs.Matrices.{product}
+use Rattle.bits.specs.Nibbles.{pack, nibble, packed}
+use Rattle.bits.proofs.laws.Bytes.{bytesOf-numberOf, numberOf-bytesOf, length-bytesOf}
+use Rattle.bits.proofs.laws.Encodings.{decode-lt}
+use Rattle.bits.proofs.laws.Groups.{joined-same}
+use Rattle.bits.proofs.laws.Lists.{at-tabulate, length-tabulate, ext-at, length-concat, at-concat, concat-same, tabulate-ext}
+use Rattle.bits.proofs.laws.Matrices.{product-lt}
+use Rattle.bits.proofs.laws.Nibbles.{length-packed, at-packed, packed-ext, nibble-lt}
+use Rattle.bundle.specs.Format.{encodings, encodingOf}
+use Rattle.bundle.specs.Judge.{judge}
+use Rattle.bundle.specs.declared.answer.Judgement.the-variants.{Accepted}
+use Rattle.bundle.proofs.laws.Encodings.{images-long}
+use Rattle.bundle.proofs.laws.Judgements.{accepted-sound}
+use Rattle.entries.specs.Spread.{combined, encodedWord}
+use Rattle.field.specs.Field.{mul}
+use Rattle.field.proofs.laws.OnBytes.{OnBytes}
+use Rattle.layers.specs.Layers.{roundOf, acted, linearWord, wordNumber, readByte}
+use Rattle.layers.proofs.laws.Code.{front-at, sum-is}
+use Rattle.layers.proofs.laws.Linear.{by-powers, spread-xor, mixed-xor, exit-xor}
+use Rattle.network.specs.Numbers.{encodingNumber, sumNumber}
+use Rattle.network.specs.Stages.{widthOf, shifted, sourceOf, firstNumber, afterRound, standingNumber, numbersOf}
+use Rattle.network.specs.Tables.{Layer, spreadEntry, spreadTable}
+use Rattle.network.specs.declared.stage.Stage.{Stage}
+use Rattle.network.specs.declared.stage.Stage.the-variants.{Entry, First, Second, Exit, Beyond}
+use Rattle.network.proofs.laws.Order.{at-div, at-mod}
+use Rattle.network.proofs.laws.Stages.{sums-16}
+use Rattle.whitebox.specs.Bundles.{codingsOf}
+use Rattle.whitebox.specs.Codings.{Codings, byteMatrixAt, columnMatrixAt}
+use Rattle.whitebox.specs.Parts.{Parts, Fine, forward}
+use Rattle.whitebox.specs.Tables.{wordOf, layerOf}
+use Rattle.whitebox.specs.Words.{entryWord, mixedWord, secondWord, placedWord, substituted}
+use Rattle.whitebox.proofs.laws.Bundles.{encoding-is}
+use Rattle.whitebox.proofs.laws.States.{forward-fine, substituted-lt}
+use Rattle.whitebox.proofs.laws.Values.{entry-bytes, mixed-word-bytes, second-bytes, placed-word-bytes}
+
+-- ---- 256 words of m bytes, one after the other
+module _ (m : ℕ) (f : ℕ → ℕ → ℕ) (pos : 0 < m) where
+  byte-of-word : (i : ℕ) → i < 256 * m
+      → pack (f (2 * i / (2 * m)) (2 * i % (2 * m))) (f ((2 * i + 1) / (2 * m)) ((2 * i + 1) % (2 * m))) ≡ at (concat 256 (λ x. packed m (f x))) i
+  byte-of-word i h =
+      let x = i / m in
+      let j = i % m in
+      let split : x * m + j ≡ i = div-add-mod' i m in
+      let small : j < m = mod-lt i pos in
+      let few : x < 256 = rows i h in
+      let a : 2 * i ≡ x * (2 * m) + 2 * j = twice x j m i split in
+      let b : 2 * i + 1 ≡ x * (2 * m) + (2 * j + 1) = omega arith in
+      ap₂ pack
+      (ap₂ f (ap (λ (z : ℕ). z / (2 * m)) a ∙ at-div (2 * m) x (2 * j) (omega arith)) (ap (λ (z : ℕ). z % (2 * m)) a ∙ at-mod (2 * m) x (2 * j) (omega arith)))
+      (ap₂ f (ap (λ (z : ℕ). z / (2 * m)) b ∙ at-div (2 * m) x (2 * j + 1) (omega arith)) (ap (λ (z : ℕ). z % (2 * m)) b ∙ at-mod (2 * m) x (2 * j + 1) (omega arith)))
+      ∙ sym (at-packed m (f x) j small)
+      ∙ sym (at-concat m (λ x. packed m (f x)) 256 (λ k g. length-packed m (f k)) x j few small)
+      ∙ ap (at (concat 256 (λ x. packed m (f x)))) split
+    where
+      rows : (i : ℕ) → i < 256 * m → i / m < 256
+      rows i h = div-lt-iff-lt-mul pos .1 h
+
+      twice : (x j m i : ℕ) → x * m + j ≡ i → 2 * i ≡ x * (2 * m) + 2 * j
+      twice x j m i e = omega arith
+
+  pub packed-words : packed (256 * m) (λ q. f (q / (2 * m)) (q % (2 * m))) ≡ concat 256 (λ x. packed m (f x))
+  packed-words =
+      ext-at (256 * m) _ _ (length-packed (256 * m) (λ q. f (q / (2 * m)) (q % (2 * m)))) (length-concat m (λ x. packed m (f x)) 256 (λ k g. length-packed m (f k)))
+      (λ i h. at-packed (256 * m) (λ q. f (q / (2 * m)) (q % (2 * m))) i h ∙ byte-of-word i h)
+
+-- ---- the words by stage, as numbers
+module _ (P : Parts) (C : Codings) (p y : ℕ) where
+  pub entry-form : number 16 (λ j. product 8 (byteMatrixAt C 1 j) (byte 16 j (product 128 (inverseOf 128 (C .inputMatrix)) (placed 16 p y)))) ≡ wordNumber P C Entry p y
+  unfolding wordNumber entryWord
+  entry-form = joined-same 8 16 _ _ (λ j h. sym (at-tabulate 16 _ j h))
+
+  pub second-form : (r : ℕ)
+      → number 4 (λ t. product 8 (byteMatrixAt C (suc r) (4 * (p / 4) + t)) (byte 4 t (product 32 (inverseOf 32 (columnMatrixAt C r (p / 4))) (placed 4 (p % 4) y)))) ≡ wordNumber P C (Second r) p y
+  unfolding wordNumber secondWord
+  second-form r = joined-same 8 4 _ _ (λ j h. sym (at-tabulate 4 _ j h))
+
+  pub first-form : (r : ℕ) → product 32 (columnMatrixAt C r (p / 4)) (number 4 (λ t. mul (P .coefficient t (p % 4)) y)) ≡ wordNumber P C (First r) p y
+  unfolding wordNumber mixedWord
+  first-form r = sym (numberOf-bytesOf 4 _ (product-lt 32 _ _))
+
+  pub exit-form : product 128 (C .outputMatrix) (placed 16 p y) ≡ wordNumber P C Exit p y
+  unfolding wordNumber placedWord
+  exit-form = sym (numberOf-bytesOf 16 _ (product-lt 128 _ _))
+
+on-bytes : (f g : ℕ → ℕ) → ((y : ℕ) → f y ≡ g y) → OnBytes f → OnBytes g
+on-bytes f g e lin x y h k = sym (e _) ∙ lin x y h k ∙ ap₂ lib.Bits.bitXor (e x) (e y)
+
+module _ (P : Parts) (fine : Fine P) (C : Codings) (p : ℕ) where
+  pub word-linear : (s : Stage) → 1 ≤ roundOf s → OnBytes (wordNumber P C s p)
+  word-linear Entry h = on-bytes _ _ (λ y. entry-form P C p y) (spread-xor 16 128 p (inverseOf 128 (C .inputMatrix)) (byteMatrixAt C 1))
+  word-linear (First r) h =
+      on-bytes _ _ (λ y. first-form P C p y r) (mixed-xor (columnMatrixAt C r (p / 4)) (λ t. P .coefficient t (p % 4)) (λ t g. fine .coefficient-lt t (p % 4)))
+  word-linear (Second r) h =
+      on-bytes _ _ (λ y. second-form P C p y r) (spread-xor 4 32 (p % 4) (inverseOf 32 (columnMatrixAt C r (p / 4))) (λ t. byteMatrixAt C (suc r) (4 * (p / 4) + t)))
+  word-linear Exit h = on-bytes _ _ (λ y. exit-form P C p y) (exit-xor (C .outputMatrix) p)
+  word-linear Beyond h = absurd (omega arith)
+
+  pub word-bytes : (s : Stage) → 1 ≤ roundOf s → (y : ℕ) → Bytes (linearWord P C s p y) × (bytesOf (widthOf s) (wordNumber P C s p y) ≡ linearWord P C s p y)
+  unfolding wordNumber entryWord mixedWord secondWord placedWord
+  word-bytes Entry h y = let b = entry-bytes P fine C 10 p y in (b, bytesOf-numberOf 16 _ (length-tabulate 16 _) b)
+  word-bytes (First r) h y = let b = mixed-word-bytes P fine C 10 r p y in (b, bytesOf-numberOf 4 _ (length-bytesOf 4 _) b)
+  word-bytes (Second r) h y = let b = second-bytes P fine C 10 r p y in (b, bytesOf-numberOf 4 _ (length-tabulate 4 _) b)
+  word-bytes Exit h y = let b = placed-word-bytes P fine C 10 p y in (b, bytesOf-numberOf 16 _ (length-bytesOf 16 _) b)
+  word-bytes Beyond h y = absurd (omega arith)
+
+  acted-lt : (s : Stage) → 1 ≤ roundOf s → (x : ℕ) → x < 256 → acted P C 10 s p x < 256
+  unfolding substituted
+  acted-lt Entry h x k = k
+  acted-lt (First r) h x k = substituted-lt P fine _ r (P .reads p) p (product-lt 8 _ _)
+  acted-lt (Second r) h x k = k
+  acted-lt Exit h x k = substituted-lt P fine _ 10 (P .reads p) p (product-lt 8 _ _)
+  acted-lt Beyond h x k = k
+
+  word-is : (s : Stage) (x : ℕ) → linearWord P C s p (acted P C 10 s p x) ≡ wordOf P C 10 s p x
+  word-is Entry x = refl
+  word-is (First r) x = refl
+  word-is (Second r) x = refl
+  word-is Exit x = refl
+  word-is Beyond x = refl
+
+-- ---- numbers in range
+after-lt : (r q : ℕ) → r ≤ 9 → q < 32 → afterRound r q < 6048
+unfolding encodingNumber
+after-lt zero q h k = omega arith
+after-lt (suc r) q h k = omega arith
+
+pub standing-lt : (s : Stage) (q : ℕ) → 1 ≤ roundOf s → roundOf s ≤ 9 → q < 32 → standingNumber 10 s q < 6048
+unfolding encodingNumber
+standing-lt Entry q h g k = omega arith
+standing-lt (First r) q h g k = after-lt (r - 1) q (omega arith) k
+standing-lt (Second r) q h g k = omega arith
+standing-lt Exit q h g k = after-lt 9 q (omega arith) k
+standing-lt Beyond q h g k = absurd (omega arith)
+
+pub source-lt : (s : Stage) (p : ℕ) → p < 16 → sourceOf shifted s p < 16
+unfolding shifted
+source-lt Entry p h = h
+source-lt (First r) p h = omega arith
+source-lt (Second r) p h = h
+source-lt Exit p h = omega arith
+source-lt Beyond p h = h
+
+own-lt : (s : Stage) (p h : ℕ) → 1 ≤ roundOf s → roundOf s ≤ 9 → p < 16 → h < 2 * widthOf s → firstNumber 10 s + p * (2 * widthOf s) + h < 6048
+own-lt Entry p h a b c d = omega arith
+own-lt (First r) p h a b c d = omega arith
+own-lt (Second r) p h a b c d = omega arith
+own-lt Exit p h a b c d = omega arith
+own-lt Beyond p h a b c d = absurd (omega arith)
+
+wide : (s : Stage) → 1 ≤ roundOf s → 0 < widthOf s
+wide Entry h = omega arith
+wide (First r) h = omega arith
+wide (Second r) h = omega arith
+wide Exit h = omega arith
+wide Beyond h = absurd (omega arith)
+
+-- ---- the table
+module _ (l w : List ℕ) (bytes : Bytes l) (keys : Bytes w) (accepted : judge 10 l ≡ Accepted) (s : Stage) (low : 1 ≤ roundOf s) (high : roundOf s ≤ 9) (p : ℕ) (hp : p < 16) where
+  abbrev P : Parts
+  P = forward 10 w
+
+  abbrev C : Codings
+  C = codingsOf 10 l
+
+  own : (n : ℕ) → n < 6048 → C .encoding n ≡ encodingOf 10 l n
+  unfolding encodings
+  own n h = encoding-is 10 l n h
+
+  read-lt : (x : ℕ) → x < 256 → readByte l s p x < 256
+  unfolding readByte encodings
+  read-lt x h =
+      let j = sourceOf shifted s p in
+      let small = source-lt s p hp in
+      let S = accepted-sound 10 l bytes accepted in
+      let a = decode-lt _ (S .lists (standingNumber 10 s (2 * j)) (standing-lt s (2 * j) low high (omega arith))) (x / 16) (omega arith) in
+      let b = decode-lt _ (S .lists (standingNumber 10 s (2 * j + 1)) (standing-lt s (2 * j + 1) low high (omega arith))) (x % 16) (omega arith) in
+      omega arith
+
+  entry-is : (images : List ℕ) (v x h : ℕ) → x < 256 → h < 2 * widthOf s
+      → take (2 * widthOf s * 16) images ≡ concat (2 * widthOf s) (λ k. encodingOf 10 l (firstNumber 10 s + p * (2 * widthOf s) + k))
+      → v ≡ wordNumber P C s p (acted P C 10 s p (readByte l s p x))
+      → at images (16 * h + nibble (bytesOf (widthOf s) v) h) ≡ spreadEntry (C .encoding) (layerOf P C 10 s) (numbersOf 10 s) p x h
+  unfolding spreadEntry numbersOf encodingNumber forward readByte
+  entry-is images v x h hx hh e f =
+      let m = widthOf s in
+      let fine = forward-fine 10 w keys in
+      let B = word-bytes P fine C p s low (acted P C 10 s p (readByte l s p x)) in
+      let word = ap (bytesOf m) f ∙ B .1 in
+      let u = nibble (bytesOf m v) h in
+      let hu : u < 16 = subst (λ (t : List ℕ). nibble t h < 16) (sym word) (nibble-lt _ (B .0) h) in
+      let j = sourceOf shifted s p in
+      let small = source-lt s p hp in
+      let a = own (standingNumber 10 s (2 * j)) (standing-lt s (2 * j) low high (omega arith)) in
+      let b = own (standingNumber 10 s (2 * j + 1)) (standing-lt s (2 * j + 1) low high (omega arith)) in
+      let read = sym (ap₂ (λ (c d : List ℕ). pack (decode c (x / 16)) (decode d (x % 16))) a b) in
+      let i : 16 * h + u ≡ h * 16 + u = omega arith in
+      ap (at images) i
+      ∙ sym (getD-take (2 * m * 16) images (h * 16 + u) 0 (omega arith))
+      ∙ ap (λ (t : List ℕ). at t (h * 16 + u)) e
+      ∙ at-concat 16 (λ k. encodingOf 10 l (firstNumber 10 s + p * (2 * m) + k)) (2 * m) (λ k g. images-long _) h u hh hu
+      ∙ ap₂ at (sym (own (firstNumber 10 s + p * (2 * m) + h) (own-lt s p h low high hp hh)))
+      (ap (λ (t : List ℕ). nibble t h) (word ∙ word-is P fine C p s (readByte l s p x) ∙ ap (wordOf P C 10 s p) read))
+
+  pub spread-is : (values images dst : List ℕ) (f : ℕ → ℕ) → dst ≡ concat 256 (λ x. encodedWord (at images) (widthOf s) (combined f (at values x)))
+      → values ≡ tabulate 256 (λ x. acted P C 10 s p (readByte l s p x))
+      → ((k : ℕ) → k < 8 → f k ≡ wordNumber P C s p (2 ^ k))
+      → take (2 * widthOf s * 16) images ≡ concat (2 * widthOf s) (λ k. encodingOf 10 l (firstNumber 10 s + p * (2 * widthOf s) + k))
+      → dst ≡ spreadTable (C .encoding) (layerOf P C 10 s) (numbersOf 10 s) p
+  unfolding encodedWord spreadTable
+  spread-is values images dst f d v b i =
+      let fine = forward-fine 10 w keys in
+      let lin = word-linear P fine C p s low in
+      d
+      ∙ concat-same 256 _ _ (λ x hx.
+      packed-ext (widthOf s) _ _ (λ h hh.
+      entry-is images (combined f (at values x)) x h hx hh i
+      (ap (combined f) (ap (λ (t : List ℕ). at t x) v ∙ at-tabulate 256 _ x hx)
+      ∙ by-powers (wordNumber P C s p) f lin b _ (acted-lt P fine C p s low _ (read-lt x hx)))))
+      ∙ sym (packed-words (widthOf s) (spreadEntry (C .encoding) (layerOf P C 10 s) (numbersOf 10 s) p) (wide s low))
+
+-- ---- the bytes behind the S-box
+pub composed : (read dst : List ℕ) (f g : ℕ → ℕ) → read ≡ tabulate 256 f → dst ≡ tabulate 256 (λ x. g (at read x)) → dst ≡ tabulate 256 (λ x. g (f x))
+composed read dst f g a b = b ∙ tabulate-ext 256 _ _ (λ x h. ap g (ap (λ (t : List ℕ). at t x) a ∙ at-tabulate 256 f x h))

@@ -1,0 +1,4 @@
+// The maker: one table, and the whole set.
+pub mod calls;
+mod set;
+mod table;

@@ -1,0 +1,46 @@
+// One table by its number, and the whole set.
+ghost use mathlib.Core.Path.{_≡_};
+ghost use Prim.Native.Nat.{_+_, _<_, _≤_};
+ghost use lib.ListN.{length};
+ghost use Rattle.bits.specs.Lists.{concat};
+ghost use Rattle.layers.specs.Layers.{Ready};
+ghost use Rattle.network.specs.Stages.{tableSize};
+ghost use Rattle.whitebox.specs.Bundles.{codingsOf};
+ghost use Rattle.whitebox.specs.Parts.{forward};
+ghost use Rattle.whitebox.specs.Tables.{tableOf};
+use crate::table;
+use network::stage;
+
+// Table n.
+pub fn write_one(
+    bundle: &[u8],
+    keys: &[u8],
+    columns: &[u64],
+    input: &[u64],
+    n: usize,
+    dst: &mut [u8],
+)
+    requires { ⌜ Ready (now bundle) (now columns) (now input) × (length (now keys) ≡ 176) × (n < 3008) × (length (now dst) ≡ tableSize 10 n) ⌝ }
+    ensures { λ _. ⌜ now (dst .exit) ≡ tableOf (forward 10 (now (keys .entry))) (codingsOf 10 (now (bundle .entry))) 10 n ⌝ }
+{
+    let place = stage::place_of(n);
+    let s = place.stage;
+    let j = place.index;
+    table::write(bundle, keys, columns, input, s, j, dst);
+}
+
+// Every table, each into its own part of the lent memory.
+pub fn write_all(bundle: &[u8], keys: &[u8], columns: &[u64], input: &[u64], memory: &mut [u8])
+    requires { ⌜ Ready (now bundle) (now columns) (now input) × (length (now keys) ≡ 176) × (length (now memory) ≡ 770048) ⌝ }
+    ensures { λ _. ⌜ now (memory .exit) ≡ concat 3008 (tableOf (forward 10 (now (keys .entry))) (codingsOf 10 (now (bundle .entry))) 10) ⌝ }
+{
+    let mut n: usize = 0;
+    while n < 3008 {
+        let place = stage::place_of(n);
+        let a = place.offset;
+        let size = place.size;
+        let e = a + size;
+        write_one(bundle, keys, columns, input, n, &mut memory[a..e]);
+        n += 1;
+    }
+}

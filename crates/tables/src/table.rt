@@ -1,0 +1,162 @@
+// One table by its stage or half and its number there.
+ghost use mathlib.Core.Bool.{cond};
+ghost use mathlib.Core.List.{List};
+ghost use mathlib.Core.Path.{_≡_};
+ghost use Prim.Native.Nat.{ℕ, _+_, _-_, _*_, _^_, _<_, _≤_};
+ghost use lib.Dec.{eqb};
+ghost use lib.ListN.{length};
+ghost use Rattle.bits.specs.Lists.{tabulate};
+ghost use Rattle.bits.specs.Words.{stored};
+ghost use Rattle.bundle.specs.Judge.{judge};
+ghost use Rattle.bundle.specs.declared.answer.Judgement.the-variants.{Accepted};
+ghost use Rattle.layers.specs.Layers.{roundOf, Ready, acted, wordNumber, readByte};
+ghost use Rattle.network.specs.Numbers.{layerResults};
+ghost use Rattle.network.specs.Order.{GoodWidth, xors, layerLookups};
+ghost use Rattle.network.specs.Sizes.{sizeOf};
+ghost use Rattle.network.specs.Stages.{widthOf, numbersOf};
+ghost use Rattle.network.specs.Tables.{spreadTable, xorTable, tableIn};
+ghost use Rattle.whitebox.specs.Bundles.{codingsOf};
+ghost use Rattle.whitebox.specs.Parts.{forward};
+ghost use Rattle.whitebox.specs.Tables.{layerOf};
+use bundle::parts;
+use entries::lists;
+use entries::spread;
+use entries::xors;
+use layers::numbers;
+use layers::values;
+use layers::words;
+use network::stage::Stage;
+
+// The bytes that position p reads, decoded.
+fn read_bytes(bundle: &[u8], s: Stage, p: usize, dst: &mut [u8])
+    requires { ⌜ (judge 10 (now bundle) ≡ Accepted) × (1 ≤ roundOf s) × (roundOf s ≤ 9) × (p < 16) × (length (now dst) ≡ 256) ⌝ }
+    ensures { λ _. ⌜ now (dst .exit) ≡ tabulate 256 (readByte (now (bundle .entry)) s p) ⌝ }
+{
+    let j = numbers::source_of(s, p);
+    let high = numbers::standing_number(s, 2 * j);
+    let low = numbers::standing_number(s, 2 * j + 1);
+    lists::decoded_bytes(bundle, high, low, dst);
+}
+
+// For each of them, the byte that its word is linear in.
+fn values_of(bundle: &[u8], keys: &[u8], s: Stage, p: usize, dst: &mut [u8])
+    requires { ⌜ (judge 10 (now bundle) ≡ Accepted) × (length (now keys) ≡ 176) × (1 ≤ roundOf s) × (roundOf s ≤ 9) × (p < 16) × (length (now dst) ≡ 256) ⌝ }
+    ensures { λ _. ⌜ now (dst .exit) ≡ tabulate 256 (λ x. acted (forward 10 (now (keys .entry))) (codingsOf 10 (now (bundle .entry))) 10 s p (readByte (now (bundle .entry)) s p x)) ⌝ }
+{
+    match s {
+        Stage::First(r) => {
+            let mut read = [0u8; 256];
+            read_bytes(bundle, s, p, &mut read);
+            values::behind_sbox(bundle, keys, r, p, &read, dst);
+        }
+        Stage::Exit => {
+            let mut read = [0u8; 256];
+            read_bytes(bundle, s, p, &mut read);
+            values::behind_sbox(bundle, keys, 10, p, &read, dst);
+        }
+        Stage::Entry => read_bytes(bundle, s, p, dst),
+        Stage::Second(_) => read_bytes(bundle, s, p, dst),
+        Stage::Beyond => read_bytes(bundle, s, p, dst),
+    }
+}
+
+// The words of the bytes 2^0 to 2^7.
+fn basis_of(bundle: &[u8], columns: &[u64], input: &[u64], s: Stage, p: usize, basis: &mut [u64])
+    requires { ⌜ Ready (now bundle) (now columns) (now input) × (1 ≤ roundOf s) × (roundOf s ≤ 9) × (p < 16) × (length (now basis) ≡ 16) ⌝ }
+    ensures { λ _. ⌜ ((w : List ℕ) → now (basis .exit) ≡ stored 8 (λ k. wordNumber (forward 10 w) (codingsOf 10 (now (bundle .entry))) s p (2 ^ k)) (now (basis .entry))) ⌝ }
+{
+    match s {
+        Stage::Entry => words::spread_basis(bundle, input, 16, p, 0, basis),
+        Stage::First(r) => {
+            let n = 4 * (r - 1) + p / 4;
+            words::mixed_basis(parts::column_matrix_part(bundle, n), p % 4, basis);
+        }
+        Stage::Second(r) => {
+            let a = (4 * (r - 1) + p / 4) * 64;
+            let e = a + 64;
+            words::spread_basis(
+                bundle,
+                &columns[a..e],
+                4,
+                p % 4,
+                16 * r + 4 * (p / 4),
+                basis,
+            );
+        }
+        Stage::Exit => words::placed_basis(parts::output_matrix_part(bundle), p, basis),
+        Stage::Beyond => {}
+    }
+}
+
+// Spread table p.
+fn spread_table(
+    bundle: &[u8],
+    keys: &[u8],
+    columns: &[u64],
+    input: &[u64],
+    s: Stage,
+    p: usize,
+    dst: &mut [u8],
+)
+    requires { ⌜ Ready (now bundle) (now columns) (now input) × (length (now keys) ≡ 176) × (1 ≤ roundOf s) × (roundOf s ≤ 9) × (p < 16) × (length (now dst) ≡ 256 * widthOf s) ⌝ }
+    ensures { λ _. ⌜ now (dst .exit) ≡ spreadTable (codingsOf 10 (now (bundle .entry)) .encoding) (layerOf (forward 10 (now (keys .entry))) (codingsOf 10 (now (bundle .entry))) 10 s) (numbersOf 10 s) p ⌝ }
+{
+    let m = numbers::width_of(s);
+    let mut values = [0u8; 256];
+    let mut basis = [0u64; 16];
+    let mut images = [0u8; 512];
+    values_of(bundle, keys, s, p, &mut values);
+    basis_of(bundle, columns, input, s, p, &mut basis);
+    let d = 2 * m;
+    let first = numbers::first_number(s) + p * d;
+    lists::all_images(bundle, first, d, &mut images);
+    spread::write(&values, &basis, &images, m, dst);
+}
+
+// The number of the encoding of the sum so far: of the group's first word, or of the XOR before.
+fn sum_so_far(added: usize, spread: usize, before: usize) -> usize
+    ensures { λ r. ⌜ r ≡ cond (eqb added 0) spread before ⌝ }
+{
+    if added == 0 { spread } else { before }
+}
+
+// XOR table x of a layer of width m whose results are numbered from `first` on.
+fn xor_table(bundle: &[u8], m: usize, first: usize, x: usize, dst: &mut [u8])
+    requires { ⌜ GoodWidth m × (first + layerResults m ≤ 6048) × (x < xors m) × (length (now dst) ≡ 128) ⌝ }
+    ensures { λ _. ⌜ now (dst .exit) ≡ xorTable (codingsOf 10 (now (bundle .entry)) .encoding) m first x ⌝ }
+{
+    let d = 2 * m;
+    let h = x % d;
+    let turn = x / d;
+    let word = turn / (m - 1) * m;
+    let added = turn % (m - 1);
+    let result = first + 16 * d + x;
+    let sum = sum_so_far(added, first + word * d + h, result - d);
+    xors::write(bundle, sum, first + (word + added + 1) * d + h, result, dst);
+}
+
+// Table j of a stage or half.
+pub fn write(
+    bundle: &[u8],
+    keys: &[u8],
+    columns: &[u64],
+    input: &[u64],
+    s: Stage,
+    j: usize,
+    dst: &mut [u8],
+)
+    requires { ⌜ Ready (now bundle) (now columns) (now input) × (length (now keys) ≡ 176) × (1 ≤ roundOf s) × (roundOf s ≤ 9) × (j < layerLookups (widthOf s)) × (length (now dst) ≡ sizeOf (widthOf s) j) ⌝ }
+    ensures { λ _. ⌜ now (dst .exit) ≡ tableIn (codingsOf 10 (now (bundle .entry)) .encoding) (layerOf (forward 10 (now (keys .entry))) (codingsOf 10 (now (bundle .entry))) 10 s) (numbersOf 10 s) j ⌝ }
+{
+    if j < 16 {
+        spread_table(bundle, keys, columns, input, s, j, dst);
+    } else {
+        xor_table(
+            bundle,
+            numbers::width_of(s),
+            numbers::first_number(s),
+            j - 16,
+            dst,
+        );
+    }
+}
