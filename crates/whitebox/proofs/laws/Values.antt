@@ -33,19 +33,19 @@ use Rattle.whitebox.proofs.laws.Words.{substituted-is, entry-next, firs
 
 -- ---- the layers are good
 module _ (P : Parts) (fine : Fine P) (C : Codings) (nr : ℕ) where
-  entry-bytes : (p x : ℕ) → Bytes (entryWord P C p x)
+  pub entry-bytes : (p x : ℕ) → Bytes (entryWord P C p x)
   unfolding entryWord
   entry-bytes p x = tabulate-below 256 16 _ (lit< tt) (λ j h. product-lt 8 (at (byteMatrixAt C 1 j)) _)
 
-  mixed-word-bytes : (r p y : ℕ) → Bytes (mixedWord P C r p y)
+  pub mixed-word-bytes : (r p y : ℕ) → Bytes (mixedWord P C r p y)
   unfolding mixedWord
   mixed-word-bytes r p y = bytesOf-bytes 4 _
 
-  second-bytes : (r p x : ℕ) → Bytes (secondWord P C r p x)
+  pub second-bytes : (r p x : ℕ) → Bytes (secondWord P C r p x)
   unfolding secondWord
   second-bytes r p x = tabulate-below 256 4 _ (lit< tt) (λ t h. product-lt 8 (at (byteMatrixAt C (suc r) _)) _)
 
-  placed-word-bytes : (p y : ℕ) → Bytes (placedWord P C p y)
+  pub placed-word-bytes : (p y : ℕ) → Bytes (placedWord P C p y)
   unfolding placedWord
   placed-word-bytes p y = bytesOf-bytes 16 _
 
