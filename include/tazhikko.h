@@ -20,6 +20,9 @@ extern "C" {
 #define TAZHIKKO_BUNDLE_MAX_BYTES 65536
 #define TAZHIKKO_SET_BYTES 770048
 
+/* Tables in a set. Tables 0 to 15 and 2512 to 2527 have 4096 bytes; of the 112 tables of a half round the first 16 have 1024; all others 128. */
+#define TAZHIKKO_TABLES 3008
+
 /* Why a call is refused; the lowest number that applies is given. */
 #define TAZHIKKO_KEY_LENGTH 1     /* the key is not of 16 bytes */
 #define TAZHIKKO_BUNDLE_LENGTH 2  /* the bundle is too short or too long */
@@ -28,7 +31,8 @@ extern "C" {
 #define TAZHIKKO_BYTE_MATRIX 5    /* second number: the first byte matrix that has no inverse */
 #define TAZHIKKO_COLUMN_MATRIX 6  /* second number: the first column matrix that has no inverse */
 #define TAZHIKKO_BLOCK_MATRIX 7   /* second number: 0 input or both, 1 output only */
-#define TAZHIKKO_SET_LENGTH 9     /* the set is not of TAZHIKKO_SET_BYTES bytes */
+#define TAZHIKKO_TABLE_NUMBER 8   /* the table number is above TAZHIKKO_TABLES - 1 */
+#define TAZHIKKO_SET_LENGTH 9     /* the set, or the single table, has the wrong length */
 #define TAZHIKKO_BLOCK_LENGTH 10  /* a block, in or out, is not of 16 bytes */
 
 #define TAZHIKKO_CAUSE(refusal) ((refusal) / 65536u)
@@ -46,6 +50,11 @@ uint32_t tazhikko_decode_output(const uint8_t *bundle, size_t bundle_len, const 
 /* FIPS 197's AES-128. */
 uint32_t tazhikko_encipher(const uint8_t *key, size_t key_len, const uint8_t *block, size_t block_len, uint8_t *out, size_t out_len);
 uint32_t tazhikko_decipher(const uint8_t *key, size_t key_len, const uint8_t *block, size_t block_len, uint8_t *out, size_t out_len);
+
+/* The table set of a key and a bundle, or one table of it, into the lent memory. */
+uint32_t tazhikko_make_set(const uint8_t *key, size_t key_len, const uint8_t *bundle, size_t bundle_len, uint8_t *set, size_t set_len);
+uint32_t tazhikko_make_table(
+    const uint8_t *key, size_t key_len, const uint8_t *bundle, size_t bundle_len, size_t number, uint8_t *table, size_t table_len);
 
 /* The walk of a set over a block under the input coding: the answer is the cipher block under the output coding. */
 uint32_t tazhikko_walk(const uint8_t *set, size_t set_len, const uint8_t *block, size_t block_len, uint8_t *answer, size_t answer_len);

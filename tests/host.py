@@ -40,7 +40,7 @@ def call(lib, name, *slices, lent=None):
     f.restype = ctypes.c_uint32
     args = []
     for s in slices:
-        args += [ctypes.c_char_p(bytes(s)), ctypes.c_size_t(len(s))]
+        args += [ctypes.c_size_t(s)] if isinstance(s, int) else [ctypes.c_char_p(bytes(s)), ctypes.c_size_t(len(s))]
     if lent is None:
         return f(*args)
     out = ctypes.create_string_buffer(bytes(lent), len(lent) + 1)
@@ -90,6 +90,19 @@ def all_lengths(lib, name, first, block, expected, kind):
         same(call(lib, name, a, b, lent=o), want, f"{name} {len(a)} {len(b)} {len(o)}")
 
 
+def make(lib, key, bundle, made):
+    """The whole set and single tables, first and last of every stage, with every mix of right and wrong lengths."""
+    for k, b, o in itertools.product(lengths(key), lengths(bundle), lengths(bytes(770048))):
+        refusal = judged(key=k, bundle=b, table_set=o)
+        same(call(lib, "make_set", k, b, lent=o), (number(refusal), made if refusal is None else o), "make_set")
+    for n in [0, 15, 16, 495, 496, 511, 512, 607, 608, 2511, 2512, 2527, 2528, 3007, 3008, 2**64 - 1]:
+        look = wbref.LOOKS[n] if n < 3008 else None
+        table = made[look.off : look.off + look.size] if look else b""
+        for k, b, o in itertools.product(lengths(key), lengths(bundle), lengths(bytes([90] * max(1, len(table))))):
+            refusal = judged(key=k, bundle=b) or ((8, 0) if look is None else None if len(o) == len(table) else (9, 0))
+            same(call(lib, "make_table", k, b, n, lent=o), (number(refusal), table if refusal is None else o), f"make_table {n}")
+
+
 def main():
     rng = random.Random(197)
     with tempfile.TemporaryDirectory() as folder:
@@ -114,6 +127,7 @@ def main():
         presented = wbref.code(view, "in", block)
         answer = wbref.code(view, "out", openssl.encipher(key, block))
         all_lengths(lib, "walk", made, presented, answer, "table_set")
+        make(lib, key, bundle, made)
         other = rng.randbytes(770048)
         all_lengths(lib, "walk", other, block, wbref.walk_block(other, block), "table_set")
     print(f"{Count.checks} calls as expected")

@@ -11,6 +11,8 @@ use Rattle.bundle.specs.declared.answer.Judgement.{Judgement}
 use Rattle.bundle.specs.declared.answer.Judgement.the-variants.{Accepted, Refused}
 use Rattle.external.specs.Calls as external
 use Rattle.external.specs.declared.coding.Coded.{Coded}
+use Rattle.tables.specs.Calls as tables
+use Rattle.tables.specs.declared.calls.Made.{Made}
 
 abbrev pub returned : ℕ → ℕ → ℕ
 returned cause second = cause * 65536 + second
@@ -31,6 +33,9 @@ ofJudgement j = returned (causeOf j) (secondOf j)
 abbrev pub ofCoded : Coded → ℕ
 ofCoded c = returned (external.causeOf c) (external.secondOf c)
 
+abbrev pub ofMade : Made → ℕ
+ofMade m = returned (tables.causeOf m) (tables.secondOf m)
+
 abbrev pub ofAnswer : Answer → ℕ
 ofAnswer a = returned (aes.causeOf a) (aes.secondOf a)
 
@@ -42,4 +47,6 @@ pub record ReadOff (number cause second : ℕ) : Type 0 where
 pub record Readable : Type 0 where
   pub judgements : (l : List ℕ) → ReadOff (ofJudgement (judge 10 l)) (causeOf (judge 10 l)) (secondOf (judge 10 l))
   pub codings : (l : List ℕ) (m n : ℕ) → let c = external.answer 10 l m n in ReadOff (ofCoded c) (external.causeOf c) (external.secondOf c)
+  pub sets : (k : ℕ) (l : List ℕ) (m : ℕ) → let a = tables.setAnswer k l m in ReadOff (ofMade a) (tables.causeOf a) (tables.secondOf a)
+  pub singles : (k : ℕ) (l : List ℕ) (n m : ℕ) → let a = tables.tableAnswer k l n m in ReadOff (ofMade a) (tables.causeOf a) (tables.secondOf a)
   pub ciphers : (a : Answer) → ReadOff (ofAnswer a) (aes.causeOf a) (aes.secondOf a)

@@ -1,5 +1,6 @@
 // The calls for a host program in C: numbers and byte slices, each slice a pointer and a length. A call returns 0 where it is accepted,
 // else cause * 65536 + the number returned with it.
+pub mod make;
 mod number;
 pub mod walk;
 

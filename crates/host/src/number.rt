@@ -1,13 +1,16 @@
 // The number that a call for C returns.
 ghost use mathlib.Core.Path.{_≡_};
 ghost use Prim.Native.Nat.{_<_};
-ghost use Rattle.host.specs.Numbers.{returned, causeOf, secondOf, ofJudgement, ofCoded, ofAnswer};
+ghost use Rattle.host.specs.Numbers.{returned, causeOf, secondOf, ofJudgement, ofCoded, ofMade, ofAnswer};
 ghost use Rattle.external.specs.Calls as external;
+ghost use Rattle.tables.specs.Calls as tables;
 use aes::Answer;
 use bundle::answer;
 use bundle::answer::Judgement;
 use external::coding;
 use external::coding::Coded;
+use tables::calls;
+use tables::calls::Made;
 
 pub fn returned(cause: usize, second: usize) -> u32
     requires { ⌜ (cause < 16) × (second < 65536) ⌝ }
@@ -31,6 +34,13 @@ pub fn of_coded(c: Coded) -> u32
     ensures { λ r. ⌜ r ≡ ofCoded c ⌝ }
 {
     returned(coding::cause(c), coding::second(c))
+}
+
+pub fn of_made(m: Made) -> u32
+    requires { ⌜ tables.secondOf m < 65536 ⌝ }
+    ensures { λ r. ⌜ r ≡ ofMade m ⌝ }
+{
+    returned(calls::cause(m), calls::second(m))
 }
 
 pub fn of_answer(a: Answer) -> u32

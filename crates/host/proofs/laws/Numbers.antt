@@ -5,7 +5,7 @@ use mathlib.Core.List.{List}
 use mathlib.Core.Path.{_≡_, refl}
 use Prim.Native.Nat.{ℕ, _+_, _*_, _<_, _≤_}
 use native.Mathlib.Omega.{arith}
-use lib.Dec.{eqb}
+use lib.Dec.{eqb, ltb}
 use Rattle.aes.specs.Answers as aes
 use Rattle.aes.specs.declared.Answer.{Answer}
 use Rattle.aes.specs.declared.Answer.the-variants as answers
@@ -21,10 +21,14 @@ use Rattle.bundle.specs.declared.answer.Refusal.{Refusal}
 use Rattle.bundle.specs.declared.answer.Refusal.the-variants.{Length, Pair, Encoding, ByteMatrix, ColumnMatrix, InputMatrix, OutputMatrix}
 use Rattle.bundle.proofs.laws.Search.{at-bad}
 use Rattle.bundle.proofs.laws.Tests.{by-unless, by-unlessAt, by-andThen}
+use Rattle.network.specs.Stages.{tableSize}
 use Rattle.external.specs.Calls as external
 use Rattle.external.specs.Calls.{unlessRefused}
 use Rattle.external.specs.declared.coding.Coded.{Coded}
 use Rattle.external.specs.declared.coding.Coded.the-variants.{Done, Bundle, BlockLength}
+use Rattle.tables.specs.Calls as tables
+use Rattle.tables.specs.declared.calls.Made.{Made}
+use Rattle.tables.specs.declared.calls.Made.the-variants as made
 use Rattle.host.specs.Numbers.{returned, causeOf, secondOf, ofJudgement, ofCoded, ofAnswer, ReadOff, Readable}
 
 -- ---- causes
@@ -41,6 +45,13 @@ pub coded-cause : (c : Coded) → external.causeOf c < 16
 coded-cause Done = omega arith
 coded-cause (Bundle r) = cause-below r
 coded-cause BlockLength = omega arith
+
+pub made-cause : (m : Made) → tables.causeOf m < 16
+made-cause made.Done = omega arith
+made-cause made.KeyLength = omega arith
+made-cause (made.Bundle r) = cause-below r
+made-cause made.TableNumber = omega arith
+made-cause made.MemoryLength = omega arith
 
 pub answer-cause : (a : Answer) → aes.causeOf a < 16
 answer-cause answers.Done = omega arith
@@ -93,6 +104,22 @@ module _ (l : List ℕ) where
   unfolding external.answer
   coded-second m n = by-judgement (judge 10 l) judged-second (eqb m 16 && eqb n 16)
 
+  by-parts : (j : Judgement) → Below j → (a b c : Bool)
+      → tables.secondOf (cond a (tables.unlessRefused j (cond b made.TableNumber (cond c made.Done made.MemoryLength))) made.KeyLength) < 65536
+  by-parts j lt false b c = omega arith
+  by-parts Accepted lt true true c = omega arith
+  by-parts Accepted lt true false true = omega arith
+  by-parts Accepted lt true false false = omega arith
+  by-parts (Refused r) lt true b c = lt
+
+  pub set-second : (k m : ℕ) → tables.secondOf (tables.setAnswer k l m) < 65536
+  unfolding tables.setAnswer
+  set-second k m = by-parts (judge 10 l) judged-second (eqb k 16) false (eqb m 770048)
+
+  pub table-second : (k n m : ℕ) → tables.secondOf (tables.tableAnswer k l n m) < 65536
+  unfolding tables.tableAnswer
+  table-second k n m = by-parts (judge 10 l) judged-second (eqb k 16) (ltb 3007 n) (eqb m (tableSize 10 n))
+
 -- ---- both are read off
 read-off : (cause second : ℕ) → second < 65536 → ReadOff (returned cause second) cause second
 read-off cause second lt = record { cause-is = omega arith; second-is = omega arith }
@@ -101,5 +128,7 @@ pub readable : Readable
 readable = record {
   judgements = λ l. read-off _ _ (judged-second l);
   codings = λ l m n. read-off _ _ (coded-second l m n);
+  sets = λ k l m. read-off _ _ (set-second l k m);
+  singles = λ k l n m. read-off _ _ (table-second l k n m);
   ciphers = λ a. read-off _ _ (answer-second a);
 }
