@@ -3,7 +3,7 @@
 
 usage: rt staticlib host && tests/host.py
 
-Needs a C compiler: it checks that include/tazhikko.h is C, and links the archive into a library that can be loaded here. Every call is also
+Needs a C compiler: it builds and runs a small program over include/tazhikko.h, and links the archive into a library that can be loaded here. Every call is also
 made with each argument one byte short and one byte long; a refused call must leave the lent bytes as they were.
 """
 import ctypes
@@ -26,9 +26,10 @@ INCLUDE = os.path.join(HERE, "..", "include")
 def load(folder):
     user = os.path.join(folder, "user.c")
     with open(user, "w") as f:
-        f.write('#include "tazhikko.h"\nint main(void) { return (int)tazhikko_judge_bundle(0, 0); }\n')
+        f.write('#include "tazhikko.h"\nint main(void) { return TAZHIKKO_CAUSE(tazhikko_judge_bundle((const uint8_t *)"", 0)) == TAZHIKKO_BUNDLE_LENGTH ? 0 : 1; }\n')
     program = os.path.join(folder, "user")
     subprocess.run(["cc", "-std=c99", "-Wall", "-Wextra", "-Werror", "-I", INCLUDE, user, ARCHIVE, "-o", program], check=True)
+    subprocess.run([program], check=True)
     library = os.path.join(folder, "libhost.so")
     subprocess.run(["cc", "-shared", "-o", library, "-Wl,--whole-archive", ARCHIVE, "-Wl,--no-whole-archive"], check=True)
     return ctypes.CDLL(library)
