@@ -2,47 +2,60 @@
  *
  * usage: bench < KEY_AND_BUNDLE      16 bytes of a key, then a good bundle
  *
- * Each line is the least time of several rounds; in a round the two sides take turns, so that both meet the same state of the machine. */
-#include "plain.h"
+ * Each line has the least processor time of several rounds. In a round the two sides take turns, so that both meet the same machine. */
+#include "plain/plain.h"
 #include "tazhikko.h"
 
+#include <math.h>
 #include <stdio.h>
 #include <stdlib.h>
 #include <string.h>
 #include <time.h>
 
-enum { ROUNDS = 101, ROUND_TABLE = 496, XOR_TABLE = 512, ROUND_TABLE_BYTES = 1024, XOR_TABLE_BYTES = 128 };
+enum { ROUNDS = 101, SPREAD_TABLE = 496, XOR_TABLE = 512 };
 
 static uint8_t key[TAZHIKKO_KEY_BYTES];
 static uint8_t bundle[TAZHIKKO_BUNDLE_MAX_BYTES];
 static size_t bundle_len;
-static uint8_t ours[TAZHIKKO_SET_BYTES], plain[TAZHIKKO_SET_BYTES];
-static uint8_t block[TAZHIKKO_BLOCK_BYTES] = "a sample block.";
+static uint8_t our_set[TAZHIKKO_SET_BYTES], plain_set[TAZHIKKO_SET_BYTES];
+static uint8_t our_table[4096], plain_table[4096];
 static uint8_t our_block[TAZHIKKO_BLOCK_BYTES], plain_block[TAZHIKKO_BLOCK_BYTES];
 
-static void our_judge(void) { tazhikko_judge_bundle(bundle, bundle_len); }
-static void plain_judge(void) { plain_judge_bundle(bundle, bundle_len); }
-static void our_set(void) { tazhikko_make_set(key, sizeof key, bundle, bundle_len, ours, sizeof ours); }
-static void plain_set(void) { plain_make_set(key, bundle, bundle_len, plain); }
+static void judge_ours(void) { tazhikko_judge_bundle(bundle, bundle_len); }
+static void judge_plain(void) { plain_judge_bundle(bundle, bundle_len); }
+static void set_ours(void) { tazhikko_make_set(key, sizeof key, bundle, bundle_len, our_set, sizeof our_set); }
+static void set_plain(void) { plain_make_set(key, bundle, bundle_len, plain_set); }
 
-static void our_table(size_t number, size_t bytes) { tazhikko_make_table(key, sizeof key, bundle, bundle_len, number, ours, bytes); }
-static void our_round_table(void) { our_table(ROUND_TABLE, ROUND_TABLE_BYTES); }
-static void plain_round_table(void) { plain_make_table(key, bundle, bundle_len, ROUND_TABLE, plain); }
-static void our_xor_table(void) { our_table(XOR_TABLE, XOR_TABLE_BYTES); }
-static void plain_xor_table(void) { plain_make_table(key, bundle, bundle_len, XOR_TABLE, plain); }
+static size_t table_bytes(size_t number)
+{
+    if (number < 16 || (number >= 2512 && number < 2528))
+        return 4096;
+    return number >= 496 && number < 2512 && (number - 496) % 112 < 16 ? 1024 : 128;
+}
+
+static void make_ours(size_t number)
+{
+    tazhikko_make_table(key, sizeof key, bundle, bundle_len, number, our_table, table_bytes(number));
+}
+
+static void make_plain(size_t number) { plain_make_table(key, bundle, bundle_len, number, plain_table); }
+static void spread_ours(void) { make_ours(SPREAD_TABLE); }
+static void spread_plain(void) { make_plain(SPREAD_TABLE); }
+static void xor_ours(void) { make_ours(XOR_TABLE); }
+static void xor_plain(void) { make_plain(XOR_TABLE); }
 
 /* Each answer is the next block, so that a walk reads other entries than the one before. */
-static void our_walk(void)
+static void walk_ours(void)
 {
     uint8_t answer[TAZHIKKO_BLOCK_BYTES];
-    tazhikko_walk(ours, sizeof ours, our_block, sizeof our_block, answer, sizeof answer);
+    tazhikko_walk(our_set, sizeof our_set, our_block, sizeof our_block, answer, sizeof answer);
     memcpy(our_block, answer, sizeof answer);
 }
 
-static void plain_walk_on(void)
+static void walk_plain(void)
 {
     uint8_t answer[TAZHIKKO_BLOCK_BYTES];
-    plain_walk(plain, plain_block, answer);
+    plain_walk(plain_set, plain_block, answer);
     memcpy(plain_block, answer, sizeof answer);
 }
 
@@ -51,12 +64,14 @@ static const struct task {
     void (*ours)(void), (*plain)(void);
     int calls; /* in one round */
 } TASKS[] = {
-    {"judge a bundle", our_judge, plain_judge, 2},
-    {"make one spread table", our_round_table, plain_round_table, 2},
-    {"make one XOR table", our_xor_table, plain_xor_table, 2},
-    {"make a set", our_set, plain_set, 1},
-    {"walk a block", our_walk, plain_walk_on, 50},
+    {"judge a bundle", judge_ours, judge_plain, 2},
+    {"make a set", set_ours, set_plain, 1},
+    {"make one spread table", spread_ours, spread_plain, 2},
+    {"make one XOR table", xor_ours, xor_plain, 2},
+    {"walk a block", walk_ours, walk_plain, 50},
 };
+
+enum { COUNT = sizeof TASKS / sizeof *TASKS };
 
 static void require(int same, const char *what)
 {
@@ -80,32 +95,25 @@ static void check_judgements(void)
 
 static void check_tables(void)
 {
-    static const size_t numbers[] = {0, 15, 16, 495, 496, 497, 511, 512, 607, 608, 2511, 2512, 2513, 2527, 2528, 3007};
-    our_set();
-    plain_set();
-    require(memcmp(ours, plain, sizeof ours) == 0, "set");
-    for (size_t i = 0; i < sizeof numbers / sizeof *numbers; i++) {
-        size_t n = numbers[i], bytes = XOR_TABLE_BYTES;
-        if (n < 16 || (n >= 2512 && n < 2528))
-            bytes = 4096;
-        else if (n >= 496 && n < 2512 && (n - 496) % 112 < 16)
-            bytes = ROUND_TABLE_BYTES;
-        our_table(n, bytes);
-        plain_make_table(key, bundle, bundle_len, n, plain);
-        require(memcmp(ours, plain, bytes) == 0, "table");
+    size_t offset = 0;
+    set_ours();
+    set_plain();
+    require(memcmp(our_set, plain_set, sizeof our_set) == 0, "set");
+    for (size_t n = 0; n < TAZHIKKO_TABLES; n++) {
+        size_t bytes = table_bytes(n);
+        make_ours(n);
+        make_plain(n);
+        require(memcmp(our_table, our_set + offset, bytes) == 0 && memcmp(plain_table, plain_set + offset, bytes) == 0, "table");
+        offset += bytes;
     }
 }
 
 static void check_walks(void)
 {
-    our_set();
-    plain_set();
-    memcpy(our_block, block, sizeof block);
-    memcpy(plain_block, block, sizeof block);
     for (int i = 0; i < 1000; i++) {
-        our_walk();
-        plain_walk_on();
-        require(memcmp(our_block, plain_block, sizeof block) == 0, "walk");
+        walk_ours();
+        walk_plain();
+        require(memcmp(our_block, plain_block, sizeof our_block) == 0, "walk");
     }
 }
 
@@ -119,15 +127,22 @@ static double seconds(void (*call)(void), int calls)
     return ((double)(to.tv_sec - from.tv_sec) + 1e-9 * (double)(to.tv_nsec - from.tv_nsec)) / calls;
 }
 
-static void measure(const struct task *t)
+static double lesser(double a, double b) { return a < b ? a : b; }
+
+/* All tasks in every round: a busy moment of the machine then spoils one round of each, not one task. */
+static void measure(void)
 {
-    double our_least = 1e9, plain_least = 1e9;
-    for (int i = 0; i < ROUNDS; i++) {
-        double o = seconds(t->ours, t->calls), p = seconds(t->plain, t->calls);
-        our_least = o < our_least ? o : our_least;
-        plain_least = p < plain_least ? p : plain_least;
-    }
-    printf("%-22s %12.1f %12.1f %8.2f\n", t->what, 1e6 * our_least, 1e6 * plain_least, our_least / plain_least);
+    double ours[COUNT], plain[COUNT];
+    for (size_t i = 0; i < COUNT; i++)
+        ours[i] = plain[i] = INFINITY;
+    for (int round = 0; round < ROUNDS; round++)
+        for (size_t i = 0; i < COUNT; i++) {
+            ours[i] = lesser(ours[i], seconds(TASKS[i].ours, TASKS[i].calls));
+            plain[i] = lesser(plain[i], seconds(TASKS[i].plain, TASKS[i].calls));
+        }
+    printf("%-22s %12s %12s %8s\n", "microseconds", "ours", "plain C", "ratio");
+    for (size_t i = 0; i < COUNT; i++)
+        printf("%-22s %12.1f %12.1f %8.2f\n", TASKS[i].what, 1e6 * ours[i], 1e6 * plain[i], ours[i] / plain[i]);
 }
 
 int main(void)
@@ -138,8 +153,6 @@ int main(void)
     check_judgements();
     check_tables();
     check_walks();
-    printf("%-22s %12s %12s %8s\n", "", "ours, us", "plain C, us", "ratio");
-    for (size_t i = 0; i < sizeof TASKS / sizeof *TASKS; i++)
-        measure(&TASKS[i]);
+    measure();
     return 0;
 }
