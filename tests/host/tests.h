@@ -1,0 +1,30 @@
+/* The groups of tests, one function for each subject; each says whether all held. */
+#ifndef TESTS_H
+#define TESTS_H
+
+#include "check.h"
+
+struct tests {
+    struct cases cases;
+    struct chance chance;
+    size_t calls; /* random calls of each function; of longer rows of cases, so many are tried */
+};
+
+/* A call for C on three slices. */
+typedef uint32_t call_on_slices(const uint8_t *, size_t, const uint8_t *, size_t, uint8_t *, size_t);
+
+uint32_t call(call_on_slices *f, const struct slices *slices);
+
+/* How many cases of a row are tried, and the place of try n: all in order, or random ones. */
+size_t tries(const struct tests *t, size_t count);
+size_t tried(struct tests *t, size_t count, size_t n);
+
+bool test_judgements(struct tests *t);
+bool test_codings(struct tests *t);
+bool test_aes(struct tests *t);
+bool test_make_set(struct tests *t);
+bool test_make_table(struct tests *t);
+bool test_walk(struct tests *t);
+bool test_demand2(struct tests *t);
+
+#endif
