@@ -243,7 +243,8 @@ def make():
     c.with_changes([pair(2, o, n + 1)], lambda: few_parts(c, SHORTEST))
     c.with_changes([pair(2, o, n + 1)], lambda: refused_codes(c, rng, SHORTEST))
     b = wbref.Bundle(bytes(c.mem))
-    for at, data in ((list_at(c.mem, 6047), bytes(8)), (b.start[1], bytes(8)), (b.start[2], bytes(128)), (b.start[3], bytes(2048)), (b.start[4], bytes(2048))):
+    starts = [list_at(c.mem, 6047)] + b.start[1:]
+    for at, data in zip(starts, (bytes(8), bytes(8), bytes(128), bytes(2048), bytes(2048))):
         c.with_changes([(at, data)], lambda: few_parts(c, SHORTEST))
         c.with_changes([(at, data)], lambda: refused_codes(c, rng, SHORTEST))
 

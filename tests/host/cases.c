@@ -10,7 +10,7 @@ struct file {
     size_t at;
 };
 
-static void stop(const char *name, const char *why)
+static _Noreturn void stop(const char *name, const char *why)
 {
     fprintf(stderr, "cases: %s: %s\n", name, why);
     exit(2);

@@ -1,5 +1,7 @@
 #include "chance.h"
 
+#include <string.h>
+
 /* Splitmix64. */
 static uint64_t drawn(struct chance *chance)
 {
@@ -16,9 +18,11 @@ size_t below(struct chance *chance, size_t bound)
 
 void fill(struct chance *chance, uint8_t *out, size_t len)
 {
-    uint64_t word = 0;
-    for (size_t i = 0; i < len; i++) {
-        word = i % 8 == 0 ? drawn(chance) : word >> 8;
-        out[i] = (uint8_t)word;
+    while (len > 0) {
+        uint64_t word = drawn(chance);
+        size_t part = len < sizeof word ? len : sizeof word;
+        memcpy(out, &word, part);
+        out += part;
+        len -= part;
     }
 }

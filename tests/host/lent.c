@@ -39,16 +39,17 @@ static size_t shaped_length(size_t right, enum shape shape, struct chance *chanc
 static void closed(struct lent *lent)
 {
     memcpy(lent->held, lent->bytes, lent->len);
-    VALGRIND_MAKE_MEM_NOACCESS(lent->whole, GUARD);
+    VALGRIND_MAKE_MEM_NOACCESS(lent->whole, lent->bytes - lent->whole);
     VALGRIND_MAKE_MEM_NOACCESS(lent->bytes + lent->len, GUARD);
 }
 
 static struct lent made(const uint8_t *content, size_t content_len, size_t len, struct chance *chance)
 {
-    struct lent lent = {.len = len, .held = room(len + 1), .whole = room(GUARD + len + GUARD)};
+    size_t front = GUARD + below(chance, 16);
+    struct lent lent = {.len = len, .held = room(len + 1), .whole = room(front + len + GUARD), .whole_len = front + len + GUARD};
     size_t copied = content_len < len ? content_len : len;
-    lent.bytes = lent.whole + GUARD;
-    memset(lent.whole, GUARD_BYTE, GUARD + len + GUARD);
+    lent.bytes = lent.whole + front;
+    memset(lent.whole, GUARD_BYTE, lent.whole_len);
     memcpy(lent.bytes, content, copied);
     fill(chance, lent.bytes + copied, len - copied);
     closed(&lent);
@@ -110,20 +111,23 @@ struct lent lend_bundle(const struct cases *cases, const struct bundle *bundle, 
     return lent;
 }
 
+static bool all_guard(const uint8_t *from, const uint8_t *to)
+{
+    while (from < to && *from == GUARD_BYTE)
+        from++;
+    return from == to;
+}
+
 static bool guarded(const struct lent *lent)
 {
-    for (size_t i = 0; i < GUARD; i++) {
-        if (lent->whole[i] != GUARD_BYTE || lent->bytes[lent->len + i] != GUARD_BYTE)
-            return false;
-    }
-    return true;
+    return all_guard(lent->whole, lent->bytes) && all_guard(lent->bytes + lent->len, lent->whole + lent->whole_len);
 }
 
 /* memcheck reports what the call left unwritten. */
 bool holds(const struct lent *lent, const uint8_t *expected)
 {
     VALGRIND_CHECK_MEM_IS_DEFINED(lent->bytes, lent->len);
-    VALGRIND_MAKE_MEM_DEFINED(lent->whole, GUARD + lent->len + GUARD);
+    VALGRIND_MAKE_MEM_DEFINED(lent->whole, lent->whole_len);
     return memcmp(lent->bytes, expected, lent->len) == 0 && guarded(lent);
 }
 
@@ -131,7 +135,7 @@ bool as_it_was(const struct lent *lent)
 {
     if (lent->whole == NULL)
         return true;
-    VALGRIND_MAKE_MEM_DEFINED(lent->whole, GUARD + lent->len + GUARD);
+    VALGRIND_MAKE_MEM_DEFINED(lent->whole, lent->whole_len);
     return memcmp(lent->bytes, lent->held, lent->len) == 0 && guarded(lent);
 }
 

@@ -1,4 +1,4 @@
-/* Memory lent to a call, in right and wrong shapes, with guard bytes on both sides.
+/* Memory lent to a call, in right and wrong shapes and at any address, with guard bytes on both sides.
  *
  * Under memcheck the guards and a bundle's free bytes may not be touched at all, memory that a call writes counts as never written before it,
  * and an accepted call has to write all of it. */
@@ -15,6 +15,7 @@ struct lent {
     size_t len;
     uint8_t *held;  /* what it held when it was lent */
     uint8_t *whole; /* the bytes and both guards; null for a null slice */
+    size_t whole_len;
 };
 
 enum shape { RIGHT, NULL_SLICE, EMPTY, ONE_SHORT, ONE_LONG, ANY_LENGTH, SHAPES };

@@ -6,6 +6,10 @@
 /* A set takes as long as a hundred calls of other kinds. */
 enum { CALLS_FOR_A_SET = 100 };
 
+/* A bundle of the cases that are refused, and all else right. */
+static const struct shapes refused_bundle = {RIGHT, ANY_LENGTH, RIGHT};
+static const struct shapes all_right = {RIGHT, RIGHT, RIGHT};
+
 static uint32_t key_and_bundle(const struct slices *s, uint32_t judgement)
 {
     return lowest(unless(s->first.len == TAZHIKKO_KEY_BYTES, TAZHIKKO_KEY_LENGTH), judgement);
@@ -27,9 +31,11 @@ bool test_make_set(struct tests *t)
 {
     struct group g = {.name = "make_set"};
     for (size_t n = 0; n < t->cases.set_count; n++)
-        one_set(t, &g, &t->cases.sets[n], (struct shapes){RIGHT, RIGHT, RIGHT});
+        one_set(t, &g, &t->cases.sets[n], all_right);
     for (size_t n = 0; n < COMBINATIONS + t->calls / CALLS_FOR_A_SET; n++)
         one_set(t, &g, &t->cases.sets[below(&t->chance, t->cases.set_count)], shapes_of_call(n, &t->chance));
+    for (size_t n = 0; n < t->calls; n++)
+        one_set(t, &g, &t->cases.sets[n % t->cases.set_count], refused_bundle);
     return close_group(&g);
 }
 
@@ -62,7 +68,7 @@ static void tables_of_sets(struct tests *t, struct group *g)
     for (size_t k = 0; k < t->cases.set_count; k++) {
         for (size_t n = 0; n < tries(t, count); n++) {
             struct table table = part(t, &t->cases.sets[k], tried(t, count, n));
-            one_table(t, g, &table, (struct shapes){RIGHT, RIGHT, RIGHT});
+            one_table(t, g, &table, all_right);
         }
     }
 }
@@ -71,7 +77,7 @@ static void given_tables(struct tests *t, struct group *g)
 {
     size_t count = t->cases.table_count;
     for (size_t n = 0; n < tries(t, count); n++)
-        one_table(t, g, &t->cases.tables[tried(t, count, n)], (struct shapes){RIGHT, RIGHT, RIGHT});
+        one_table(t, g, &t->cases.tables[tried(t, count, n)], all_right);
 }
 
 /* Numbers that no table has, the greatest among them. */
@@ -93,5 +99,7 @@ bool test_make_table(struct tests *t)
         one_table(t, &g, &t->cases.tables[below(&t->chance, t->cases.table_count)], shapes);
         no_table(t, &g, shapes);
     }
+    for (size_t n = 0; n < t->calls; n++)
+        one_table(t, &g, &t->cases.tables[n % t->cases.table_count], refused_bundle);
     return close_group(&g);
 }
