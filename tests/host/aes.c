@@ -20,16 +20,16 @@ static void one_call(struct tests *t, struct group *g, enum direction direction,
     check(g, &s, call(direction == ENCIPHER ? tazhikko_encipher : tazhikko_decipher, &s), due, expected);
 }
 
-static bool test_direction(struct tests *t, enum direction direction)
+static void test_direction(struct tests *t, enum direction direction)
 {
     struct group g = {.name = direction == ENCIPHER ? "encipher" : "decipher"};
     for (size_t n = 0; n < COMBINATIONS + t->calls; n++)
         one_call(t, &g, direction, shapes_of_call(n, &t->chance));
-    return close_group(&g);
+    close_group(&g, &t->totals);
 }
 
-bool test_aes(struct tests *t)
+void test_aes(struct tests *t)
 {
-    bool forward = test_direction(t, ENCIPHER);
-    return test_direction(t, DECIPHER) && forward;
+    test_direction(t, ENCIPHER);
+    test_direction(t, DECIPHER);
 }

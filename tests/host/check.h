@@ -10,6 +10,12 @@ struct group {
     unsigned long failures;
 };
 
+struct totals {
+    unsigned long calls;
+    unsigned long passed; /* groups */
+    unsigned long failed;
+};
+
 /* What a call is lent: two slices that it reads and one that it writes. */
 struct slices {
     struct lent first;
@@ -42,7 +48,7 @@ void check(struct group *group, struct slices *slices, uint32_t returned, uint32
 /* A check of another kind. */
 void check_that(struct group *group, bool holds, const char *what);
 
-/* Prints the group's line; whether all of it held. */
-bool close_group(const struct group *group);
+/* Prints the group's line, and counts it. */
+void close_group(const struct group *group, struct totals *totals);
 
 #endif

@@ -40,11 +40,11 @@ static void out_of_bounds(struct tests *t, struct group *g)
     }
 }
 
-bool test_judgements(struct tests *t)
+void test_judgements(struct tests *t)
 {
     struct group g = {.name = "judge_bundle"};
     all_shapes(t, &g);
     given_cases(t, &g);
     out_of_bounds(t, &g);
-    return close_group(&g);
+    close_group(&g, &t->totals);
 }

@@ -27,7 +27,7 @@ static void one_set(struct tests *t, struct group *g, const struct set *set, str
     check(g, &s, call(tazhikko_make_set, &s), due, set->content.bytes);
 }
 
-bool test_make_set(struct tests *t)
+void test_make_set(struct tests *t)
 {
     struct group g = {.name = "make_set"};
     for (size_t n = 0; n < t->cases.set_count; n++)
@@ -36,7 +36,7 @@ bool test_make_set(struct tests *t)
         one_set(t, &g, &t->cases.sets[below(&t->chance, t->cases.set_count)], shapes_of_call(n, &t->chance));
     for (size_t n = 0; n < t->calls; n++)
         one_set(t, &g, &t->cases.sets[n % t->cases.set_count], refused_bundle);
-    return close_group(&g);
+    close_group(&g, &t->totals);
 }
 
 /* One table, or none for a number that no table has: then memory of some other length is lent. */
@@ -89,7 +89,7 @@ static void no_table(struct tests *t, struct group *g, struct shapes shapes)
     one_table(t, g, &table, shapes);
 }
 
-bool test_make_table(struct tests *t)
+void test_make_table(struct tests *t)
 {
     struct group g = {.name = "make_table"};
     tables_of_sets(t, &g);
@@ -101,5 +101,5 @@ bool test_make_table(struct tests *t)
     }
     for (size_t n = 0; n < t->calls; n++)
         one_table(t, &g, &t->cases.tables[n % t->cases.table_count], refused_bundle);
-    return close_group(&g);
+    close_group(&g, &t->totals);
 }

@@ -1,4 +1,4 @@
-/* The groups of tests, one function for each subject; each says whether all held. */
+/* The groups of tests, one function for each subject. */
 #ifndef TESTS_H
 #define TESTS_H
 
@@ -7,6 +7,7 @@
 struct tests {
     struct cases cases;
     struct chance chance;
+    struct totals totals;
     size_t calls; /* random calls of each function; of longer rows of cases, so many are tried */
 };
 
@@ -19,12 +20,12 @@ uint32_t call(call_on_slices *f, const struct slices *slices);
 size_t tries(const struct tests *t, size_t count);
 size_t tried(struct tests *t, size_t count, size_t n);
 
-bool test_judgements(struct tests *t);
-bool test_codings(struct tests *t);
-bool test_aes(struct tests *t);
-bool test_make_set(struct tests *t);
-bool test_make_table(struct tests *t);
-bool test_walk(struct tests *t);
-bool test_demand2(struct tests *t);
+void test_judgements(struct tests *t);
+void test_codings(struct tests *t);
+void test_aes(struct tests *t);
+void test_make_set(struct tests *t);
+void test_make_table(struct tests *t);
+void test_walk(struct tests *t);
+void test_demand2(struct tests *t);
 
 #endif

@@ -16,12 +16,12 @@ static void one_walk(struct tests *t, struct group *g, const struct walks *walks
     check(g, &s, call(tazhikko_walk, &s), due, block + 16);
 }
 
-bool test_walk(struct tests *t)
+void test_walk(struct tests *t)
 {
     struct group g = {.name = "walk"};
     for (size_t n = 0; n < COMBINATIONS + t->calls; n++) {
         const struct walks *walks = &t->cases.walks[n % t->cases.walks_count];
         one_walk(t, &g, walks, below(&t->chance, walks->count), shapes_of_call(n, &t->chance));
     }
-    return close_group(&g);
+    close_group(&g, &t->totals);
 }
