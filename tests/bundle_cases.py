@@ -113,18 +113,18 @@ def pair_cases(c, length):
         c.judge_with(length, pair(i, o + 1, n), pair(i + 1, p, m + 1))
 
 
-def list_at(c, n):
-    return wbref.pairs(c.mem)[0][0] + 8 * n
+def list_at(bundle, n):
+    return wbref.pairs(bundle)[0][0] + 8 * n
 
 
-def bad_lists(c, n):
+def bad_lists(bundle, n):
     """Lists that repeat an image: first and second, first and last, the last two, all alike, and a good one."""
-    images = wbref.Bundle(bytes(c.mem)).list(n)
+    images = wbref.Bundle(bundle).list(n)
     for a, b in ((0, 1), (0, 15), (14, 15), (7, 8), (3, 3)):
         changed = list(images)
         changed[b] = changed[a]
-        yield (list_at(c, n), wbref.pack_list(changed))
-    yield (list_at(c, n), bytes(8))
+        yield (list_at(bundle, n), wbref.pack_list(changed))
+    yield (list_at(bundle, n), bytes(8))
 
 
 def matrix_bytes(rows, n):
@@ -227,7 +227,7 @@ def make():
         c.judge(length)
     pair_cases(c, SHORTEST)
     for n in (0, 1, 31, 32, 3000, 6016, 6046, 6047):
-        for fault in bad_lists(c, n):
+        for fault in bad_lists(bytes(c.mem), n):
             c.judge_with(SHORTEST, fault)
     matrix_cases(c, rng, SHORTEST)
     several_faults(c, SHORTEST)
@@ -243,7 +243,8 @@ def make():
     c.with_changes([pair(2, o, n + 1)], lambda: few_parts(c, SHORTEST))
     c.with_changes([pair(2, o, n + 1)], lambda: refused_codes(c, rng, SHORTEST))
     b = wbref.Bundle(bytes(c.mem))
-    for at, data in ((list_at(c, 6047), bytes(8)), (b.start[1], bytes(8)), (b.start[2], bytes(128)), (b.start[3], bytes(2048)), (b.start[4], bytes(2048))):
+    starts = [list_at(c.mem, 6047)] + b.start[1:]
+    for at, data in zip(starts, (bytes(8), bytes(8), bytes(128), bytes(2048), bytes(2048))):
         c.with_changes([(at, data)], lambda: few_parts(c, SHORTEST))
         c.with_changes([(at, data)], lambda: refused_codes(c, rng, SHORTEST))
 
