@@ -17,7 +17,6 @@ use Rattle.bundle.proofs.laws.Frame.{sizes, framed}
 use Rattle.bundle.proofs.laws.Tests.{or-right}
 use Rattle.view.specs.Views.{startOf, startsOf, emptyWhen, sectionFrom}
 use Rattle.view.specs.Serving.{noStarts}
-use Rattle.view.specs.declared.starts.Starts.{Starts}
 
 -- ---- starts
 -- A bundle with neither cause 2 nor cause 3 has its five pairs.

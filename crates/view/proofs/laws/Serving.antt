@@ -4,7 +4,7 @@ use mathlib.Core.List.{List, []}
 use mathlib.Core.Path.{_≡_, refl, sym, ap, _∙_}
 use Prim.Native.Nat.{ℕ, _<_}
 use native.Mathlib.Omega.{arith}
-use denote.Ref.{RefT, now}
+use denote.Ref.{now}
 use Rattle.bundle.specs.Format.{partSize, offset, frame, sectionOf, partOf, partAt}
 use Rattle.bundle.specs.declared.answer.Judgement.{Judgement}
 use Rattle.bundle.specs.declared.answer.Judgement.the-variants.{Accepted, Refused}
