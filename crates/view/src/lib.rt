@@ -10,6 +10,7 @@ pub mod starts;
 use crate::part::Part;
 use crate::starts::Starts;
 
+// The lent bytes, and where the sections start: encodings, byte matrices, column matrices, input matrix and output matrix.
 pub struct View<'a> {
     pub bundle: &'a [u8],
     pub encodings: usize,

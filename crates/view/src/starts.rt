@@ -1,4 +1,4 @@
-// Where the five sections of a bundle start.
+// Where the five sections of a bundle start: encodings, byte matrices, column matrices, input matrix and output matrix.
 ghost use mathlib.Core.Path.{_≡_};
 ghost use Rattle.view.specs.Views.{startsOf};
 use bundle::answer::Judgement;
