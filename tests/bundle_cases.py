@@ -5,8 +5,9 @@ usage: tests/bundle_cases.py           write both files
        tests/bundle_cases.py --check   compare them with what the reference says
 
 The input is a row of orders of 8 bytes (kind, k, a, n; see crates/bundle_cases/src/main.rt) over a memory of 65,537 bytes:
-kind 0 puts the next n bytes at place a, kind 1 judges the first a bytes, kind 2 shows part n of kind k of the first a bytes, kind 3
-calls coding k under the first a bytes with a block of n // 256 bytes, which follow, into one of n % 256 bytes.
+kind 0 puts the next n bytes at place a, kind 1 judges the first a bytes, kinds 2 and 3 show part n of kind k of the first a bytes, by the
+bundle's call and by a view, and kind 4 calls coding k under the first a bytes with a block of n // 256 bytes, which follow, into one of
+n % 256 bytes.
 """
 import os
 import random
@@ -68,7 +69,6 @@ class Cases:
         self.with_changes(changes, lambda: self.judge(length))
 
     def part(self, length, k, n):
-        self.order(2, k, length, n)
         far = n % 8 << 61
         section, number = (k, n if k < 3 else 0) if k < 5 else (k - 5, far)
         cause = self.verdict(length)
@@ -77,10 +77,12 @@ class Cases:
         if not (cause and cause[0] in (2, 3)) and number < wbref.lengths()[section] // SIZES[section]:
             at = wbref.pairs(data)[section][0] + SIZES[section] * number
             out = data[at:at + SIZES[section]]
-        self.expected.append(out.hex())
+        for kind in (2, 3):
+            self.order(kind, k, length, n)
+            self.expected.append(out.hex())
 
     def code(self, length, k, block, room):
-        self.order(3, k, length, 256 * len(block) + room)
+        self.order(4, k, length, 256 * len(block) + room)
         self.orders += block
         cause = self.verdict(length) or ((10, 0) if len(block) != 16 or room != 16 else None)
         self.say(cause)
