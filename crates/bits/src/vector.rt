@@ -14,11 +14,11 @@ pub struct Vector {
     pub lo: u64,
 }
 
-// The parity of the ones that two vectors share.
+// The parity of the ones that two vectors share: of one word, since the parities of two words add up to that of their xor.
 pub fn parity(a: Vector, b: Vector) -> u64
     ensures { λ r. ⌜ r ≡ dot (value a) (value b) ⌝ }
 {
-    (u64::count_ones(a.hi & b.hi) as u64 + u64::count_ones(a.lo & b.lo) as u64) % 2
+    u64::count_ones((a.hi & b.hi) ^ (a.lo & b.lo)) as u64 % 2
 }
 
 // Digit s, from the bottom.
@@ -90,14 +90,22 @@ pub fn power(s: usize) -> Vector
     }
 }
 
+// c times x, for c 0 or 1, with no branch and no product of two unknown words.
+fn masked(c: u64, x: u64) -> u64
+    requires { ⌜ c < 2 ⌝ }
+    ensures { λ r. ⌜ r ≡ c * x ⌝ }
+{
+    x & (c * 18446744073709551615)
+}
+
 // a xor c times b, for c 0 or 1.
 pub fn add(a: Vector, c: u64, b: Vector) -> Vector
     requires { ⌜ c < 2 ⌝ }
     ensures { λ r. ⌜ value r ≡ bitXor (value a) (c * value b) ⌝ }
 {
     Vector {
-        hi: a.hi ^ (c * b.hi),
-        lo: a.lo ^ (c * b.lo),
+        hi: a.hi ^ masked(c, b.hi),
+        lo: a.lo ^ masked(c, b.lo),
     }
 }
 

@@ -28,17 +28,29 @@ pub fn images(p: &[u8], dst: &mut [u8])
     }
 }
 
-// What undoes them: the nibble of each image.
+// 16 at each place, for images that no nibble has.
+fn no_places(dst: &mut [u8])
+    requires { ⌜ length (now dst) ≡ 16 ⌝ }
+    ensures { λ _. ⌜ now (dst .exit) ≡ tabulate 16 (λ _. 16) ⌝ }
+{
+    let mut i: usize = 0;
+    while i < 16 {
+        dst[i] = 16;
+        i += 1;
+    }
+}
+
+// What undoes them: the first nibble of each image. Nibbles are taken from the last down, so that the first one stays.
 pub fn places(p: &[u8], dst: &mut [u8])
     requires { ⌜ length (now dst) ≡ 16 ⌝ }
     ensures { λ _. ⌜ now (dst .exit) ≡ tabulate 16 (decode (imagesOf (now (p .entry)))) ⌝ }
 {
-    let mut v: usize = 0;
-    let mut y: u8 = 0;
-    while v < 16 {
-        dst[v] = encoding::place(p, y);
-        v += 1;
-        y += 1;
+    no_places(dst);
+    let mut v: usize = 16;
+    while 0 < v {
+        v -= 1;
+        let y = widened(encoding::nibble(p, v));
+        dst[y] = v as u8;
     }
 }
 

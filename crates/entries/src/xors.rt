@@ -18,25 +18,31 @@ fn element(s: &[u8], x: u8) -> u8
     if i < s.len() { s[i] } else { 0 }
 }
 
-// Entry e: `sum` and `added` undo the encodings of the two nibbles, and `result` has the images of the sum.
-fn entry(sum: &[u8], added: &[u8], result: &[u8], e: usize) -> u8
-    requires { ⌜ (length (now sum) ≡ 16) × (length (now added) ≡ 16) × (e < 256) ⌝ }
-    ensures { λ r. ⌜ r ≡ at (now (result .entry)) (bitXor (at (now (sum .entry)) (e / 16)) (at (now (added .entry)) (e % 16))) ⌝ }
+// The entries for one nibble `a` of the sum so far, decoded: `added` undoes the encoding of the nibble that is added, and `result` has
+// the images of the sum. "Entry e stands in byte e/2, even e in the high half."
+fn write_row(a: u8, added: &[u8], result: &[u8], dst: &mut [u8])
+    requires { ⌜ (length (now added) ≡ 16) × (length (now dst) ≡ 8) × ((v : ℕ) → at (now result) v < 16) ⌝ }
+    ensures { λ _. ⌜ now (dst .exit) ≡ packed 8 (λ j. at (now (result .entry)) (bitXor a (at (now (added .entry)) j))) ⌝ }
 {
-    let x = sum[e / 16] ^ added[e % 16];
-    element(result, x)
+    let mut k: usize = 0;
+    while k < 8 {
+        let high = element(result, a ^ added[2 * k]);
+        let low = element(result, a ^ added[2 * k + 1]);
+        dst[k] = high * 16 + low;
+        k += 1;
+    }
 }
 
-// "Entry e stands in byte e/2, even e in the high half."
+// All entries: `sum` undoes the encoding of the sum so far.
 fn write_entries(sum: &[u8], added: &[u8], result: &[u8], dst: &mut [u8])
     requires { ⌜ (length (now sum) ≡ 16) × (length (now added) ≡ 16) × (length (now dst) ≡ 128) × ((v : ℕ) → at (now result) v < 16) ⌝ }
     ensures { λ _. ⌜ now (dst .exit) ≡ packed 128 (λ e. at (now (result .entry)) (bitXor (at (now (sum .entry)) (e / 16)) (at (now (added .entry)) (e % 16)))) ⌝ }
 {
     let mut i: usize = 0;
-    while i < 128 {
-        let high = entry(sum, added, result, 2 * i);
-        let low = entry(sum, added, result, 2 * i + 1);
-        dst[i] = high * 16 + low;
+    while i < 16 {
+        let a = i * 8;
+        let e = a + 8;
+        write_row(sum[i], added, result, &mut dst[a..e]);
         i += 1;
     }
 }

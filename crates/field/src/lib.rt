@@ -3,6 +3,7 @@ mod inv_sbox;
 mod sbox;
 
 pub use inv_sbox::inv_sub;
+pub use sbox::sbox_table;
 pub use sbox::sub;
 ghost use mathlib.Core.Path.{_≡_};
 ghost use mathlib.Core.Bool.{cond};

@@ -1,5 +1,6 @@
 // The S-box of FIPS 197, section 5.1.1, as a table.
 ghost use mathlib.Core.Path.{_≡_};
+ghost use Rattle.bits.specs.Lists.{tabulate};
 ghost use Rattle.field.specs.Sbox.{sboxOf};
 
 const SBOX: [u8; 256] = [
@@ -267,4 +268,11 @@ pub fn sub(x: u8) -> u8
 {
     let i = x as usize;
     SBOX[i]
+}
+
+// S(0), S(1), .., S(255), for a loop that reads the table often: each read of the constant itself copies it.
+pub fn sbox_table() -> [u8; 256]
+    ensures { λ r. ⌜ r ≡ tabulate 256 sboxOf ⌝ }
+{
+    SBOX
 }

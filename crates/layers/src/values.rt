@@ -1,7 +1,7 @@
 // The byte behind the S-box, for each byte that a first half or the exit reads.
 ghost use mathlib.Core.Bool.{cond};
 ghost use mathlib.Core.Path.{_≡_};
-ghost use Prim.Native.Nat.{ℕ, _+_, _*_, _<_, _≤_};
+ghost use Prim.Native.Nat.{ℕ, _+_, _*_, _/_, _%_, _<_, _≤_};
 ghost use lib.Bits.{bitXor};
 ghost use lib.Dec.{eqb};
 ghost use lib.ListN.{length};
@@ -11,6 +11,7 @@ ghost use Rattle.bits.specs.Matrices.{product};
 ghost use Rattle.bits.specs.Words.{rowsOf};
 ghost use Rattle.bundle.specs.Judge.{judge};
 ghost use Rattle.bundle.specs.declared.answer.Judgement.the-variants.{Accepted};
+ghost use Rattle.entries.specs.Spread.{nibbleByte};
 ghost use Rattle.field.specs.Sbox.{sboxOf};
 ghost use Rattle.whitebox.specs.Bundles.{codingsOf};
 ghost use Rattle.whitebox.specs.Parts.{forward};
@@ -19,12 +20,28 @@ use crate::inverses;
 use crate::numbers;
 use crate::words;
 use bundle::parts;
+use entries::lists;
+use entries::spread;
 
-fn substituted(inverse: &[u64], before: u8, behind: u8, x: u8) -> u8
-    requires { ⌜ 16 ≤ length (now inverse) ⌝ }
-    ensures { λ r. ⌜ r ≡ bitXor (sboxOf (bitXor (product 8 (rowsOf 8 (now (inverse .entry))) x) before)) behind ⌝ }
+// The products of the bytes with one nibble, which add up to those of all bytes.
+fn nibble_products(inverse: &[u64], dst: &mut [u8])
+    requires { ⌜ (16 ≤ length (now inverse)) × (length (now dst) ≡ 32) ⌝ }
+    ensures { λ _. ⌜ now (dst .exit) ≡ tabulate 32 (λ r. product 8 (rowsOf 8 (now (inverse .entry))) (nibbleByte r)) ⌝ }
 {
-    field::sub(words::byte_by(inverse, x) ^ before) ^ behind
+    let mut r: usize = 0;
+    while r < 32 {
+        dst[r] = words::byte_by(inverse, spread::nibble_byte(r));
+        r += 1;
+    }
+}
+
+// Of the byte x: `products` has those of the bytes with one nibble.
+fn substituted(products: &[u8], sbox: &[u8], before: u8, behind: u8, x: usize) -> u8
+    requires { ⌜ (length (now products) ≡ 32) × (length (now sbox) ≡ 256) × (x < 256) ⌝ }
+    ensures { λ r. ⌜ r ≡ bitXor (at (now (sbox .entry)) (bitXor (bitXor (at (now (products .entry)) (x % 16)) (at (now (products .entry)) (16 + x / 16))) before)) behind ⌝ }
+{
+    let y = products[x % 16] ^ products[16 + x / 16] ^ before;
+    sbox[lists::widened(y)] ^ behind
 }
 
 // Of every byte of `read`.
@@ -32,9 +49,13 @@ fn substitute(inverse: &[u64], before: u8, behind: u8, read: &[u8], dst: &mut [u
     requires { ⌜ (16 ≤ length (now inverse)) × (length (now read) ≡ 256) × (length (now dst) ≡ 256) ⌝ }
     ensures { λ _. ⌜ now (dst .exit) ≡ tabulate 256 (λ x. bitXor (sboxOf (bitXor (product 8 (rowsOf 8 (now (inverse .entry))) (at (now (read .entry)) x)) before)) behind) ⌝ }
 {
+    let mut products = [0u8; 32];
+    nibble_products(inverse, &mut products);
+    let sbox = field::sbox_table();
     let mut x: usize = 0;
     while x < 256 {
-        dst[x] = substituted(inverse, before, behind, read[x]);
+        let y = lists::widened(read[x]);
+        dst[x] = substituted(&products, &sbox, before, behind, y);
         x += 1;
     }
 }

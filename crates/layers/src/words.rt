@@ -56,9 +56,14 @@ fn byte_by_part(p: &[u8], x: u8) -> u8
     requires { ⌜ 8 ≤ length (now p) ⌝ }
     ensures { λ r. ⌜ r ≡ product 8 (matrixOf 1 (now (p .entry))) x ⌝ }
 {
-    let mut m = [0u64; 16];
-    matrix::read(p, &mut m, 1);
-    byte_by(&m, x)
+    let v = vector_of(x);
+    let mut r = Vector { hi: 0, lo: 0 };
+    let mut i: usize = 0;
+    while i < 8 {
+        r = vector::push_bit(r, vector::parity(vector_of(p[i]), v));
+        i += 1;
+    }
+    vector::byte(r, 0)
 }
 
 // Byte y at place i of n bytes that are else 0.

@@ -5,10 +5,10 @@ use mathlib.Core.Logic.{_≢_}
 use mathlib.Core.Path.{_≡_, refl, sym, ap, ap₂, _∙_, subst}
 use Prim.Native.Nat.{ℕ, zero, suc, _+_, _-_, _*_, _/_, _%_, _^_, _≤_, _<_}
 use native.Mathlib.Decide.{ℕ-discrete}
-use native.Mathlib.Nat.{mul-assoc, mul-add, one-mul, mod-eq-of-lt, zero-add, add-zero, add-comm, add-mul-div-right, add-mul-mod-self-right, suc-mul, mul-le-mul-right}
+use native.Mathlib.Nat.{mul-assoc, mul-add, zero-mul, one-mul, mod-eq-of-lt, zero-add, add-zero, add-comm, add-mul-div-right, add-mul-mod-self-right, suc-mul, mul-le-mul-right}
 use native.Mathlib.Numerals.{add-one}
 use native.Mathlib.Omega.{arith}
-use lib.Bits.{bitAnd, bitXor, and-block, xor-block, and-lt}
+use lib.Bits.{bitAnd, bitXor, and-block, xor-block, and-lt, and-zero-r, and-mask}
 use lib.Count.{ones, ones-cat}
 use lib.ListN.{length, set, length-set}
 use lib.Pow.{high, split, shr-shr, shr-lt, pow-pos, pow-lt, pow-add}
@@ -16,15 +16,17 @@ use lib.Seq.{getD-set-same, getD-set-other}
 use Rattle.bits.specs.Lists.{at, tabulate}
 use Rattle.bits.specs.Vectors.{dot}
 use Rattle.bits.specs.Words.{wide, rowAt, rowsOf, setRow, stored}
-use Rattle.bits.proofs.laws.Xor.{two}
+use Rattle.bits.proofs.laws.Xor.{two, ones-xor, sum-both}
 use Rattle.bits.proofs.laws.Lists.{tabulate-ext, length-tabulate, at-tabulate}
 
 -- ---- two words
 pub dot-wide : (hi lo vhi vlo : ℕ) → lo < 2 ^ 64 → vlo < 2 ^ 64
-    → (ones (bitAnd hi vhi) + ones (bitAnd lo vlo)) % 2 ≡ dot (wide hi lo) (wide vhi vlo)
+    → ones (bitXor (bitAnd hi vhi) (bitAnd lo vlo)) % 2 ≡ dot (wide hi lo) (wide vhi vlo)
 unfolding wide dot
 dot-wide hi lo vhi vlo h k =
-    ap (λ (x : ℕ). x % 2)
+    ones-xor (bitAnd hi vhi) (bitAnd lo vlo)
+    ∙ sum-both (ones (bitAnd hi vhi)) (ones (bitAnd lo vlo))
+    ∙ ap (λ (x : ℕ). x % 2)
     (sym (ones-cat 64 (bitAnd hi vhi) (bitAnd lo vlo) (and-lt 64 lo vlo h k)) ∙ ap ones (sym (and-block 64 hi vhi lo vlo h k)))
 
 -- m bits at place s that lie in the low word, or in the high one.
@@ -55,6 +57,11 @@ bits-high m hi lo s h k =
 -- c times a word, for c 0 or 1.
 pub scaled : (c x : ℕ) → c < 2 → x < 2 ^ 64 → c * x < 2 ^ 64
 scaled c x h k = two (λ c. c * x < 2 ^ 64) (omega arith) (omega arith) c h
+
+pub masked-is : (c x : ℕ) → c < 2 → x < 2 ^ 64 → bitAnd x (c * 18446744073709551615) ≡ c * x
+masked-is c x h k =
+    two (λ c. bitAnd x (c * 18446744073709551615) ≡ c * x) (and-zero-r x ∙ sym (zero-mul x))
+    (and-mask x 64 ∙ mod-eq-of-lt k ∙ sym (one-mul x)) c h
 
 pub xor-wide : (hi lo c vhi vlo : ℕ) → lo < 2 ^ 64 → c < 2 → vlo < 2 ^ 64
     → wide (bitXor hi (c * vhi)) (bitXor lo (c * vlo)) ≡ bitXor (wide hi lo) (c * wide vhi vlo)

@@ -40,7 +40,7 @@ same a b p q = omega arith
 sum-assoc : (x y z : ℕ) → ((x + y) % 2 + z) % 2 ≡ (x + (y + z) % 2) % 2
 sum-assoc x y z = mod-add-mod (x + y) 2 z ∙ ap (λ (t : ℕ). t % 2) (add-assoc x y z) ∙ sym (add-mod-mod x (y + z) 2)
 
-sum-both : (x y : ℕ) → (x % 2 + y % 2) % 2 ≡ (x + y) % 2
+pub sum-both : (x y : ℕ) → (x % 2 + y % 2) % 2 ≡ (x + y) % 2
 sum-both x y = mod-add-mod x 2 (y % 2) ∙ add-mod-mod x y 2
 
 sum-four : (p q a b x : ℕ) → x % 2 ≡ (a % 2 + b % 2) % 2 → ((p + q) % 2 + x) % 2 ≡ ((p + a) % 2 + (q + b) % 2) % 2

@@ -8,15 +8,14 @@ use native.Mathlib.Numerals.{add-one}
 use native.Mathlib.Omega.{arith}
 use lib.Bits.{bitXor}
 use lib.ListN.{length, take}
-use Rattle.bits.specs.Bytes.{Bytes, byte, bytesOf}
+use Rattle.bits.specs.Bytes.{Bytes}
 use Rattle.bits.specs.Encodings.{imagesOf, decode, Permutation}
-use Rattle.bits.specs.Groups.{group, xorAll}
-use Rattle.bits.specs.Lists.{at, tabulate}
-use Rattle.bits.specs.Nibbles.{pack, nibble}
-use Rattle.bits.proofs.laws.Bytes.{at-bytesOf}
+use Rattle.bits.specs.Groups.{xorAll}
+use Rattle.bits.specs.Lists.{at, tabulate, concat}
+use Rattle.bits.specs.Nibbles.{pack, packed, nibble}
 use Rattle.bits.proofs.laws.Encodings.{decode-lt}
-use Rattle.bits.proofs.laws.Lists.{at-tabulate, at-past, length-tabulate}
-use Rattle.bits.proofs.laws.Nibbles.{nibble-lt, nibble-even, nibble-odd}
+use Rattle.bits.proofs.laws.Lists.{at-tabulate, at-past, length-tabulate, at-concat, length-concat, ext-at}
+use Rattle.bits.proofs.laws.Nibbles.{nibble-lt, nibble-even, nibble-odd, at-packed, length-packed}
 
 -- The images of bytes are nibbles.
 pub images-below : (s : List ℕ) → Bytes s → (v : ℕ) → at (imagesOf s) v < 16
@@ -40,12 +39,29 @@ unfolding xorAll
 xorAll-next n f = rw add-one
 
 -- Byte k of an encoded word, from byte k of the word.
-pub word-byte : (images : ℕ → ℕ) (v m k b : ℕ) → k < m → b ≡ v / 2 ^ (8 * (m - 1 - k)) % 256
+pub word-byte : (images : ℕ → ℕ) (m : ℕ) (f : ℕ → ℕ) (k b : ℕ) → k < m → b ≡ f k
     → pack (images (16 * (2 * k) + b / 16)) (images (16 * (2 * k + 1) + b % 16))
-    ≡ pack (images (16 * (2 * k) + nibble (bytesOf m v) (2 * k))) (images (16 * (2 * k + 1) + nibble (bytesOf m v) (2 * k + 1)))
-unfolding group
-word-byte images v m k b h e =
-    let s : m - 1 - k ≡ m - suc k = omega arith in
-    let is : at (bytesOf m v) k ≡ b = at-bytesOf m v k h ∙ ap (λ (x : ℕ). v / 2 ^ (8 * x) % 256) (sym s) ∙ sym e in
+    ≡ pack (images (16 * (2 * k) + nibble (tabulate m f) (2 * k))) (images (16 * (2 * k + 1) + nibble (tabulate m f) (2 * k + 1)))
+word-byte images m f k b h e =
+    let is : at (tabulate m f) k ≡ b = at-tabulate m f k h ∙ sym e in
     ap₂ (λ (x y : ℕ). pack (images (16 * (2 * k) + x)) (images (16 * (2 * k + 1) + y)))
-    (sym (nibble-even (bytesOf m v) k ∙ ap (λ (x : ℕ). x / 16) is)) (sym (nibble-odd (bytesOf m v) k ∙ ap (λ (x : ℕ). x % 16) is))
+    (sym (nibble-even (tabulate m f) k ∙ ap (λ (x : ℕ). x / 16) is)) (sym (nibble-odd (tabulate m f) k ∙ ap (λ (x : ℕ). x % 16) is))
+
+-- ---- an XOR table is its 16 rows, one after the other
+pub rows-packed : (g : ℕ → ℕ → ℕ) → concat 16 (λ i. packed 8 (g i)) ≡ packed 128 (λ e. g (e / 16) (e % 16))
+rows-packed g =
+    ext-at 128 _ _ (length-concat 8 rows 16 (λ i h. length-packed 8 (g i))) (length-packed 128 _)
+    (λ k h.
+    let here : k ≡ k / 8 * 8 + k % 8 = omega arith in
+    let high : 2 * k / 16 ≡ k / 8 = omega arith in
+    let high-odd : (2 * k + 1) / 16 ≡ k / 8 = omega arith in
+    let low : 2 * k % 16 ≡ 2 * (k % 8) = omega arith in
+    let low-odd : (2 * k + 1) % 16 ≡ 2 * (k % 8) + 1 = omega arith in
+    ap (at (concat 16 rows)) here
+    ∙ at-concat 8 rows 16 (λ i h. length-packed 8 (g i)) (k / 8) (k % 8) (omega arith) (omega arith)
+    ∙ at-packed 8 (g (k / 8)) (k % 8) (omega arith)
+    ∙ ap₂ pack (ap₂ g (sym high) (sym low)) (ap₂ g (sym high-odd) (sym low-odd))
+    ∙ sym (at-packed 128 (λ e. g (e / 16) (e % 16)) k h))
+  where
+    rows : ℕ → List ℕ
+    rows i = packed 8 (g i)

@@ -9,7 +9,7 @@ use native.Mathlib.Nat.{one-mul, zero-add, mod-eq-of-lt}
 use native.Mathlib.Omega.{arith}
 use borrow.Author.Tests.{lt-ltb, eq-eqb, ne-eqb}
 use borrow.Rule.Slice.PartMut.{putMid, postOf}
-use lib.Bits.{bitXor}
+use lib.Bits.{bitXor, xor-lt}
 use lib.Dec.{eqb}
 use lib.ListN.{length, take, drop, set, replicate, length-append, length-replicate, getD-replicate}
 use lib.Pow.{pow-lt}
@@ -19,19 +19,21 @@ use Rattle.bits.specs.Bytes.{Bytes, number, placed}
 use Rattle.bits.specs.Elimination.{Inversion, inverse, singular, invert, rowsIn, inverseOf}
 use Rattle.bits.specs.Groups.{joined}
 use Rattle.bits.specs.Lists.{at, tabulate}
-use Rattle.bits.specs.Matrices.{product, matrixOf, RowsFit, Invertible}
+use Rattle.bits.specs.Matrices.{product, productBy, matrixOf, RowsFit, Invertible}
 use Rattle.bits.specs.Words.{rowsOf, hasInverse, withInverse}
-use Rattle.bits.proofs.laws.Bytes.{matrixOf-fits}
+use Rattle.bits.proofs.laws.Bytes.{matrixOf-at, matrixOf-fits}
 use Rattle.bits.proofs.laws.Groups.{joined-same}
 use Rattle.bits.proofs.laws.Inverses.{answered, exact}
 use Rattle.bits.proofs.laws.Lists.{at-tabulate, tabulate-at, at-past}
-use Rattle.bits.proofs.laws.Matrices.{product-lt}
+use Rattle.bits.proofs.laws.Matrices.{product-lt, product-rows, product-xor}
 use Rattle.bits.proofs.laws.Words.{rows-stored}
 use Rattle.bundle.specs.Format.{byteMatrices, columnMatrices, partCount, partSize, frame, byteMatrixPart, columnMatrixPart, inputMatrixPart, outputMatrixPart, byteMatrix, columnMatrix}
 use Rattle.bundle.specs.Judge.{judge}
 use Rattle.bundle.specs.declared.answer.Judgement.the-variants.{Accepted}
 use Rattle.bundle.proofs.laws.Parts.{part-long, take-inside}
 use Rattle.bundle.proofs.laws.Tests.{first-accepted}
+use Rattle.entries.specs.Spread.{nibbleByte}
+use Rattle.entries.proofs.laws.Combined.{by-nibbles}
 use Rattle.field.specs.Sbox.{sboxOf}
 use Rattle.network.specs.Numbers.{encodingNumber, sumNumber}
 use Rattle.network.specs.Stages.{shifted, afterRound}
@@ -108,6 +110,33 @@ low-byte m v x b e q =
     let h : product 8 m x < 256 = product-lt 8 (at m) x in
     let z : v / 1 % 256 ≡ v = omega arith in
     q ∙ z ∙ e
+
+-- The rows of a matrix of 8 rows are the bytes that write it.
+pub part-rows : (p : List ℕ) (x : ℕ) → productBy 8 (at p) x ≡ product 8 (matrixOf 1 p) x
+unfolding joined
+part-rows p x =
+    product-rows 8 (at p) (at (matrixOf 1 p)) x
+    (λ i h.
+    let here : i * 1 + 0 ≡ i = omega arith in
+    let one : 0 * 2 ^ 8 + at p (i * 1 + 0) ≡ at p (i * 1 + 0) = omega arith in
+    sym (matrixOf-at 1 p i h ∙ one ∙ ap (at p) here))
+
+-- The byte behind the S-box, from the products of the bytes with one nibble and the S-box as a table.
+pub substituted-is : (m products sbox : List ℕ) (before read y : ℕ) → products ≡ tabulate 32 (λ r. product 8 m (nibbleByte r))
+    → sbox ≡ tabulate 256 sboxOf → y < 256 → before < 256 → y ≡ read
+    → at sbox (bitXor (bitXor (at products (y % 16)) (at products (16 + y / 16))) before) ≡ sboxOf (bitXor (product 8 m read) before)
+substituted-is m products sbox before read y p s h b e =
+    ap₂ (λ (t : List ℕ) (x : ℕ). at t (bitXor x before)) s sum
+    ∙ at-tabulate 256 sboxOf _ (xor-lt 8 (product 8 m read) before (product-lt 8 (at m) read) b)
+  where
+    product-at : (r : ℕ) → r < 32 → at products r ≡ product 8 m (nibbleByte r)
+    product-at r k = ap (λ (t : List ℕ). at t r) p ∙ at-tabulate 32 (λ r. product 8 m (nibbleByte r)) r k
+
+    sum : bitXor (at products (y % 16)) (at products (16 + y / 16)) ≡ product 8 m read
+    sum =
+        ap₂ bitXor (product-at (y % 16) (omega arith)) (product-at (16 + y / 16) (omega arith))
+        ∙ by-nibbles (product 8 m) (product-xor 8 (at m)) y
+        ∙ ap (product 8 m) e
 
 pub front-at : (n : ℕ) (t : List ℕ) (f : ℕ → ℕ) → take n t ≡ tabulate n f → (j : ℕ) → j < n → at t j ≡ f j
 front-at n t f e j h = sym (getD-take n t j 0 h) ∙ ap (λ (u : List ℕ). at u j) e ∙ at-tabulate n f j h

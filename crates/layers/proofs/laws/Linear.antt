@@ -21,39 +21,12 @@ use Rattle.bits.proofs.laws.Vectors.{dot-power, dot-xor, dot-lt}
 use Rattle.bits.proofs.laws.Xor.{Linear, two}
 use Rattle.bits.proofs.laws.XorAll.{xorAll-same, xorAll-one, linear-xorAll}
 use Rattle.entries.specs.Spread.{combined}
+use Rattle.entries.proofs.laws.Combined.{combined-linear}
 use Rattle.field.specs.Field.{mul}
 use Rattle.field.proofs.laws.Field.{mul-xor, mul-lt}
 use Rattle.field.proofs.laws.OnBytes.{OnBytes, same}
 
 -- ---- the xor of eight words
-scale-xor : (c a b : ℕ) → a < 2 → b < 2 → (a + b) % 2 * c ≡ bitXor (a * c) (b * c)
-scale-xor c a b h k =
-    two (λ (a : ℕ). (b : ℕ) → b < 2 → (a + b) % 2 * c ≡ bitXor (a * c) (b * c))
-    (λ b k. two (λ (b : ℕ). (0 + b) % 2 * c ≡ bitXor (0 * c) (b * c)) (zeros c) (left c) b k)
-    (λ b k. two (λ (b : ℕ). (1 + b) % 2 * c ≡ bitXor (1 * c) (b * c)) (right c) (both c) b k) a h b k
-  where
-    zeros : (c : ℕ) → 0 * c ≡ bitXor (0 * c) (0 * c)
-    zeros c = rw zero-mul (sym (xor-self 0))
-
-    left : (c : ℕ) → 1 * c ≡ bitXor (0 * c) (1 * c)
-    left c = rw (zero-mul, one-mul) (sym (xor-zero-l c))
-
-    right : (c : ℕ) → 1 * c ≡ bitXor (1 * c) (0 * c)
-    right c = rw (zero-mul, one-mul) (sym (xor-zero-r c))
-
-    both : (c : ℕ) → 0 * c ≡ bitXor (1 * c) (1 * c)
-    both c = rw (zero-mul, one-mul) (sym (xor-self c))
-
-bit-linear : (i c : ℕ) → Linear (λ y. (y / 2 ^ i % 2) * c)
-bit-linear i c x y =
-    ap (λ (b : ℕ). b * c) (sym (dot-power i (bitXor x y)) ∙ dot-xor (2 ^ i) x y)
-    ∙ scale-xor c (dot (2 ^ i) x) (dot (2 ^ i) y) (dot-lt (2 ^ i) x) (dot-lt (2 ^ i) y)
-    ∙ ap₂ (λ (a b : ℕ). bitXor (a * c) (b * c)) (dot-power i x) (dot-power i y)
-
-combined-linear : (f : ℕ → ℕ) → Linear (combined f)
-unfolding combined
-combined-linear f = linear-xorAll 8 (λ i y. (y / 2 ^ i % 2) * f i) (λ i. bit-linear i (f i))
-
 abbrev bitIs : ℕ → ℕ → Bool
 bitIs j i = eqb (2 ^ j / 2 ^ i % 2) (cond (eqb j i) 1 0)
 

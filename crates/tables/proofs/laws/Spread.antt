@@ -26,7 +26,7 @@ use Rattle.bundle.specs.Judge.{judge}
 use Rattle.bundle.specs.declared.answer.Judgement.the-variants.{Accepted}
 use Rattle.bundle.proofs.laws.Encodings.{images-long}
 use Rattle.bundle.proofs.laws.Judgements.{accepted-sound}
-use Rattle.entries.specs.Spread.{combined, encodedWord}
+use Rattle.entries.specs.Spread.{combined, encodedBytes, encodedWord}
 use Rattle.field.specs.Field.{mul}
 use Rattle.field.proofs.laws.OnBytes.{OnBytes}
 use Rattle.layers.specs.Layers.{roundOf, acted, linearWord, wordNumber, readByte}
@@ -221,7 +221,7 @@ module _ (l w : List ℕ) (bytes : Bytes l) (keys : Bytes w) (accepted : judge 1
       → ((k : ℕ) → k < 8 → f k ≡ wordNumber P C s p (2 ^ k))
       → take (2 * widthOf s * 16) images ≡ concat (2 * widthOf s) (λ k. encodingOf 10 l (firstNumber 10 s + p * (2 * widthOf s) + k))
       → dst ≡ spreadTable (C .encoding) (layerOf P C 10 s) (numbersOf 10 s) p
-  unfolding encodedWord spreadTable
+  unfolding encodedBytes spreadTable
   spread-is values images dst f d v b i =
       let fine = forward-fine 10 w keys in
       let lin = word-linear P fine C p s low in

@@ -1,17 +1,26 @@
 -- `bits::vector::add` meets its contract. Assumes nothing.
+use mathlib.Core.Path.{_≡_, ap₂, _∙_}
+use Prim.Native.Nat.{ℕ, _*_}
+use lib.Bits.{bitXor}
 use native.Mathlib.Omega.{arith}
-use Rattle.bits.proofs.laws.Words.{scaled, xor-wide}
+use Rattle.bits.specs.Words.{wide}
+use Rattle.bits.proofs.laws.Words.{xor-wide}
+use borrow.Author.Needs.{needs}
 use Rattle.bits.proofs.vector.add.Statement.{statement}
 use Rattle.bits.proofs.vector.add.Tie as tie
+use Rattle.bits.proofs.vector.masked.Reads as masked-reads
 
-mul-t4 : tie.Need-mul-t4
-mul-t4 c = record { fits = scaled (c .before .args .c) (c .before .args .b .hi) (omega arith) (omega arith) }
+masked-requires : tie.Need-masked-requires
+masked-requires c κs = c .pre
 
-mul-t6 : tie.Need-mul-t6
-mul-t6 c = record { fits = scaled (c .before .before .before .args .c) (c .before .before .before .args .b .lo) (omega arith) (omega arith) }
+masked-requires-2 : tie.Need-masked-requires-2
+masked-requires-2 c κs = c .before .before .pre
 
 returns : tie.Need-returns
-returns c = xor-wide (c .before .before .before .before .args .a .hi) (c .before .before .before .before .args .a .lo) (c .before .before .before .before .args .c) (c .before .before .before .before .args .b .hi) (c .before .before .before .before .args .b .lo) (omega arith) (omega arith) (omega arith)
+returns c =
+    let A = c .before .before .before .before .args in
+    ap₂ (λ (h l : ℕ). wide (bitXor (A .a .hi) h) (bitXor (A .a .lo) l)) (c .before .before .before .masked .ensures) (c .before .masked2 .ensures)
+    ∙ xor-wide (A .a .hi) (A .a .lo) (A .c) (A .b .hi) (A .b .lo) (omega arith) (omega arith) (omega arith)
 
 pub add-spec : {M : Type 1} → statement M
-add-spec = tie.close (tie.spec mul-t4 mul-t6 returns)
+add-spec = tie.close (tie.spec masked-requires masked-requires-2 returns)

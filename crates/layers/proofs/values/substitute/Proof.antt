@@ -1,27 +1,52 @@
 -- `layers::values::substitute` meets its contract. Assumes nothing.
-use mathlib.Core.Path.{_≡_, refl}
-use Prim.Native.Nat.{_-_}
+use mathlib.Core.List.{List}
+use mathlib.Core.Path.{_≡_, refl, sym, ap, ap₂, _∙_}
+use Prim.Native.Nat.{ℕ, _+_, _-_, _/_, _%_, _^_, _<_}
 use lib.Bits.{bitXor}
-use Rattle.bits.specs.Lists.{at}
+use lib.ListN.{length}
+use Rattle.bits.specs.Lists.{at, tabulate}
 use Rattle.bits.specs.Matrices.{product}
 use Rattle.bits.specs.Words.{rowsOf}
 use Rattle.bits.proofs.laws.Filled.{Filled, filled-none, filled-more, filled-all}
 use Rattle.field.specs.Sbox.{sboxOf}
+use Rattle.layers.proofs.laws.Code.{substituted-is}
 use native.Mathlib.Omega.{arith}
 use Rattle.layers.proofs.values.substitute.Statement.{statement}
 use Rattle.layers.proofs.values.substitute.Tie as tie
+use Rattle.entries.proofs.lists.widened.Reads as widened-reads
+use Rattle.field.proofs.sbox_table.Reads as sbox-table-reads
+use Rattle.layers.proofs.values.nibble_products.Reads as nibble-products-reads
+use Rattle.layers.proofs.values.substituted.Reads as substituted-reads
 
 abbrev Inv-loop : tie.InvT-loop
-Inv-loop inverse before behind read dst₀ x₀ dst x = Filled 256 (λ k. bitXor (sboxOf (bitXor (product 8 (rowsOf 8 inverse) (at read k)) before)) behind) dst x
+Inv-loop inverse before behind read dst₀ products sbox x₀ dst x = Filled 256 (λ k. bitXor (sboxOf (bitXor (product 8 (rowsOf 8 inverse) (at read k)) before)) behind) dst x
 
 abbrev μ-loop : tie.MeasureT-loop
-μ-loop inverse before behind read dst₀ x₀ dst x = 256 - x
+μ-loop inverse before behind read dst₀ products sbox x₀ dst x = 256 - x
+
+slice-aggregate-nibble-products : tie.Need-slice-aggregate-nibble-products Inv-loop μ-loop
+slice-aggregate-nibble-products c = omega arith
+
+nibble-products-requires : tie.Need-nibble-products-requires Inv-loop μ-loop
+nibble-products-requires c κs = omega arith
+
+sbox-table-requires : tie.Need-sbox-table-requires Inv-loop μ-loop
+sbox-table-requires c κs = omega arith
 
 loop-holds : tie.Need-loop-holds Inv-loop μ-loop
-loop-holds c = filled-none 256 _ _ (c .before .before .before .pre .2)
+loop-holds c = filled-none 256 _ _ ((c .before .before .before .before .before .before .before .pre) .2)
 
-shared-slice-read-substituted : tie.Need-shared-slice-read-substituted Inv-loop μ-loop
-shared-slice-read-substituted c = omega arith
+shared-slice-read-widened : tie.Need-shared-slice-read-widened Inv-loop μ-loop
+shared-slice-read-widened c = omega arith
+
+widened-requires : tie.Need-widened-requires Inv-loop μ-loop
+widened-requires c κs = omega arith
+
+slice-aggregate-substituted : tie.Need-slice-aggregate-substituted Inv-loop μ-loop
+slice-aggregate-substituted c = omega arith
+
+slice-aggregate-substituted-2 : tie.Need-slice-aggregate-substituted-2 Inv-loop μ-loop
+slice-aggregate-substituted-2 c = omega arith
 
 substituted-requires : tie.Need-substituted-requires Inv-loop μ-loop
 substituted-requires c κs = omega arith
@@ -36,7 +61,12 @@ loop-less : tie.Need-loop-less Inv-loop μ-loop
 loop-less c = omega arith
 
 loop-again : tie.Need-loop-again Inv-loop μ-loop
-loop-again c = filled-more (c .before .before .before .loop .inv) (omega arith) (c .substituted .ensures)
+loop-again c =
+    let A = c .before .before .before .before .before .before .before .before .before .before .before .before .before .before .args in
+    let L = c .before .before .before .before .before .before .loop in
+    filled-more (L .inv) (omega arith)
+    (c .substituted .ensures
+    ∙ ap (λ (z : ℕ). bitXor z (A .behind)) (substituted-is (rowsOf 8 (A .inverse .now)) (c .before .before .before .before .before .before .before .before .before .nibble-products .last .1 .0) (c .before .before .before .before .before .before .before .sbox-table .result) (A .before) _ (c .before .before .before .widened .result) (c .before .before .before .before .before .before .before .before .before .nibble-products .ensures) (c .before .before .before .before .before .before .before .sbox-table .ensures) (c .before .before .before .widened .ensures .1) (omega arith) (c .before .before .before .widened .ensures .0)))
 
 same-length : tie.Need-same-length Inv-loop μ-loop
 same-length c = omega arith
@@ -50,8 +80,14 @@ substitute-spec =
     (tie.spec
     Inv-loop
     μ-loop
+    slice-aggregate-nibble-products
+    nibble-products-requires
+    sbox-table-requires
     loop-holds
-    shared-slice-read-substituted
+    shared-slice-read-widened
+    widened-requires
+    slice-aggregate-substituted
+    slice-aggregate-substituted-2
     substituted-requires
     slice-write-dst
     add-x

@@ -1,0 +1,15 @@
+-- `bits::vector::masked` meets its contract. Assumes nothing.
+use native.Mathlib.Omega.{arith}
+use Rattle.bits.proofs.laws.Words.{masked-is, scaled}
+use lib.Dec.{lit<}
+use Rattle.bits.proofs.vector.masked.Statement.{statement}
+use Rattle.bits.proofs.vector.masked.Tie as tie
+
+mul-result : tie.Need-mul-result
+mul-result c = record { fits = scaled (c .args .c) 18446744073709551615 (c .pre) (lit< tt) }
+
+returns : tie.Need-returns
+returns c = masked-is (c .args .c) (c .args .x) (c .pre) (omega arith)
+
+pub masked-spec : {M : Type 1} → statement M
+masked-spec = tie.close (tie.spec mul-result returns)

@@ -1,0 +1,95 @@
+-- `entries::xors::write_row` meets its contract. Assumes nothing.
+use mathlib.Core.Path.{_≡_, refl, ap₂, _∙_}
+use Prim.Native.Nat.{ℕ, _+_, _-_, _*_}
+use lib.Bits.{bitXor}
+use Rattle.bits.specs.Lists.{at}
+use Rattle.bits.specs.Nibbles.{pack, packed}
+use Rattle.bits.proofs.laws.Filled.{Filled, filled-none, filled-more, filled-all}
+use native.Mathlib.Omega.{arith}
+use Rattle.entries.proofs.xors.write_row.Statement.{statement}
+use Rattle.entries.proofs.xors.write_row.Tie as tie
+use Rattle.entries.proofs.xors.element.Reads as element-reads
+
+abbrev Inv-loop : tie.InvT-loop
+Inv-loop a added result dst₀ k₀ dst k = Filled 8 (λ i. pack (at result (bitXor a (at added (2 * i)))) (at result (bitXor a (at added (2 * i + 1))))) dst k
+
+abbrev μ-loop : tie.MeasureT-loop
+μ-loop a added result dst₀ k₀ dst k = 8 - k
+
+loop-holds : tie.Need-loop-holds Inv-loop μ-loop
+loop-holds c = filled-none 8 _ _ (omega arith)
+
+mul-element : tie.Need-mul-element Inv-loop μ-loop
+mul-element c = omega arith
+
+shared-slice-read-element : tie.Need-shared-slice-read-element Inv-loop μ-loop
+shared-slice-read-element c = omega arith
+
+element-requires : tie.Need-element-requires Inv-loop μ-loop
+element-requires c κs = omega arith
+
+mul-element-2 : tie.Need-mul-element-2 Inv-loop μ-loop
+mul-element-2 c = omega arith
+
+add-element : tie.Need-add-element Inv-loop μ-loop
+add-element c = omega arith
+
+shared-slice-read-element-2 : tie.Need-shared-slice-read-element-2 Inv-loop μ-loop
+shared-slice-read-element-2 c = omega arith
+
+element-requires-2 : tie.Need-element-requires-2 Inv-loop μ-loop
+element-requires-2 c κs = omega arith
+
+mul-dst : tie.Need-mul-dst Inv-loop μ-loop
+mul-dst c =
+    let A = c .before .before .before .before .before .before .before .before .before .args in
+    omega (arith, (c .before .before .before .before .before .before .before .before .before .pre) .2 (bitXor (A .a) (at (A .added .now) (2 * c .before .before .before .before .before .loop .k))), c .before .before .element .ensures)
+
+add-dst : tie.Need-add-dst Inv-loop μ-loop
+add-dst c =
+    let A = c .before .before .before .before .before .before .before .before .before .args in
+    let h = (c .before .before .before .before .before .before .before .before .before .pre) .2 (bitXor (A .a) (at (A .added .now) (2 * c .before .before .before .before .before .loop .k))) in
+    let g = (c .before .before .before .before .before .before .before .before .before .pre) .2 (bitXor (A .a) (at (A .added .now) (2 * c .before .before .before .before .before .loop .k + 1))) in
+    omega (arith, h, g, c .before .before .element .ensures, c .element2 .ensures)
+
+slice-write-dst : tie.Need-slice-write-dst Inv-loop μ-loop
+slice-write-dst c = omega arith
+
+add-k : tie.Need-add-k Inv-loop μ-loop
+add-k c = omega arith
+
+loop-less : tie.Need-loop-less Inv-loop μ-loop
+loop-less c = omega arith
+
+loop-again : tie.Need-loop-again Inv-loop μ-loop
+loop-again c = filled-more (c .before .before .before .before .before .loop .inv) (omega arith) (ap₂ pack (c .before .before .element .ensures) (c .element2 .ensures))
+
+same-length : tie.Need-same-length Inv-loop μ-loop
+same-length c = omega arith
+
+returns : tie.Need-returns Inv-loop μ-loop
+unfolding packed
+returns c = filled-all (c .before .loop .inv) (omega arith)
+
+pub write-row-spec : {M : Type 1} → statement M
+write-row-spec =
+    tie.close
+    (tie.spec
+    Inv-loop
+    μ-loop
+    loop-holds
+    mul-element
+    shared-slice-read-element
+    element-requires
+    mul-element-2
+    add-element
+    shared-slice-read-element-2
+    element-requires-2
+    mul-dst
+    add-dst
+    slice-write-dst
+    add-k
+    loop-less
+    loop-again
+    same-length
+    returns)
