@@ -43,7 +43,9 @@ element-requires-2 c κs = omega arith
 mul-dst : tie.Need-mul-dst Inv-loop μ-loop
 mul-dst c =
     let A = c .before .before .before .before .before .before .before .before .before .args in
-    omega (arith, (c .before .before .before .before .before .before .before .before .before .pre) .2 (bitXor (A .a) (at (A .added .now) (2 * c .before .before .before .before .before .loop .k))), c .before .before .element .ensures)
+    let h = (c .before .before .before .before .before .before .before .before .before .pre) .2 (bitXor (A .a) (at (A .added .now) (2 * c .before .before .before .before .before .loop .k))) in
+    let g = (c .before .before .before .before .before .before .before .before .before .pre) .2 (bitXor (A .a) (at (A .added .now) (2 * c .before .before .before .before .before .loop .k + 1))) in
+    omega (arith, h, g, c .before .before .element .ensures, c .element2 .ensures)
 
 add-dst : tie.Need-add-dst Inv-loop μ-loop
 add-dst c =
