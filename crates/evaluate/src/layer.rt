@@ -5,45 +5,12 @@ ghost use Prim.Native.Nat.{_<_};
 ghost use lib.ListN.{length};
 ghost use Rattle.network.specs.Lookups.{xorArea};
 ghost use Rattle.network.specs.Order.{layerLookups};
-ghost use Rattle.network.specs.Stages.{widthOf, sourceOf, shapeAt, shifted};
+ghost use Rattle.network.specs.Stages.{shapeAt, shifted};
 ghost use Rattle.evaluate.specs.InPlace.{Fits, XorIn, LookedUp};
 use crate::area;
 use network::stage::Stage;
-
-// The bytes of a word.
-fn width_of(stage: Stage) -> usize
-    ensures { λ r. ⌜ r ≡ widthOf stage ⌝ }
-{
-    match stage {
-        Stage::Entry => 16,
-        Stage::First(_) => 4,
-        Stage::Second(_) => 4,
-        Stage::Exit => 16,
-        Stage::Beyond => 0,
-    }
-}
-
-// The row shift of FIPS 197: "position p = 4c+q: read byte j = 4((c+q) mod 4)+q".
-fn shifted_from(p: usize) -> usize
-    requires { ⌜ p < 16 ⌝ }
-    ensures { λ r. ⌜ r ≡ shifted p ⌝ }
-{
-    4 * ((p / 4 + p % 4) % 4) + p % 4
-}
-
-// The standing byte that spread lookup p reads.
-fn source_of(stage: Stage, p: usize) -> usize
-    requires { ⌜ p < 16 ⌝ }
-    ensures { λ r. ⌜ (r ≡ sourceOf shifted stage p) × (r < 16) ⌝ }
-{
-    match stage {
-        Stage::Entry => p,
-        Stage::First(_) => shifted_from(p),
-        Stage::Second(_) => p,
-        Stage::Exit => shifted_from(p),
-        Stage::Beyond => p,
-    }
-}
+use network::stage::source_of;
+use network::stage::width_of;
 
 // All lookups of a stage or half.
 fn lookups_of(width: usize) -> usize

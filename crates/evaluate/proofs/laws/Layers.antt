@@ -13,7 +13,7 @@ use Rattle.bits.specs.Nibbles.{nibble, setNibble, pack}
 use Rattle.bits.proofs.laws.Lists.{length-tabulate}
 use Rattle.network.specs.Lookups.{Walk, Shape, spreadArea, xorArea, sums, zeroArea, lookupIn}
 use Rattle.network.specs.Order.{xors, layerLookups, sumPlace, addedPlace}
-use Rattle.network.specs.Stages.{widthOf, shifted}
+use Rattle.network.specs.Stages.{widthOf}
 use Rattle.network.specs.declared.stage.Stage.{Stage}
 use Rattle.network.specs.declared.stage.Stage.the-variants.{Entry, First, Second, Exit, Beyond}
 use Rattle.network.proofs.laws.Stages.{lookups-16, lookups-4}
@@ -44,10 +44,6 @@ xor-4 m x p q t a e f g = xor-at 4 x p q t a f g ∙ ap (λ (m : ℕ). xorArea m
 pub length-xor : (m x : ℕ) (t a : List ℕ) → length (xorArea m x t a) ≡ length a
 unfolding xorArea setNibble
 length-xor m x t a = simp length-set
-
-pub shifted-lt : (p : ℕ) → shifted p < 16
-unfolding shifted
-shifted-lt p = omega arith
 
 -- ---- what a lookup that fits has
 lookups-0 : layerLookups 0 ≡ 16
