@@ -4,14 +4,14 @@ use mathlib.Core.Bool.{cond}
 use mathlib.Core.List.{List}
 use mathlib.Core.Logic.{_⊎_}
 use mathlib.Core.Path.{_≡_}
-use Prim.Native.Nat.{ℕ, zero, suc, _+_, _-_, _*_, _/_, _%_, _≤_, _<_}
+use Prim.Native.Nat.{ℕ, zero, suc, _+_, _-_, _/_, _%_, _≤_, _<_}
 use lib.Dec.{eqb}
 use lib.ListN.{length, set, take, drop}
 use Rattle.bits.specs.Lists.{at}
 use Rattle.bits.specs.Nibbles.{pack, nibble}
 use Rattle.network.specs.Lookups.{Shape, spreadArea, xorArea, sums, lookupIn}
 use Rattle.network.specs.Order.{xors, layerLookups}
-use Rattle.network.specs.Sizes.{sizeOf}
+use Rattle.network.specs.Sizes.{sizeOf, offsetOf}
 use Rattle.network.specs.Stages.{widthOf, shifted}
 use Rattle.network.specs.declared.stage.Stage.{Stage}
 use Rattle.whitebox.specs.Calls.{advance}
@@ -40,23 +40,23 @@ pub record LookedUp (S : Shape) (j : ℕ) (t s a s′ a′ : List ℕ) : Type 0 
   pub kept : length s′ ≡ length s
   pub long : length a′ ≡ length a
 
--- The area after the first k spread lookups of a layer, whose tables begin at byte `from` of the set.
+-- ---- all lookups of a layer, whose tables begin at byte `from` of the set
+abbrev pub tableFrom : ℕ → List ℕ → ℕ → ℕ → List ℕ
+tableFrom m set from j = take (sizeOf m j) (drop (from + offsetOf m j) set)
+
+-- The area after the first k spread lookups.
 unfoldable pub spreadsIn : Shape → List ℕ → ℕ → List ℕ → ℕ → List ℕ → List ℕ
 spreadsIn S set from s zero a = a
-spreadsIn S set from s (suc k) a =
-    let m = S .width in
-    spreadArea m (S .source k) k (take (256 * m) (drop (from + k * (256 * m)) set)) s (spreadsIn S set from s k a)
+spreadsIn S set from s (suc k) a = spreadArea (S .width) (S .source k) k (tableFrom (S .width) set from k) s (spreadsIn S set from s k a)
 
--- The area after the first k XOR lookups of a layer of width m, whose tables begin at byte `from` of the set.
+-- The area after the first k XOR lookups.
 unfoldable pub xorsIn : ℕ → List ℕ → ℕ → ℕ → List ℕ → List ℕ
 xorsIn m set from zero a = a
-xorsIn m set from (suc k) a = xorArea m k (take 128 (drop (from + k * 128) set)) (xorsIn m set from k a)
+xorsIn m set from (suc k) a = xorArea m k (tableFrom m set from (16 + k)) (xorsIn m set from k a)
 
--- The sums after all lookups of a layer, whose tables begin at byte `from` of the set.
+-- The sums after all of them.
 unfoldable pub sumsIn : Shape → List ℕ → ℕ → List ℕ → List ℕ → List ℕ
-sumsIn S set from s a =
-    let m = S .width in
-    sums m (xorsIn m set (from + 16 * (256 * m)) (xors m) (spreadsIn S set from s 16 a))
+sumsIn S set from s a = let m = S .width in sums m (xorsIn m set from (xors m) (spreadsIn S set from s 16 a))
 
 -- The lookups from count n up to count r, at most the stop, turn standing bytes s and area a into s′ and a′ of the same lengths.
 pub record Advanced (set : List ℕ) (n stop r : ℕ) (s a s′ a′ : List ℕ) : Type 0 where

@@ -119,46 +119,64 @@ pub length-sums : (m : ℕ) (a : List ℕ) → length (sums m a) ≡ 16
 unfolding sums
 length-sums m a = length-tabulate 16 _
 
--- ---- the lookup, from what its parts left
+-- ---- lookup j: a spread lookup, an XOR lookup, the last XOR lookup
+module _ (S : Shape) (j : ℕ) (t : List ℕ) (w : Walk) where
+  pub at-spread : j < 16
+      → lookupIn S j t w
+      ≡ record { count = suc (w .count); standing = w .standing; area = spreadArea (S .width) (S .source j) j t (w .standing) (w .area) }
+  unfolding lookupIn
+  at-spread h = rw (lt-ltb j 16 h)
+
+  pub at-xor : (x : ℕ) → j - 16 ≡ x → 16 ≤ j → (suc j ≡ layerLookups (S .width) → ⊥)
+      → lookupIn S j t w ≡ record { count = suc (w .count); standing = w .standing; area = xorArea (S .width) x t (w .area) }
+  unfolding lookupIn
+  at-xor x e h l = rw (e, le-ltb j 16 h, ne-eqb (suc j) (layerLookups (S .width)) l)
+
+  pub at-last : (x : ℕ) → j - 16 ≡ x → 16 ≤ j → suc j ≡ layerLookups (S .width)
+      → lookupIn S j t w
+      ≡ record { count = suc (w .count); standing = sums (S .width) (xorArea (S .width) x t (w .area)); area = zeroArea }
+  unfolding lookupIn
+  at-last x e h l = rw (e, le-ltb j 16 h, eq-eqb (suc j) (layerLookups (S .width)) l)
+
+-- ---- the same, from what the parts of the code left
 next : ℕ → List ℕ → List ℕ → Walk
 next n s a = record { count = suc n; standing = s; area = a }
 
 module _ (S : Shape) (j m : ℕ) (t s a : List ℕ) (e : m ≡ S .width) where
   pub by-spread : (i : ℕ) (a′ : List ℕ) → j < 16 → i ≡ S .source j → a′ ≡ paste a (j * m) (drop (at s i * m) t) m
       → length a′ ≡ length a → LookedUp S j t s a s a′
-  unfolding lookupIn spreadArea next
+  unfolding spreadArea next
   by-spread i a′ h f g l =
       record {
         walk =
             λ n.
-            rw (lt-ltb j 16 h)
-            (ap (next n s)
-            (ap₂ (λ (m i : ℕ). paste a (j * m) (drop (at s i * m) t) m) (sym e) (sym f) ∙ sym g));
+            at-spread S j t (record { count = n; standing = s; area = a }) h
+            ∙ ap (next n s) (ap₂ (λ (m i : ℕ). paste a (j * m) (drop (at s i * m) t) m) (sym e) (sym f) ∙ sym g);
         kept = refl;
         long = l;
       }
 
   pub by-xor : (a′ : List ℕ) → 16 ≤ j → a′ ≡ xorArea m (j - 16) t a → (suc j ≡ layerLookups m → ⊥) → LookedUp S j t s a s a′
-  unfolding lookupIn next
+  unfolding next
   by-xor a′ h g l =
       record {
         walk =
             λ n.
-            rw (le-ltb j 16 h, ← e, ne-eqb (suc j) (layerLookups m) l)
-            (ap (next n s) (sym g));
+            at-xor S j t (record { count = n; standing = s; area = a }) (j - 16) refl h (rw e at l)
+            ∙ ap (next n s) (ap (λ (m : ℕ). xorArea m (j - 16) t a) (sym e) ∙ sym g);
         kept = refl;
         long = ap length g ∙ length-xor m (j - 16) t a;
       }
 
   pub by-last : (x s′ a′ : List ℕ) → 16 ≤ j → x ≡ xorArea m (j - 16) t a → suc j ≡ layerLookups m → s′ ≡ sums m x → a′ ≡ zeroArea
       → length s ≡ 16 → length a ≡ 256 → LookedUp S j t s a s′ a′
-  unfolding lookupIn next
+  unfolding next
   by-last x s′ a′ h g l p q k b =
       record {
         walk =
             λ n.
-            rw (le-ltb j 16 h, ← e, eq-eqb (suc j) (layerLookups m) l)
-            (ap₂ (next n) (ap (sums m) (sym g) ∙ sym p) (sym q));
+            at-last S j t (record { count = n; standing = s; area = a }) (j - 16) refl h (l ∙ ap layerLookups e)
+            ∙ ap₂ (next n) (ap (λ (m : ℕ). sums m (xorArea m (j - 16) t a)) (sym e) ∙ ap (sums m) (sym g) ∙ sym p) (sym q);
         kept = ap length p ∙ length-sums m x ∙ sym k;
         long = ap length q ∙ length-replicate {A = ℕ} 256 0 ∙ sym b;
       }

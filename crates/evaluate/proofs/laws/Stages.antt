@@ -3,24 +3,24 @@
 use mathlib.Core.List.{List}
 use mathlib.Core.Logic.{⊎-elim, _⊎_, inl, inr}
 use mathlib.Core.Path.{_≡_, refl, sym, ap, ap₂, _∙_, subst}
-use Prim.Native.Nat.{ℕ, zero, suc, _+_, _-_, _*_, _/_, _%_, _≤_, _<_, min}
+use Prim.Native.Nat.{ℕ, zero, suc, _+_, _-_, _/_, _%_, _≤_, _<_}
 use native.Mathlib.Decide.{decLt}
 use native.Mathlib.Numerals.{add-one}
 use native.Mathlib.Omega.{arith}
-use borrow.Author.Tests.{eq-eqb, ne-eqb, lt-ltb, le-ltb}
 use lib.ListN.{take, drop}
-use Rattle.network.specs.Lookups.{Walk, Shape, spreadArea, xorArea, zeroArea, sums, lookup, lookupIn}
+use Rattle.network.specs.Lookups.{Walk, Shape, zeroArea, sums, lookup, lookupIn}
 use Rattle.network.specs.Order.{xors, layerLookups}
 use Rattle.network.specs.Sizes.{sizeOf, offsetOf, layerBytes}
 use Rattle.network.specs.Stages.{widthOf, shapeAt, shapes, shifted, lookups, tableSize, tableOffset, stageOf, indexOf, firstLookup, firstByte}
 use Rattle.network.specs.declared.stage.Stage.{Stage}
-use Rattle.network.specs.declared.stage.Stage.the-variants.{Entry, First, Second, Exit}
+use Rattle.network.specs.declared.stage.Stage.the-variants.{First, Second}
 use Rattle.network.proofs.laws.Cases.{starred}
 use Rattle.network.proofs.laws.Order.{layer-lookups}
 use Rattle.network.proofs.laws.Ranges.{stage-entry, stage-first, stage-second, stage-exit, by-stage}
 use Rattle.network.proofs.laws.Stages.{lookups-16, lookups-4, bytes-16, bytes-4}
 use Rattle.whitebox.specs.Calls.{advance}
-use Rattle.evaluate.specs.InPlace.{spreadsIn, xorsIn, sumsIn}
+use Rattle.evaluate.specs.InPlace.{tableFrom, spreadsIn, xorsIn, sumsIn}
+use Rattle.evaluate.proofs.laws.Layers.{at-spread, at-xor, at-last}
 
 -- ---- lookup n is one of the stage or half s
 pub record InStage (n : ℕ) (s : Stage) : Type 0 where
@@ -85,6 +85,9 @@ in-stage n h = elim (decLt n 496) [
 ]
 
 -- ---- the walk in two parts, and its last lookup
+abbrev held : ℕ → List ℕ → List ℕ → Walk
+held n u a = record { count = n; standing = u; area = a }
+
 abbrev stepOver : List ℕ → Walk → Walk
 stepOver set w = lookup (shapes shifted 10) (take (tableSize 10 (w .count)) (drop (tableOffset 10 (w .count)) set)) w
 
@@ -99,42 +102,6 @@ advance-last : (set : List ℕ) (k : ℕ) (w : Walk) → advance shifted 10 set 
 unfolding advance
 advance-last set k w = ap (λ (x : ℕ). advance shifted 10 set x w) (sym (add-one k)) ∙ advance-split set k 1 w
 
--- ---- one lookup of a layer, whose tables begin at byte `from` of the set
-module _ (S : Shape) (set : List ℕ) (from count k : ℕ) (u a : List ℕ) where
-  spread-one : k < 16
-      → lookupIn S k (take (sizeOf (S .width) k) (drop (from + offsetOf (S .width) k) set)) (record { count = count; standing = u; area = a })
-      ≡ record { count = suc count; standing = u; area = spreadArea (S .width) (S .source k) k (take (256 * S .width) (drop (from + k * (256 * S .width)) set)) u a }
-  unfolding lookupIn
-  spread-one h =
-      let e : min k 16 ≡ k = omega arith in
-      let f : from + (k * (256 * S .width) + (k - 16) * 128) ≡ from + k * (256 * S .width) = omega arith in
-      rw (lt-ltb k 16 h, e, f)
-
-  xor-table : take (sizeOf (S .width) (16 + k)) (drop (from + offsetOf (S .width) (16 + k)) set) ≡ take 128 (drop (from + 16 * (256 * S .width) + k * 128) set)
-  xor-table =
-      let e : min (16 + k) 16 ≡ 16 = omega arith in
-      let f : from + (16 * (256 * S .width) + (16 + k - 16) * 128) ≡ from + 16 * (256 * S .width) + k * 128 = omega arith in
-      rw (le-ltb (16 + k) 16 (omega arith), e, f)
-
-  xored : List ℕ
-  xored = xorArea (S .width) k (take 128 (drop (from + 16 * (256 * S .width) + k * 128) set)) a
-
-  xor-one : suc k < xors (S .width)
-      → lookupIn S (16 + k) (take (sizeOf (S .width) (16 + k)) (drop (from + offsetOf (S .width) (16 + k)) set)) (record { count = count; standing = u; area = a })
-      ≡ record { count = suc count; standing = u; area = xored }
-  unfolding lookupIn xored
-  xor-one h =
-      let e : 16 + k - 16 ≡ k = omega arith in
-      rw (xor-table, le-ltb (16 + k) 16 (omega arith), e, ne-eqb (suc (16 + k)) (layerLookups (S .width)) (λ f. omega (arith, f, layer-lookups (S .width))))
-
-  last-one : suc k ≡ xors (S .width)
-      → lookupIn S (16 + k) (take (sizeOf (S .width) (16 + k)) (drop (from + offsetOf (S .width) (16 + k)) set)) (record { count = count; standing = u; area = a })
-      ≡ record { count = suc count; standing = sums (S .width) xored; area = zeroArea }
-  unfolding lookupIn xored
-  last-one h =
-      let e : 16 + k - 16 ≡ k = omega arith in
-      rw (xor-table, le-ltb (16 + k) 16 (omega arith), e, eq-eqb (suc (16 + k)) (layerLookups (S .width)) (omega (arith, layer-lookups (S .width))))
-
 -- ---- from the first lookup n of a stage or half
 module _ (set : List ℕ) (n : ℕ) (h : n < 3008) (z : indexOf 10 n ≡ 0) where
   abbrev m : ℕ
@@ -147,7 +114,7 @@ module _ (set : List ℕ) (n : ℕ) (h : n < 3008) (z : indexOf 10 n ≡ 0) wher
   from = tableOffset 10 n
 
   abbrev table : ℕ → List ℕ
-  table k = take (sizeOf m k) (drop (from + offsetOf m k) set)
+  table = tableFrom m set from
 
   first : n ≡ firstLookup 10 (stageOf 10 n)
   unfolding indexOf
@@ -176,53 +143,49 @@ module _ (set : List ℕ) (n : ℕ) (h : n < 3008) (z : indexOf 10 n ≡ 0) wher
         ∙ ap (λ (x : ℕ). x + offsetOf (widthOf (stageOf 10 n)) k) (sym first-byte))
 
     -- The walk's next lookup is lookup k of the stage or half.
-    next : (w : Walk) (u a : List ℕ) → advance shifted 10 set k w ≡ record { count = n + k; standing = u; area = a }
-        → advance shifted 10 set (suc k) w ≡ lookupIn S k (table k) (record { count = n + k; standing = u; area = a })
+    next : (w : Walk) (u a : List ℕ) → advance shifted 10 set k w ≡ held (n + k) u a
+        → advance shifted 10 set (suc k) w ≡ lookupIn S k (table k) (held (n + k) u a)
     unfolding lookup
     next w u a e =
-        let v : Walk = record { count = n + k; standing = u; area = a } in
         advance-last set k w
         ∙ ap (stepOver set) e
-        ∙ ap (λ (t : List ℕ). lookup (shapes shifted 10) t v) table-is
-        ∙ by-stage 10 .lookup-is shifted (n + k) below (table k) v
-        ∙ ap₂ (λ (s : Stage) (j : ℕ). lookupIn (shapeAt shifted s) j (table k) v) stage-is index-is
+        ∙ ap (λ (t : List ℕ). lookup (shapes shifted 10) t (held (n + k) u a)) table-is
+        ∙ by-stage 10 .lookup-is shifted (n + k) below (table k) (held (n + k) u a)
+        ∙ ap₂ (λ (s : Stage) (j : ℕ). lookupIn (shapeAt shifted s) j (table k) (held (n + k) u a)) stage-is index-is
 
   module _ (u a : List ℕ) where
-    abbrev start : Walk
-    start = record { count = n; standing = u; area = a }
-
     abbrev spread : ℕ → List ℕ
     spread k = spreadsIn S set from u k a
 
-    abbrev xored-by : ℕ → List ℕ
-    xored-by k = xorsIn m set (from + 16 * (256 * m)) k (spread 16)
+    abbrev xored : ℕ → List ℕ
+    xored k = xorsIn m set from k (spread 16)
 
-    spreads-walk : (k : ℕ) → k ≤ 16 → advance shifted 10 set k start ≡ record { count = n + k; standing = u; area = spread k }
-    spreads-walk zero b = unfold advance spreadsIn in ap (λ (x : ℕ). record { count = x; standing = u; area = a }) (let e : n ≡ n + 0 = omega arith in e)
+    spreads-walk : (k : ℕ) → k ≤ 16 → advance shifted 10 set k (held n u a) ≡ held (n + k) u (spread k)
+    spreads-walk zero b = unfold advance spreadsIn in ap (λ (x : ℕ). held x u a) (let e : n ≡ n + 0 = omega arith in e)
     spreads-walk (suc k) b =
-        next k (omega (arith, layer-lookups m)) start u (spread k) (spreads-walk k (omega arith))
-        ∙ spread-one S set from (n + k) k u (spread k) (omega arith)
-        ∙ (unfold spreadsIn in ap (λ (x : ℕ). record { count = x; standing = u; area = spread (suc k) }) (let e : suc (n + k) ≡ n + suc k = omega arith in e))
+        next k (omega (arith, layer-lookups m)) (held n u a) u (spread k) (spreads-walk k (omega arith))
+        ∙ at-spread S k (table k) (held (n + k) u (spread k)) (omega arith)
+        ∙ (unfold spreadsIn in ap (λ (x : ℕ). held x u (spread (suc k))) (let e : suc (n + k) ≡ n + suc k = omega arith in e))
 
-    xors-walk : (k : ℕ) → k < xors m → advance shifted 10 set (16 + k) start ≡ record { count = n + (16 + k); standing = u; area = xored-by k }
+    xors-walk : (k : ℕ) → k < xors m → advance shifted 10 set (16 + k) (held n u a) ≡ held (n + (16 + k)) u (xored k)
     xors-walk zero b = unfold xorsIn in spreads-walk 16 (omega arith)
     xors-walk (suc k) b =
         let e : 16 + suc k ≡ suc (16 + k) = omega arith in
-        ap (λ (x : ℕ). advance shifted 10 set x start) e
-        ∙ next (16 + k) (omega (arith, layer-lookups m)) start u (xored-by k) (xors-walk k (omega arith))
-        ∙ xor-one S set from (n + (16 + k)) k u (xored-by k) b
-        ∙ (unfold xorsIn xored in ap (λ (x : ℕ). record { count = x; standing = u; area = xored-by (suc k) }) (let f : suc (n + (16 + k)) ≡ n + (16 + suc k) = omega arith in f))
+        ap (λ (x : ℕ). advance shifted 10 set x (held n u a)) e
+        ∙ next (16 + k) (omega (arith, layer-lookups m)) (held n u a) u (xored k) (xors-walk k (omega arith))
+        ∙ at-xor S (16 + k) (table (16 + k)) (held (n + (16 + k)) u (xored k)) k (omega arith) (omega arith) (λ l. omega (arith, l, layer-lookups m))
+        ∙ (unfold xorsIn in ap (λ (x : ℕ). held x u (xored (suc k))) (let f : suc (n + (16 + k)) ≡ n + (16 + suc k) = omega arith in f))
 
     last-walk : (k : ℕ) → suc k ≡ xors m
-        → advance shifted 10 set (layerLookups m) start ≡ record { count = n + layerLookups m; standing = sums m (xored-by (xors m)); area = zeroArea }
-    unfolding xorsIn xored
+        → advance shifted 10 set (layerLookups m) (held n u a) ≡ held (n + layerLookups m) (sums m (xored (xors m))) zeroArea
+    unfolding xorsIn
     last-walk k e =
         let l : layerLookups m ≡ suc (16 + k) = omega (arith, layer-lookups m) in
-        let c : suc (n + (16 + k)) ≡ n + layerLookups m = omega arith in
-        ap (λ (x : ℕ). advance shifted 10 set x start) l
-        ∙ next (16 + k) (omega arith) start u (xored-by k) (xors-walk k (omega arith))
-        ∙ last-one S set from (n + (16 + k)) k u (xored-by k) e
-        ∙ ap₂ (λ (x y : ℕ). record { count = x; standing = sums m (xored-by y); area = zeroArea }) c e
+        let f : suc (n + (16 + k)) ≡ n + layerLookups m = omega arith in
+        ap (λ (x : ℕ). advance shifted 10 set x (held n u a)) l
+        ∙ next (16 + k) (omega arith) (held n u a) u (xored k) (xors-walk k (omega arith))
+        ∙ at-last S (16 + k) (table (16 + k)) (held (n + (16 + k)) u (xored k)) k (omega arith) (omega arith) (sym l)
+        ∙ ap₂ (λ (x y : ℕ). held x (sums m (xored y)) zeroArea) f e
 
     pub layer-walk : advance shifted 10 set (layerLookups (widthOf (stageOf 10 n))) (record { count = n; standing = u; area = a })
         ≡ record {

@@ -1,7 +1,9 @@
 -- `evaluate::layer::layer_in` meets its contract. Assumes nothing.
-use Prim.Native.Nat.{_*_}
-use Rattle.network.specs.Stages.{widthOf, shapeAt, shifted}
-use Rattle.evaluate.proofs.laws.Whole.{layer-room, sums-are}
+use mathlib.Core.Path.{sym, subst}
+use Prim.Native.Nat.{ℕ, _+_, _≤_}
+use Rattle.network.specs.Sizes.{layerBytes}
+use Rattle.network.specs.Stages.{shapeAt, shifted}
+use Rattle.evaluate.proofs.laws.Whole.{sums-are}
 use borrow.Author.Needs.{needs}
 use Rattle.evaluate.proofs.layer.layer_in.Statement.{statement}
 use Rattle.evaluate.proofs.layer.layer_in.Tie as tie
@@ -10,16 +12,12 @@ width-of-requires : tie.Need-width-of-requires
 width-of-requires c κs = search needs
 
 spread-all-requires : tie.Need-spread-all-requires
-spread-all-requires c κs = (c .before .before .before .before .pre .0, layer-room (c .before .before .before .before .args .from) (widthOf (c .before .before .before .before .args .stage)) (c .before .before .width-of .result) (c .before .before .width-of .ensures .0) (c .before .before .before .before .pre .1) .0, c .before .before .before .before .pre .3, c .before .before .before .before .pre .4)
-
-mul-xor-all : tie.Need-mul-xor-all
-mul-xor-all c = search needs
-
-add-xor-all : tie.Need-add-xor-all
-add-xor-all c = search needs
+spread-all-requires c κs = (c .before .before .before .before .pre .0, c .before .before .before .before .pre .1, c .before .before .before .before .pre .3, c .before .before .before .before .pre .4)
 
 xor-all-requires : tie.Need-xor-all-requires
-xor-all-requires c κs = (c .before .before .before .before .before .before .pre .0, layer-room (c .before .before .before .before .before .before .args .from) (widthOf (c .before .before .before .before .before .before .args .stage)) (c .before .before .before .before .width-of .result) (c .before .before .before .before .width-of .ensures .0) (c .before .before .before .before .before .before .pre .1) .1, c .before .spread-all .ensures .1, rw (c .before .before .before .before .width-of .ensures .0) (c .before .before .before .before .before .before .pre .2))
+xor-all-requires c κs =
+    let e = c .before .before .before .before .width-of .ensures .0 in
+    (c .before .before .before .before .before .before .pre .0, subst (λ (m : ℕ). c .before .before .before .before .before .before .args .from + layerBytes m ≤ 770048) (sym e) (c .before .before .before .before .before .before .pre .1), c .before .spread-all .ensures .1, rw e (c .before .before .before .before .before .before .pre .2))
 
 take-sums-requires : tie.Need-take-sums-requires
 take-sums-requires c κs = (c .before .before .before .before .before .before .before .before .before .pre .4, rw (c .before .before .before .before .before .before .before .width-of .ensures .0) (c .before .before .before .before .before .before .before .before .before .pre .2))
@@ -38,8 +36,6 @@ layer-in-spec =
     (tie.spec
     width-of-requires
     spread-all-requires
-    mul-xor-all
-    add-xor-all
     xor-all-requires
     take-sums-requires
     clear-requires

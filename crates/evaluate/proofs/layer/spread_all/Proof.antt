@@ -69,7 +69,7 @@ loop-again c =
     let A = c .before .before .before .before .before .before .before .before .before .args in
     let L = c .before .before .before .before .before .before .loop in
     let m = c .before .before .before .before .before .before .before .width-of .result in
-    (omega arith, c .spread .ensures .1 ∙ L .inv .1, spreads-more (shapeAt shifted (A .stage)) (A .set .now) (A .from) (A .standing .now) (A .area .now) (L .p) m (c .before .before .before .before .source-of .result) (L .area) _ _ (c .before .before .before .before .before .before .before .width-of .ensures .0) (c .before .before .before .before .source-of .ensures .0) (L .inv .2) (part-is (A .set .now) (A .from + L .p * (256 * m)) (256 * m)) (c .spread .ensures .0))
+    (omega arith, c .spread .ensures .1 ∙ L .inv .1, spreads-more (shapeAt shifted (A .stage)) (A .set .now) (A .from) (A .standing .now) (A .area .now) (L .p) m (c .before .before .before .before .source-of .result) (L .area) _ _ (omega arith) (c .before .before .before .before .before .before .before .width-of .ensures .0) (c .before .before .before .before .source-of .ensures .0) (L .inv .2) (part-is (A .set .now) (A .from + L .p * (256 * m)) (256 * m)) (c .spread .ensures .0))
 
 returns : tie.Need-returns Inv-loop μ-loop
 returns c =

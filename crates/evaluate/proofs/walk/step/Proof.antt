@@ -23,7 +23,7 @@ layer-in-requires : tie.Need-layer-in-requires
 layer-in-requires c κs =
     let p = c .before .before .before .before .before .before .place-of .result in
     let e = c .before .before .before .before .before .before .place-of .ensures in
-    (c .before .before .before .before .before .before .before .before .pre .0, place-room (c .before .before .before .before .before .before .before .before .args .n) p (omega arith) e (c .before .before .before .if1 .taken), place-width (c .before .before .before .before .before .before .before .before .args .n) p (omega arith) e, c .before .before .before .before .before .before .before .before .pre .4, c .before .before .before .before .before .before .before .before .pre .3)
+    (c .before .before .before .before .before .before .before .before .pre .0, place-room (c .before .before .before .before .before .before .before .before .args .n) p (omega arith) e (omega arith), place-width (c .before .before .before .before .before .before .before .before .args .n) p (omega arith) e, c .before .before .before .before .before .before .before .before .pre .4, c .before .before .before .before .before .before .before .before .pre .3)
 
 add-result : tie.Need-add-result
 add-result c = search needs
@@ -31,7 +31,7 @@ add-result c = search needs
 returns : tie.Need-returns
 returns c =
     let A = c .before .before .before .before .before .before .before .before .before .args in
-    all-advanced (A .n) (c .before .before .before .before .before .before .before .place-of .result) (omega arith) (c .before .before .before .before .before .before .before .place-of .ensures) (c .before .before .before .before .if1 .taken) (A .set .now) (A .stop) (c .before .before .before .before .before .lookups-of .result) (A .standing .now) (A .area .now) _ _ (c .before .before .before .before .before .before .before .before .before .pre .1) (c .before .before .before .before .before .lookups-of .ensures ∙ ap layerLookups (c .before .before .before .before .before .before .width-of .ensures .0)) (c .before .before .before .if2 .taken) (c .before .before .before .before .before .before .before .before .before .pre .3) (c .before .before .before .before .before .before .before .before .before .pre .4) (c .layer-in .ensures .0) (c .layer-in .ensures .1)
+    all-advanced (A .n) (c .before .before .before .before .before .before .before .place-of .result) (omega arith) (c .before .before .before .before .before .before .before .place-of .ensures) (omega arith) (A .set .now) (A .stop) (c .before .before .before .before .before .lookups-of .result) (A .standing .now) (A .area .now) _ _ (c .before .before .before .before .before .before .before .before .before .pre .1) (c .before .before .before .before .before .lookups-of .ensures ∙ ap layerLookups (c .before .before .before .before .before .before .width-of .ensures .0)) (omega arith) (c .before .before .before .before .before .before .before .before .before .pre .3) (c .before .before .before .before .before .before .before .before .before .pre .4) (c .layer-in .ensures .0) (c .layer-in .ensures .1)
 
 add-to : tie.Need-add-to
 add-to c = omega (arith, part-within (c .before .before .before .before .before .before .args .n) (c .before .before .before .before .place-of .result) (omega arith) (c .before .before .before .before .place-of .ensures))

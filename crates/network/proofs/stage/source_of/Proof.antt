@@ -1,6 +1,5 @@
 -- `network::stage::source_of` meets its contract. Assumes nothing.
-use mathlib.Core.Path.{_≡_, sym, ap, _∙_}
-use Prim.Native.Nat.{ℕ}
+use mathlib.Core.Path.{sym, ap, _∙_}
 use Rattle.network.specs.Stages.{shifted, sourceOf}
 use Rattle.network.specs.declared.stage.Stage.{Stage}
 use borrow.Author.Needs.{needs}
