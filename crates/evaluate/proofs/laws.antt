@@ -1,4 +1,6 @@
 pub mod Area
 pub mod Layers
+pub mod Whole
+pub mod Stages
 pub mod Calls
 pub mod Demands

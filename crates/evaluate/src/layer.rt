@@ -1,52 +1,20 @@
-// A lookup of a stage or half, in place: the standing bytes and the area are lent.
+// The lookups of a stage or half, one or all, in place: the standing bytes and the area are lent.
 ghost use mathlib.Core.Logic.{_⊎_};
 ghost use mathlib.Core.Path.{_≡_};
-ghost use Prim.Native.Nat.{_<_};
+ghost use Prim.Native.Nat.{_+_, _*_, _≤_, _<_};
 ghost use lib.ListN.{length};
-ghost use Rattle.network.specs.Lookups.{xorArea};
-ghost use Rattle.network.specs.Order.{layerLookups};
-ghost use Rattle.network.specs.Stages.{widthOf, sourceOf, shapeAt, shifted};
-ghost use Rattle.evaluate.specs.InPlace.{Fits, XorIn, LookedUp};
+ghost use Rattle.network.specs.Lookups.{xorArea, zeroArea};
+ghost use Rattle.network.specs.Order.{xors, layerLookups};
+ghost use Rattle.network.specs.Sizes.{layerBytes};
+ghost use Rattle.network.specs.Stages.{widthOf, shapeAt, shifted};
+ghost use Rattle.evaluate.specs.InPlace.{Fits, XorIn, LookedUp, spreadsIn, xorsIn, sumsIn};
 use crate::area;
 use network::stage::Stage;
-
-// The bytes of a word.
-fn width_of(stage: Stage) -> usize
-    ensures { λ r. ⌜ r ≡ widthOf stage ⌝ }
-{
-    match stage {
-        Stage::Entry => 16,
-        Stage::First(_) => 4,
-        Stage::Second(_) => 4,
-        Stage::Exit => 16,
-        Stage::Beyond => 0,
-    }
-}
-
-// The row shift of FIPS 197: "position p = 4c+q: read byte j = 4((c+q) mod 4)+q".
-fn shifted_from(p: usize) -> usize
-    requires { ⌜ p < 16 ⌝ }
-    ensures { λ r. ⌜ r ≡ shifted p ⌝ }
-{
-    4 * ((p / 4 + p % 4) % 4) + p % 4
-}
-
-// The standing byte that spread lookup p reads.
-fn source_of(stage: Stage, p: usize) -> usize
-    requires { ⌜ p < 16 ⌝ }
-    ensures { λ r. ⌜ (r ≡ sourceOf shifted stage p) × (r < 16) ⌝ }
-{
-    match stage {
-        Stage::Entry => p,
-        Stage::First(_) => shifted_from(p),
-        Stage::Second(_) => p,
-        Stage::Exit => shifted_from(p),
-        Stage::Beyond => p,
-    }
-}
+use network::stage::source_of;
+use network::stage::width_of;
 
 // All lookups of a stage or half.
-fn lookups_of(width: usize) -> usize
+pub fn lookups_of(width: usize) -> usize
     requires { ⌜ ((width ≡ 4) ⊎ (width ≡ 16)) ⌝ }
     ensures { λ r. ⌜ r ≡ layerLookups width ⌝ }
 {
@@ -87,6 +55,74 @@ pub fn lookup_in(
     if j + 1 != lookups_of(width) {
         return;
     }
+    area::take_sums(standing, area, width);
+    area::clear(area);
+}
+
+// XOR lookups 2y and 2y + 1 of a stage or half, those of one byte.
+fn xor_pair_in(area: &mut [u8; 256], high: &[u8], low: &[u8], width: usize, y: usize)
+    requires { ⌜ XorIn width (2 * y + 1) × (length (now high) ≡ 128) × (length (now low) ≡ 128) × (length (now area) ≡ 256) ⌝ }
+    ensures { λ _. ⌜ now (area .exit) ≡ xorArea width (2 * y + 1) (now (low .entry)) (xorArea width (2 * y) (now (high .entry)) (now (area .entry))) ⌝ }
+{
+    if width == 16 {
+        area::xor_byte(area, high, low, y % 16, y + 16);
+    } else {
+        let group = y / 12 * 16;
+        area::xor_byte(area, high, low, group + y % 4, group + 4 + y % 12);
+    }
+}
+
+// All spread lookups of a stage or half, whose tables begin at byte `from` of the set.
+fn spread_all(standing: &[u8; 16], area: &mut [u8; 256], set: &[u8], from: usize, stage: Stage)
+    requires { ⌜ (length (now set) ≡ 770048) × (from + layerBytes (widthOf stage) ≤ 770048) × (length (now area) ≡ 256) × (length (now standing) ≡ 16) ⌝ }
+    ensures { λ _. ⌜ now (area .exit) ≡ spreadsIn (shapeAt shifted stage) (now (set .entry)) from (now (standing .entry)) 16 (now (area .entry)) ⌝ }
+    ensures { λ _. ⌜ length (now (area .exit)) ≡ 256 ⌝ }
+{
+    let width = width_of(stage);
+    let size = 256 * width;
+    let mut p = 0;
+    while p < 16 {
+        let i = source_of(stage, p);
+        let start = from + p * size;
+        let end = start + size;
+        area::spread(area, &set[start..end], width, p, standing[i]);
+        p += 1;
+    }
+}
+
+// All XOR lookups of a stage or half, whose tables begin at byte `from` of the set, behind those of the spread lookups.
+fn xor_all(area: &mut [u8; 256], set: &[u8], from: usize, width: usize)
+    requires { ⌜ (length (now set) ≡ 770048) × (from + layerBytes width ≤ 770048) × (length (now area) ≡ 256) × ((width ≡ 4) ⊎ (width ≡ 16)) ⌝ }
+    ensures { λ _. ⌜ now (area .exit) ≡ xorsIn width (now (set .entry)) from (xors width) (now (area .entry)) ⌝ }
+    ensures { λ _. ⌜ length (now (area .exit)) ≡ 256 ⌝ }
+{
+    let start = from + 4096 * width;
+    let bytes = (lookups_of(width) - 16) / 2;
+    let mut y = 0;
+    while y < bytes {
+        let high = start + y * 256;
+        let low = high + 128;
+        let end = low + 128;
+        xor_pair_in(area, &set[high..low], &set[low..end], width, y);
+        y += 1;
+    }
+}
+
+// All lookups of a stage or half, whose tables begin at byte `from` of the set.
+pub fn layer_in(
+    standing: &mut [u8; 16],
+    area: &mut [u8; 256],
+    set: &[u8],
+    from: usize,
+    stage: Stage,
+)
+    requires { ⌜ (length (now set) ≡ 770048) × (from + layerBytes (widthOf stage) ≤ 770048) × ((widthOf stage ≡ 4) ⊎ (widthOf stage ≡ 16)) × (length (now area) ≡ 256) × (length (now standing) ≡ 16) ⌝ }
+    ensures { λ _. ⌜ now (standing .exit) ≡ sumsIn (shapeAt shifted stage) (now (set .entry)) from (now (standing .entry)) (now (area .entry)) ⌝ }
+    ensures { λ _. ⌜ now (area .exit) ≡ zeroArea ⌝ }
+{
+    let width = width_of(stage);
+    spread_all(standing, area, set, from, stage);
+    xor_all(area, set, from, width);
     area::take_sums(standing, area, width);
     area::clear(area);
 }

@@ -1,16 +1,18 @@
 // The held walk and its calls, over any walk, any lent memory and any number.
 ghost use mathlib.Core.Path.{_≡_};
-ghost use Prim.Native.Nat.{_-_, _≤_};
+ghost use Prim.Native.Nat.{_-_, _<_, _≤_};
 ghost use lib.ListN.{length};
 ghost use Rattle.network.specs.Stages.{shifted};
 ghost use Rattle.whitebox.specs.Calls as calls;
 ghost use Rattle.evaluate.specs.Answers.{startedReply, movedReply, fetchedReply};
 ghost use Rattle.evaluate.specs.Held.{held};
+ghost use Rattle.evaluate.specs.InPlace.{Advanced};
 use crate::answer::Fetched;
 use crate::answer::Moved;
 use crate::answer::Started;
 use crate::layer;
 use network::stage::place_of;
+use network::stage::width_of;
 
 // "A held walk is a count, 16 standing bytes and a spread area of 256 bytes, all by value."
 pub struct Walk {
@@ -63,6 +65,27 @@ pub fn start(block: &[u8]) -> Opening
     }
 }
 
+// At count n, all lookups of a stage or half where it begins here and ends by the stop, else one. The count reached.
+fn step(standing: &mut [u8; 16], area: &mut [u8; 256], set: &[u8], n: usize, stop: usize) -> usize
+    requires { ⌜ (length (now set) ≡ 770048) × (n < stop) × (stop ≤ 3008) × (length (now standing) ≡ 16) × (length (now area) ≡ 256) ⌝ }
+    ensures { λ r. ⌜ Advanced (now (set .entry)) n stop r (now (standing .entry)) (now (area .entry)) (now (standing .exit)) (now (area .exit)) ⌝ }
+{
+    let p = place_of(n);
+    let from = p.offset;
+    let stage = p.stage;
+    let index = p.index;
+    let all = layer::lookups_of(width_of(stage));
+    if index == 0 {
+        if all <= stop - n {
+            layer::layer_in(standing, area, set, from, stage);
+            return n + all;
+        }
+    }
+    let to = from + p.size;
+    layer::lookup_in(standing, area, &set[from..to], stage, index);
+    n + 1
+}
+
 // The lookups from the count up to the stop.
 fn advance(walk: Walk, set: &[u8], stop: usize) -> Walk
     requires { ⌜ (length (now set) ≡ 770048) × (stop ≤ 3008) × (walk .count ≤ stop) ⌝ }
@@ -72,13 +95,7 @@ fn advance(walk: Walk, set: &[u8], stop: usize) -> Walk
     let mut area = walk.area;
     let mut n = walk.count;
     while n < stop {
-        let p = place_of(n);
-        let from = p.offset;
-        let to = from + p.size;
-        let stage = p.stage;
-        let index = p.index;
-        layer::lookup_in(&mut standing, &mut area, &set[from..to], stage, index);
-        n += 1;
+        n = step(&mut standing, &mut area, set, n, stop);
     }
     Walk {
         count: n,

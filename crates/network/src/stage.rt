@@ -1,7 +1,7 @@
 // Where a lookup stands: document 01's table of stages.
 ghost use mathlib.Core.Path.{_≡_};
 ghost use Prim.Native.Nat.{_<_, _≤_};
-ghost use Rattle.network.specs.Stages.{placeOf, placeFrom, placeInRound};
+ghost use Rattle.network.specs.Stages.{placeOf, placeFrom, placeInRound, widthOf, shifted, sourceOf};
 
 // The entry, the first and the second half of a round, the exit; or beyond the last lookup.
 pub enum Stage {
@@ -67,5 +67,40 @@ pub fn place_of(n: usize) -> Place
             size: 0,
             offset: 770048,
         },
+    }
+}
+
+// The bytes of a word.
+pub fn width_of(stage: Stage) -> usize
+    ensures { λ r. ⌜ (r ≡ widthOf stage) × (r ≤ 16) ⌝ }
+{
+    match stage {
+        Stage::Entry => 16,
+        Stage::First(_) => 4,
+        Stage::Second(_) => 4,
+        Stage::Exit => 16,
+        Stage::Beyond => 0,
+    }
+}
+
+// The row shift of FIPS 197: "position p = 4c+q: read byte j = 4((c+q) mod 4)+q".
+pub fn shifted(p: usize) -> usize
+    requires { ⌜ p < 16 ⌝ }
+    ensures { λ r. ⌜ (r ≡ shifted p) × (r < 16) ⌝ }
+{
+    4 * ((p / 4 + p % 4) % 4) + p % 4
+}
+
+// The standing byte that spread lookup p reads.
+pub fn source_of(stage: Stage, p: usize) -> usize
+    requires { ⌜ p < 16 ⌝ }
+    ensures { λ r. ⌜ (r ≡ sourceOf shifted stage p) × (r < 16) ⌝ }
+{
+    match stage {
+        Stage::Entry => p,
+        Stage::First(_) => shifted(p),
+        Stage::Second(_) => p,
+        Stage::Exit => shifted(p),
+        Stage::Beyond => p,
     }
 }

@@ -1,52 +1,39 @@
 -- Laws, not definitions: the calls, from what their parts left.
 -- Assumes nothing.
-use mathlib.Core.List.{List}
-use mathlib.Core.Path.{_≡_, sym, ap, _∙_, subst}
-use Prim.Native.Nat.{ℕ, suc, _+_, _-_, _/_, _%_, _≤_, _<_}
-use native.Mathlib.Decide.{decLt}
+use mathlib.Core.List.{List, []}
+use mathlib.Core.Logic.{_⊎_}
+use mathlib.Core.Path.{_≡_, sym, ap, ap₂, _∙_, subst}
+use Prim.Native.Nat.{ℕ, _+_, _-_, _≤_, _<_}
 use native.Mathlib.Numerals.{add-one}
 use native.Mathlib.Omega.{arith}
 use borrow.Author.Tests.{eq-eqb, ne-eqb, lt-ltb, le-ltb}
-use lib.ListN.{length, take, drop, replicate, length-take, length-drop}
+use lib.ListN.{length, take, drop, replicate, length-take, length-drop, length-replicate}
 use Rattle.network.specs.Lookups.{Walk, zeroArea, lookup, lookupIn}
 use Rattle.network.specs.Order.{layerLookups}
-use Rattle.network.specs.Stages.{widthOf, shapeAt, shapes, shifted, lookups, tableSize, tableOffset, stageOf, indexOf, placeOf, firstLookup}
+use Rattle.network.specs.Sizes.{layerBytes}
+use Rattle.network.specs.Stages.{widthOf, shapeAt, shapes, shifted, lookups, tableSize, tableOffset, stageOf, indexOf, placeOf}
 use Rattle.network.specs.declared.stage.Place.{Place}
-use Rattle.network.specs.declared.stage.Stage.{Stage}
-use Rattle.network.specs.declared.stage.Stage.the-variants.{Entry, First, Second, Exit}
 use Rattle.network.proofs.laws.Cases.{starred}
 use Rattle.network.proofs.laws.Instance.{offset-within}
-use Rattle.network.proofs.laws.Ranges.{stage-entry, stage-first, stage-second, stage-exit, by-stage}
-use Rattle.network.proofs.laws.Stages.{lookups-16, lookups-4}
+use Rattle.network.proofs.laws.Order.{layer-lookups}
+use Rattle.network.proofs.laws.Ranges.{by-stage}
 use Rattle.whitebox.specs.Calls.{Reply, Call, accepted, refused, lowest, judgeStart, started, judgeStop, judgeOne, judgeFetch, toStop, oneLookup, fetch, advance, reply, handed, blockLeft}
-use Rattle.evaluate.specs.InPlace.{Fits, LookedUp}
+use Rattle.evaluate.specs.InPlace.{Fits, LookedUp, Advanced, sumsIn}
+use Rattle.evaluate.proofs.laws.Whole.{length-sums-in}
+use Rattle.evaluate.proofs.laws.Stages.{in-stage, advance-split, layer-walk, layer-within}
 
 -- ---- the place of a lookup
 below : (n : ℕ) → n < 3008 → n < lookups 10
 below n h = subst (λ (x : ℕ). n < x) (sym (starred .all-lookups)) h
 
-index-within : (n : ℕ) → n < 3008 → indexOf 10 n < layerLookups (widthOf (stageOf 10 n))
-unfolding indexOf
-index-within n h = elim (decLt n 496) [
-  | yes a ↦ in-stage Entry (stage-entry 10 n a) (omega (arith, lookups-16))
-  | no a ↦ elim (decLt n 2512) [
-    | yes b ↦ elim (decLt ((n - 496) % 224) 112) [
-      | yes d ↦ in-stage (First ((n - 496) / 224 + 1)) (stage-first 10 n (omega arith) b d) (omega (arith, lookups-4))
-      | no d ↦ in-stage (Second ((n - 496) / 224 + 1)) (stage-second 10 n (omega arith) b (omega arith)) (omega (arith, lookups-4))
-    ]
-    | no b ↦ in-stage Exit (stage-exit 10 n (omega arith) h) (omega (arith, lookups-16))
-  ]
-]
-  where
-    in-stage : (s : Stage) → stageOf 10 n ≡ s → n - firstLookup 10 s < layerLookups (widthOf s)
-        → n - firstLookup 10 (stageOf 10 n) < layerLookups (widthOf (stageOf 10 n))
-    in-stage s e b = subst (λ (s : Stage). n - firstLookup 10 s < layerLookups (widthOf s)) (sym e) b
-
 module _ (n : ℕ) (p : Place) (h : n < 3008) (e : p ≡ placeOf 10 n) where
   pub fits-at : Fits (p .stage) (p .index) (p .size)
   fits-at =
       subst (λ (p : Place). Fits (p .stage) (p .index) (p .size)) (sym e)
-      (record { within = index-within n h; sized = by-stage 10 .size-is n (below n h) })
+      (record { within = unfold indexOf in in-stage n h .within; sized = by-stage 10 .size-is n (below n h) })
+
+  pub place-width : (widthOf (p .stage) ≡ 4) ⊎ (widthOf (p .stage) ≡ 16)
+  place-width = subst (λ (p : Place). (widthOf (p .stage) ≡ 4) ⊎ (widthOf (p .stage) ≡ 16)) (sym e) (in-stage n h .width)
 
   pub part-within : p .offset + p .size ≤ 770048
   part-within =
@@ -73,20 +60,63 @@ module _ (n : ℕ) (p : Place) (h : n < 3008) (e : p ≡ placeOf 10 n) where
         ∙ l .walk n
         ∙ ap after (sym (add-one n))
 
-    -- One turn of the loop over a set.
-    pub advance-more : (set : List ℕ) (stop : ℕ) → n < stop → t ≡ take (p .offset + p .size - p .offset) (drop (p .offset) set)
-        → advance shifted 10 set (stop - n) (record { count = n; standing = s; area = a })
-        ≡ advance shifted 10 set (stop - (n + 1)) (record { count = n + 1; standing = s′; area = a′ })
+    pub one-advanced : (set : List ℕ) (stop : ℕ) → n < stop → t ≡ take (p .offset + p .size - p .offset) (drop (p .offset) set)
+        → Advanced set n stop (n + 1) s a s′ a′
     unfolding advance
-    advance-more set stop b f =
+    one-advanced set stop b f =
         let w : Walk = record { count = n; standing = s; area = a } in
-        let d : stop - n ≡ suc (stop - (n + 1)) = omega arith in
+        let d : n + 1 - n ≡ 1 = omega arith in
         let k : p .offset + p .size - p .offset ≡ p .size = omega arith in
         let part : take (tableSize 10 n) (drop (tableOffset 10 n) set) ≡ t =
         ap (λ (p : Place). take (p .size) (drop (p .offset) set)) (sym e)
         ∙ ap (λ (x : ℕ). take x (drop (p .offset) set)) (sym k) ∙ sym f in
-        ap (λ (x : ℕ). advance shifted 10 set x w) d
-        ∙ ap (advance shifted 10 set (stop - (n + 1))) (ap (λ (t : List ℕ). lookup (shapes shifted 10) t w) part ∙ looked-up)
+        record {
+          more = omega arith;
+          most = omega arith;
+          walk = ap (λ (x : ℕ). advance shifted 10 set x w) d ∙ ap (λ (t : List ℕ). lookup (shapes shifted 10) t w) part ∙ looked-up;
+          kept = l .kept;
+          long = l .long;
+        }
+
+  -- All lookups of the stage or half made in place are the walk's.
+  module _ (z : p .index ≡ 0) where
+    index-0 : indexOf 10 n ≡ 0
+    index-0 = ap (λ (p : Place). p .index) (sym e) ∙ z
+
+    pub place-room : p .offset + layerBytes (widthOf (p .stage)) ≤ 770048
+    place-room = subst (λ (p : Place). p .offset + layerBytes (widthOf (p .stage)) ≤ 770048) (sym e) (layer-within [] n h index-0)
+
+    pub all-advanced : (set : List ℕ) (stop all : ℕ) (s a s′ a′ : List ℕ) → n < stop → all ≡ layerLookups (widthOf (p .stage)) → all ≤ stop - n
+        → length s ≡ 16 → length a ≡ 256 → s′ ≡ sumsIn (shapeAt shifted (p .stage)) set (p .offset) s a → a′ ≡ zeroArea
+        → Advanced set n stop (n + all) s a s′ a′
+    all-advanced set stop all s a s′ a′ b c d ls la f g =
+        let after : ℕ → List ℕ → List ℕ → Walk = λ k u v. record { count = k; standing = u; area = v } in
+        let x : n + all - n ≡ all = omega arith in
+        let q : all ≡ layerLookups (widthOf (stageOf 10 n)) = c ∙ ap (λ (p : Place). layerLookups (widthOf (p .stage))) e in
+        let r : sumsIn (shapeAt shifted (stageOf 10 n)) set (tableOffset 10 n) s a ≡ s′ =
+        ap (λ (p : Place). sumsIn (shapeAt shifted (p .stage)) set (p .offset) s a) (sym e) ∙ sym f in
+        record {
+          more = omega (arith, layer-lookups (widthOf (p .stage)));
+          most = omega arith;
+          walk =
+              ap (λ (x : ℕ). advance shifted 10 set x (after n s a)) (x ∙ q)
+              ∙ layer-walk set n h index-0 s a
+              ∙ ap (λ (k : ℕ). after (n + k) (sumsIn (shapeAt shifted (stageOf 10 n)) set (tableOffset 10 n) s a) zeroArea) (sym q)
+              ∙ ap₂ (after (n + all)) r (sym g);
+          kept = ap length f ∙ length-sums-in (shapeAt shifted (p .stage)) set (p .offset) s a ∙ sym ls;
+          long = ap length g ∙ length-replicate {A = ℕ} 256 0 ∙ sym la;
+        }
+
+-- One turn of the loop over a set.
+pub advance-on : {set : List ℕ} {n stop r : ℕ} {s a s′ a′ : List ℕ} → Advanced set n stop r s a s′ a′
+    → advance shifted 10 set (stop - n) (record { count = n; standing = s; area = a })
+    ≡ advance shifted 10 set (stop - r) (record { count = r; standing = s′; area = a′ })
+advance-on {set = set} {n = n} {stop = stop} {r = r} {s = s} {a = a} d =
+    let w : Walk = record { count = n; standing = s; area = a } in
+    let e : stop - n ≡ r - n + (stop - r) = omega (arith, d .more, d .most) in
+    ap (λ (x : ℕ). advance shifted 10 set x w) e
+    ∙ advance-split set (r - n) (stop - r) w
+    ∙ ap (advance shifted 10 set (stop - r)) (d .walk)
 
 -- ---- start
 pub start-refused : (block : List ℕ) → (length block ≡ 16 → ⊥)

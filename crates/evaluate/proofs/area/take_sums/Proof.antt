@@ -1,10 +1,9 @@
 -- `evaluate::area::take_sums` meets its contract. Assumes nothing.
-use mathlib.Core.Path.{refl}
+use mathlib.Core.Path.{ap}
 use Prim.Native.Nat.{_+_, _-_, _*_, _/_, _%_}
 use Rattle.bits.specs.Lists.{at}
 use Rattle.bits.proofs.laws.Filled.{Filled, filled-none, filled-more, filled-all}
 use Rattle.network.specs.Lookups.{sums}
-use Rattle.evaluate.proofs.laws.Area.{sum-place}
 use native.Mathlib.Omega.{arith}
 use Rattle.evaluate.proofs.area.take_sums.Statement.{statement}
 use Rattle.evaluate.proofs.area.take_sums.Tie as tie
@@ -18,23 +17,11 @@ abbrev μ-loop : tie.MeasureT-loop
 loop-holds : tie.Need-loop-holds Inv-loop μ-loop
 loop-holds c = filled-none 16 _ _ (c .pre .0)
 
-div-standing : tie.Need-div-standing Inv-loop μ-loop
-div-standing c = omega (arith, sum-place (c .before .before .args .width) (c .before .loop .q) (c .before .before .pre .1) (omega arith))
-
-mul-standing : tie.Need-mul-standing Inv-loop μ-loop
-mul-standing c = omega (arith, sum-place (c .before .before .args .width) (c .before .loop .q) (c .before .before .pre .1) (omega arith))
-
-mul-standing-2 : tie.Need-mul-standing-2 Inv-loop μ-loop
-mul-standing-2 c = omega (arith, sum-place (c .before .before .args .width) (c .before .loop .q) (c .before .before .pre .1) (omega arith))
-
-rem-standing : tie.Need-rem-standing Inv-loop μ-loop
-rem-standing c = omega (arith, sum-place (c .before .before .args .width) (c .before .loop .q) (c .before .before .pre .1) (omega arith))
-
-add-standing : tie.Need-add-standing Inv-loop μ-loop
-add-standing c = omega (arith, sum-place (c .before .before .args .width) (c .before .loop .q) (c .before .before .pre .1) (omega arith))
+sum-at-requires : tie.Need-sum-at-requires Inv-loop μ-loop
+sum-at-requires c κs = (c .before .before .pre .1, omega arith)
 
 element-copy-out-standing : tie.Need-element-copy-out-standing Inv-loop μ-loop
-element-copy-out-standing c = omega (arith, sum-place (c .before .before .args .width) (c .before .loop .q) (c .before .before .pre .1) (omega arith))
+element-copy-out-standing c = omega arith
 
 element-write-standing : tie.Need-element-write-standing Inv-loop μ-loop
 element-write-standing c = omega arith
@@ -46,7 +33,7 @@ loop-less : tie.Need-loop-less Inv-loop μ-loop
 loop-less c = omega arith
 
 loop-again : tie.Need-loop-again Inv-loop μ-loop
-loop-again c = filled-more (c .before .before .loop .inv) (omega arith) refl
+loop-again c = filled-more (c .before .before .before .loop .inv) (omega arith) (ap (at (c .before .before .before .before .args .area .now)) (c .before .sum-at .ensures .0))
 
 returns : tie.Need-returns Inv-loop μ-loop
 unfolding sums
@@ -59,11 +46,7 @@ take-sums-spec =
     Inv-loop
     μ-loop
     loop-holds
-    div-standing
-    mul-standing
-    mul-standing-2
-    rem-standing
-    add-standing
+    sum-at-requires
     element-copy-out-standing
     element-write-standing
     add-q

@@ -16,23 +16,8 @@ element-copy-out-half-of-2 c = search needs
 half-of-requires-2 : tie.Need-half-of-requires-2
 half-of-requires-2 c κs = search needs
 
-wide-requires : tie.Need-wide-requires
-wide-requires c κs = search needs
-
-mul-e : tie.Need-mul-e
-mul-e c = search needs
-
-wide-requires-2 : tie.Need-wide-requires-2
-wide-requires-2 c κs = search needs
-
-add-e : tie.Need-add-e
-add-e c = search needs
-
-shared-slice-read-half-of : tie.Need-shared-slice-read-half-of
-shared-slice-read-half-of c = search needs
-
-half-of-requires-3 : tie.Need-half-of-requires-3
-half-of-requires-3 c κs = search needs
+xor-entry-requires : tie.Need-xor-entry-requires
+xor-entry-requires c κs = search needs
 
 element-copy-out-with-half : tie.Need-element-copy-out-with-half
 element-copy-out-with-half c = search needs
@@ -55,12 +40,7 @@ xor-spec =
     half-of-requires
     element-copy-out-half-of-2
     half-of-requires-2
-    wide-requires
-    mul-e
-    wide-requires-2
-    add-e
-    shared-slice-read-half-of
-    half-of-requires-3
+    xor-entry-requires
     element-copy-out-with-half
     with-half-requires
     element-write-area

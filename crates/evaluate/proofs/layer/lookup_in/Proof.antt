@@ -23,18 +23,18 @@ element-copy-out-spread c = search needs
 spread-requires : tie.Need-spread-requires
 spread-requires c κs =
     let A = c .before .before .before .before .before .before .args in
-    omega (arith, c .before .before .before .before .before .before .pre .1, c .before .before .before .before .width-of .ensures, spreads (A .stage) (A .j) (length (A .table .now)) (c .before .before .before .before .before .before .pre .0) (c .before .before .before .if1 .taken))
+    omega (arith, c .before .before .before .before .before .before .pre .1, c .before .before .before .before .width-of .ensures .0, spreads (A .stage) (A .j) (length (A .table .now)) (c .before .before .before .before .before .before .pre .0) (c .before .before .before .if1 .taken))
 
 returns : tie.Need-returns
 returns c =
     let A = c .before .before .before .before .before .before .before .args in
-    by-spread (shapeAt shifted (A .stage)) (A .j) (c .before .before .before .before .before .width-of .result) (A .table .now) (A .standing .now) (A .area .now) (c .before .before .before .before .before .width-of .ensures) (c .before .before .before .source-of .result) (c .spread .last .0) (c .before .before .before .before .if1 .taken) (c .before .before .before .source-of .ensures .0) (c .spread .ensures .0) (c .spread .ensures .1)
+    by-spread (shapeAt shifted (A .stage)) (A .j) (c .before .before .before .before .before .width-of .result) (A .table .now) (A .standing .now) (A .area .now) (c .before .before .before .before .before .width-of .ensures .0) (c .before .before .before .source-of .result) (c .spread .last .0) (c .before .before .before .before .if1 .taken) (c .before .before .before .source-of .ensures .0) (c .spread .ensures .0) (c .spread .ensures .1)
 
 xor-in-requires : tie.Need-xor-in-requires
 xor-in-requires c κs =
     let A = c .before .before .before .before .args in
     let x = xors-in (A .stage) (A .j) (length (A .table .now)) (c .before .before .before .before .pre .0) (omega (arith, c .before .if1 .left)) in
-    (subst (λ (m : ℕ). XorIn m (A .j - 16)) (sym (c .before .before .width-of .ensures)) (x .within), x .sized)
+    (subst (λ (m : ℕ). XorIn m (A .j - 16)) (sym (c .before .before .width-of .ensures .0)) (x .within), x .sized)
 
 add-if2 : tie.Need-add-if2
 add-if2 c =
@@ -45,17 +45,17 @@ add-if2 c =
 lookups-of-requires : tie.Need-lookups-of-requires
 lookups-of-requires c κs =
     let A = c .before .before .before .before .before .args in
-    rw (c .before .before .before .width-of .ensures) (groups (A .stage) (A .j) (length (A .table .now)) (c .before .before .before .before .before .pre .0) (omega (arith, c .before .before .if1 .left)) .width)
+    rw (c .before .before .before .width-of .ensures .0) (groups (A .stage) (A .j) (length (A .table .now)) (c .before .before .before .before .before .pre .0) (omega (arith, c .before .before .if1 .left)) .width)
 
 returns-2 : tie.Need-returns-2
 returns-2 c =
     let A = c .before .before .before .before .before .before .before .args in
-    by-xor (shapeAt shifted (A .stage)) (A .j) (c .before .before .before .before .before .width-of .result) (A .table .now) (A .standing .now) (A .area .now) (c .before .before .before .before .before .width-of .ensures) (c .before .before .xor-in .last .0) (omega (arith, c .before .before .before .before .if1 .left)) (c .before .before .xor-in .ensures) (λ e. c .if2 .taken (add-one (A .j) ∙ e ∙ sym (c .before .lookups-of .ensures)))
+    by-xor (shapeAt shifted (A .stage)) (A .j) (c .before .before .before .before .before .width-of .result) (A .table .now) (A .standing .now) (A .area .now) (c .before .before .before .before .before .width-of .ensures .0) (c .before .before .xor-in .last .0) (omega (arith, c .before .before .before .before .if1 .left)) (c .before .before .xor-in .ensures) (λ e. c .if2 .taken (add-one (A .j) ∙ e ∙ sym (c .before .lookups-of .ensures)))
 
 take-sums-requires : tie.Need-take-sums-requires
 take-sums-requires c κs =
     let A = c .before .before .before .before .before .before .before .before .before .args in
-    (c .before .before .before .before .before .before .before .before .before .pre .2, rw (c .before .before .before .before .before .before .before .width-of .ensures) (groups (A .stage) (A .j) (length (A .table .now)) (c .before .before .before .before .before .before .before .before .before .pre .0) (omega (arith, c .before .before .before .before .before .before .if1 .left)) .width))
+    (c .before .before .before .before .before .before .before .before .before .pre .2, rw (c .before .before .before .before .before .before .before .width-of .ensures .0) (groups (A .stage) (A .j) (length (A .table .now)) (c .before .before .before .before .before .before .before .before .before .pre .0) (omega (arith, c .before .before .before .before .before .before .if1 .left)) .width))
 
 clear-requires : tie.Need-clear-requires
 clear-requires c κs =
@@ -65,7 +65,7 @@ clear-requires c κs =
 returns-3 : tie.Need-returns-3
 returns-3 c =
     let A = c .before .before .before .before .before .before .before .before .before .before .before .before .args in
-    by-last (shapeAt shifted (A .stage)) (A .j) (c .before .before .before .before .before .before .before .before .before .before .width-of .result) (A .table .now) (A .standing .now) (A .area .now) (c .before .before .before .before .before .before .before .before .before .before .width-of .ensures) (c .before .before .before .before .before .before .before .xor-in .last .0) (c .before .before .take-sums .last .0) (c .clear .last .0) (omega (arith, c .before .before .before .before .before .before .before .before .before .if1 .left)) (c .before .before .before .before .before .before .before .xor-in .ensures) (sym (add-one (A .j)) ∙ c .before .before .before .before .before .if2 .left ∙ c .before .before .before .before .before .before .lookups-of .ensures) (c .before .before .take-sums .ensures) (c .clear .ensures) (c .before .before .before .before .before .before .before .before .before .before .before .before .pre .2) (c .before .before .before .before .before .before .before .before .before .before .before .before .pre .1)
+    by-last (shapeAt shifted (A .stage)) (A .j) (c .before .before .before .before .before .before .before .before .before .before .width-of .result) (A .table .now) (A .standing .now) (A .area .now) (c .before .before .before .before .before .before .before .before .before .before .width-of .ensures .0) (c .before .before .before .before .before .before .before .xor-in .last .0) (c .before .before .take-sums .last .0) (c .clear .last .0) (omega (arith, c .before .before .before .before .before .before .before .before .before .if1 .left)) (c .before .before .before .before .before .before .before .xor-in .ensures) (sym (add-one (A .j)) ∙ c .before .before .before .before .before .if2 .left ∙ c .before .before .before .before .before .before .lookups-of .ensures) (c .before .before .take-sums .ensures) (c .clear .ensures) (c .before .before .before .before .before .before .before .before .before .before .before .before .pre .2) (c .before .before .before .before .before .before .before .before .before .before .before .before .pre .1)
 
 pub lookup-in-spec : {M : Type 1} → statement M
 lookup-in-spec =

@@ -4,7 +4,7 @@ use Prim.Native.Nat.{ℕ, _-_, _≤_}
 use lib.ListN.{length}
 use Rattle.network.specs.Stages.{shifted}
 use Rattle.whitebox.specs.Calls.{advance}
-use Rattle.evaluate.proofs.laws.Calls.{part-within, part-fits, advance-more}
+use Rattle.evaluate.proofs.laws.Calls.{advance-on}
 use borrow.Author.Needs.{needs}
 use native.Mathlib.Omega.{arith}
 use Rattle.evaluate.proofs.walk.advance.Statement.{statement}
@@ -19,35 +19,17 @@ abbrev μ-loop : tie.MeasureT-loop
 loop-holds : tie.Need-loop-holds Inv-loop μ-loop
 loop-holds c = (omega arith, search needs, search needs, refl)
 
-place-of-requires : tie.Need-place-of-requires Inv-loop μ-loop
-place-of-requires c κs = search needs
-
-add-to : tie.Need-add-to Inv-loop μ-loop
-add-to c = omega (arith, part-within (c .before .before .before .loop .n) (c .before .place-of .result) (omega arith) (c .before .place-of .ensures))
-
-sub-lookup-in : tie.Need-sub-lookup-in Inv-loop μ-loop
-sub-lookup-in c = omega arith
-
-part-lookup-in-start : tie.Need-part-lookup-in-start Inv-loop μ-loop
-part-lookup-in-start c = omega arith
-
-part-lookup-in-end : tie.Need-part-lookup-in-end Inv-loop μ-loop
-part-lookup-in-end c = omega (arith, part-within (c .before .before .before .before .before .loop .n) (c .before .before .before .place-of .result) (omega arith) (c .before .before .before .place-of .ensures))
-
-lookup-in-requires : tie.Need-lookup-in-requires Inv-loop μ-loop
-lookup-in-requires c κs = (part-fits (c .before .before .before .before .before .before .loop .n) (c .before .before .before .before .place-of .result) (omega arith) (c .before .before .before .before .place-of .ensures) (c .before .before .before .before .before .before .before .before .before .before .args .set .now) (c .before .before .before .before .before .before .before .before .before .before .pre .0), c .before .before .before .before .before .before .loop .inv .2, c .before .before .before .before .before .before .loop .inv .1)
-
-add-n : tie.Need-add-n Inv-loop μ-loop
-add-n c = omega arith
+step-requires : tie.Need-step-requires Inv-loop μ-loop
+step-requires c κs = (c .before .before .before .before .before .before .before .pre .0, omega arith, c .before .before .before .before .before .before .before .pre .1, c .before .before .before .loop .inv .1, c .before .before .before .loop .inv .2)
 
 loop-less : tie.Need-loop-less Inv-loop μ-loop
-loop-less c = omega arith
+loop-less c = omega (arith, c .step .ensures .more, c .step .ensures .most)
 
 loop-again : tie.Need-loop-again Inv-loop μ-loop
 loop-again c =
-    let L = c .before .before .before .before .before .before .before .loop in
-    let A = c .before .before .before .before .before .before .before .before .before .before .before .args in
-    (omega arith, c .lookup-in .ensures .kept ∙ L .inv .1, c .lookup-in .ensures .long ∙ L .inv .2, L .inv .3 ∙ advance-more (L .n) (c .before .before .before .before .before .place-of .result) (omega arith) (c .before .before .before .before .before .place-of .ensures) _ _ _ _ _ (c .lookup-in .ensures) (A .set .now) (A .stop) (omega arith) refl)
+    let d = c .step .ensures in
+    let L = c .before .before .before .before .loop in
+    (d .most, d .kept ∙ L .inv .1, d .long ∙ L .inv .2, L .inv .3 ∙ advance-on d)
 
 returns : tie.Need-returns Inv-loop μ-loop
 unfolding advance
@@ -64,13 +46,7 @@ advance-spec =
     Inv-loop
     μ-loop
     loop-holds
-    place-of-requires
-    add-to
-    sub-lookup-in
-    part-lookup-in-start
-    part-lookup-in-end
-    lookup-in-requires
-    add-n
+    step-requires
     loop-less
     loop-again
     returns)

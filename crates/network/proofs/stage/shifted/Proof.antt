@@ -1,0 +1,23 @@
+-- `network::stage::shifted` meets its contract. Assumes nothing.
+use mathlib.Core.Path.{refl}
+use Rattle.network.specs.Stages.{shifted}
+use native.Mathlib.Omega.{arith}
+use borrow.Author.Needs.{needs}
+use Rattle.network.proofs.stage.shifted.Statement.{statement}
+use Rattle.network.proofs.stage.shifted.Tie as tie
+
+add-result : tie.Need-add-result
+add-result c = search needs
+
+mul-result : tie.Need-mul-result
+mul-result c = search needs
+
+add-result-2 : tie.Need-add-result-2
+add-result-2 c = search needs
+
+returns : tie.Need-returns
+unfolding shifted
+returns c = (refl, omega arith)
+
+pub shifted-spec : {M : Type 1} → statement M
+shifted-spec = tie.close (tie.spec add-result mul-result add-result-2 returns)
