@@ -1,45 +1,10 @@
-// Widths and numbers of encodings (lists) by stage.
+// Numbers of encodings (lists) by stage.
 ghost use mathlib.Core.Path.{_≡_};
 ghost use Prim.Native.Nat.{_+_, _*_, _<_, _≤_};
 ghost use Rattle.layers.specs.Layers.{roundOf};
 ghost use Rattle.network.specs.Numbers.{sumNumber};
-ghost use Rattle.network.specs.Stages.{widthOf, shifted, sourceOf, firstNumber, standingNumber};
+ghost use Rattle.network.specs.Stages.{firstNumber, standingNumber};
 use network::stage::Stage;
-
-// "Position p = 4c+q: read byte j = 4((c+q) mod 4)+q".
-pub fn shifted(p: usize) -> usize
-    requires { ⌜ p < 16 ⌝ }
-    ensures { λ r. ⌜ (r ≡ shifted p) × (r < 16) ⌝ }
-{
-    4 * ((p / 4 + p % 4) % 4) + p % 4
-}
-
-// The byte that position p reads.
-pub fn source_of(s: Stage, p: usize) -> usize
-    requires { ⌜ p < 16 ⌝ }
-    ensures { λ r. ⌜ (r ≡ sourceOf shifted s p) × (r < 16) ⌝ }
-{
-    match s {
-        Stage::Entry => p,
-        Stage::First(_) => shifted(p),
-        Stage::Second(_) => p,
-        Stage::Exit => shifted(p),
-        Stage::Beyond => p,
-    }
-}
-
-// The bytes of a word.
-pub fn width_of(s: Stage) -> usize
-    ensures { λ r. ⌜ (r ≡ widthOf s) × (r ≤ 16) ⌝ }
-{
-    match s {
-        Stage::Entry => 16,
-        Stage::First(_) => 4,
-        Stage::Second(_) => 4,
-        Stage::Exit => 16,
-        Stage::Beyond => 0,
-    }
-}
 
 // The number of the encoding of a stage's first result.
 pub fn first_number(s: Stage) -> usize

@@ -17,11 +17,11 @@ ghost use Rattle.whitebox.specs.Bundles.{codingsOf};
 ghost use Rattle.whitebox.specs.Parts.{forward};
 ghost use Rattle.whitebox.specs.Words.{substituted};
 use crate::inverses;
-use crate::numbers;
 use crate::words;
 use bundle::parts;
 use entries::lists;
 use entries::spread;
+use network::stage;
 
 // The products of the bytes with one nibble, which add up to those of all bytes.
 fn nibble_products(inverse: &[u64], dst: &mut [u8])
@@ -73,7 +73,7 @@ pub fn behind_sbox(bundle: &[u8], keys: &[u8], r: usize, p: usize, read: &[u8], 
     requires { ⌜ (judge 10 (now bundle) ≡ Accepted) × (length (now keys) ≡ 176) × (1 ≤ r) × (r ≤ 10) × (p < 16) × (length (now read) ≡ 256) × (length (now dst) ≡ 256) ⌝ }
     ensures { λ _. ⌜ now (dst .exit) ≡ tabulate 256 (λ x. substituted (forward 10 (now (keys .entry))) (codingsOf 10 (now (bundle .entry))) r p (at (now (read .entry)) x)) ⌝ }
 {
-    let k = 16 * (r - 1) + numbers::shifted(p);
+    let k = 16 * (r - 1) + stage::shifted(p);
     let mut rows = [0u64; 16];
     inverses::inverse(parts::byte_matrix_part(bundle, k), &mut rows, 1);
     let before = keys[k];

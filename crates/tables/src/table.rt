@@ -25,6 +25,7 @@ use entries::xors;
 use layers::numbers;
 use layers::values;
 use layers::words;
+use network::stage;
 use network::stage::Stage;
 
 // The bytes that position p reads, decoded.
@@ -32,7 +33,7 @@ fn read_bytes(bundle: &[u8], s: Stage, p: usize, dst: &mut [u8])
     requires { ⌜ (judge 10 (now bundle) ≡ Accepted) × (1 ≤ roundOf s) × (roundOf s ≤ 9) × (p < 16) × (length (now dst) ≡ 256) ⌝ }
     ensures { λ _. ⌜ now (dst .exit) ≡ tabulate 256 (readByte (now (bundle .entry)) s p) ⌝ }
 {
-    let j = numbers::source_of(s, p);
+    let j = stage::source_of(s, p);
     let high = numbers::standing_number(s, 2 * j);
     let low = numbers::standing_number(s, 2 * j + 1);
     lists::decoded_bytes(bundle, high, low, dst);
@@ -101,7 +102,7 @@ fn spread_table(
     requires { ⌜ Ready (now bundle) (now columns) (now input) × (length (now keys) ≡ 176) × (1 ≤ roundOf s) × (roundOf s ≤ 9) × (p < 16) × (length (now dst) ≡ 256 * widthOf s) ⌝ }
     ensures { λ _. ⌜ now (dst .exit) ≡ spreadTable (codingsOf 10 (now (bundle .entry)) .encoding) (layerOf (forward 10 (now (keys .entry))) (codingsOf 10 (now (bundle .entry))) 10 s) (numbersOf 10 s) p ⌝ }
 {
-    let m = numbers::width_of(s);
+    let m = stage::width_of(s);
     let mut values = [0u8; 256];
     let mut basis = [0u64; 16];
     let mut images = [0u8; 512];
@@ -153,7 +154,7 @@ pub fn write(
     } else {
         xor_table(
             bundle,
-            numbers::width_of(s),
+            stage::width_of(s),
             numbers::first_number(s),
             j - 16,
             dst,
