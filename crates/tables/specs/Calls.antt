@@ -7,7 +7,7 @@ use Rattle.bundle.specs.Judge.{judge}
 use Rattle.bundle.specs.Refusals as refusals
 use Rattle.bundle.specs.declared.answer.Judgement.{Judgement}
 use Rattle.bundle.specs.declared.answer.Judgement.the-variants.{Accepted, Refused}
-use Rattle.network.specs.Stages.{tableSize}
+use Rattle.network.specs.Stages.{lookups, setBytes, tableSize}
 use Rattle.tables.specs.declared.calls.Made.{Made}
 use Rattle.tables.specs.declared.calls.Made.the-variants.{Done, KeyLength, Bundle, TableNumber, MemoryLength}
 
@@ -27,19 +27,30 @@ secondOf (Bundle r) = refusals.secondOf r
 secondOf TableNumber = 0
 secondOf MemoryLength = 0
 
-abbrev pub unlessRefused : Judgement → Made → Made
-unlessRefused Accepted m = m
-unlessRefused (Refused r) m = Bundle r
+-- 1, "key not 16 bytes", then 2 to 7 by the bundle's judgement. Here the length of the key.
+abbrev pub ofBundle : Judgement → Made
+ofBundle Accepted = Done
+ofBundle (Refused r) = Bundle r
 
--- "The lowest number that applies is given": 1, "key not 16 bytes", 2 to 7 by the bundle's judgement, 9, "set or single table of wrong
--- length". Here the lengths of key and memory.
+unfoldable pub judged : ℕ → List ℕ → Made
+judged key l = cond (eqb key 16) (ofBundle (judge 10 l)) KeyLength
+
+-- "The lowest number that applies is given": a later cause where no earlier one applies.
+abbrev pub unlessRefused : Made → Made → Made
+unlessRefused Done later = later
+unlessRefused KeyLength later = KeyLength
+unlessRefused (Bundle r) later = Bundle r
+unlessRefused TableNumber later = TableNumber
+unlessRefused MemoryLength later = MemoryLength
+
+-- Then 9, "set or single table of wrong length". Here the lengths of key and memory.
 unfoldable pub setAnswer : ℕ → List ℕ → ℕ → Made
-setAnswer key l memory = cond (eqb key 16) (unlessRefused (judge 10 l) (cond (eqb memory 770048) Done MemoryLength)) KeyLength
+setAnswer key l memory = unlessRefused (judged key l) (cond (eqb memory (setBytes 10)) Done MemoryLength)
 
--- The same for one table, with 8, "table number above 3,007", before 9.
+-- For one table 8, "table number above 3,007", before 9.
 unfoldable pub tableAnswer : ℕ → List ℕ → ℕ → ℕ → Made
 tableAnswer key l number memory =
-    cond (eqb key 16) (unlessRefused (judge 10 l) (cond (ltb 3007 number) TableNumber (cond (eqb memory (tableSize 10 number)) Done MemoryLength))) KeyLength
+    unlessRefused (judged key l) (cond (ltb number (lookups 10)) (cond (eqb memory (tableSize 10 number)) Done MemoryLength) TableNumber)
 
 -- The lent memory: new where the call is done, else "left as it was".
 abbrev pub written : Made → List ℕ → List ℕ → List ℕ

@@ -5,7 +5,7 @@ ghost use lib.ListN.{length};
 ghost use Rattle.bundle.specs.Judge.{judge};
 ghost use Rattle.bundle.specs.declared.answer.Judgement.the-variants.{Accepted};
 ghost use Rattle.network.specs.Stages.{tableSize};
-ghost use Rattle.tables.specs.Calls.{causeOf, secondOf, setAnswer, tableAnswer, written};
+ghost use Rattle.tables.specs.Calls.{causeOf, secondOf, judged, setAnswer, tableAnswer, written};
 ghost use Rattle.whitebox.specs.Bundles.{madeSet, madeTable};
 use crate::set;
 use bundle::answer;
@@ -90,22 +90,33 @@ fn fill_table(key: &[u8], bundle: &[u8], n: usize, memory: &mut [u8])
     set::write_one(bundle, &keys, &columns, &input, n, memory);
 }
 
+// Causes 1 to 7.
+fn judged(key: &[u8], bundle: &[u8]) -> Made
+    ensures { λ r. ⌜ r ≡ judged (length (now (key .entry))) (now (bundle .entry)) ⌝ }
+{
+    if key.len() != 16 {
+        return Made::KeyLength;
+    }
+    match judge::judge_bundle(bundle) {
+        Judgement::Accepted => Made::Done,
+        Judgement::Refused(r) => Made::Bundle(r),
+    }
+}
+
 // The whole set, into the lent memory.
 pub fn make_set(key: &[u8], bundle: &[u8], memory: &mut [u8]) -> Made
     ensures answer { λ r. ⌜ r ≡ setAnswer (length (now (key .entry))) (now (bundle .entry)) (length (now (memory .entry))) ⌝ }
     ensures bytes { λ r. ⌜ now (memory .exit) ≡ written r (madeSet 4 (now (key .entry)) (now (bundle .entry))) (now (memory .entry)) ⌝ }
 {
-    if key.len() != 16 {
-        return Made::KeyLength;
-    }
-    if let Judgement::Refused(r) = judge::judge_bundle(bundle) {
-        return Made::Bundle(r);
-    }
+    let answer = judged(key, bundle);
+    let Made::Done = answer else {
+        return answer;
+    };
     if memory.len() != 770048 {
         return Made::MemoryLength;
     }
     fill_set(key, bundle, memory);
-    Made::Done
+    answer
 }
 
 // One table, into the lent memory.
@@ -113,13 +124,11 @@ pub fn make_table(key: &[u8], bundle: &[u8], number: usize, memory: &mut [u8]) -
     ensures answer { λ r. ⌜ r ≡ tableAnswer (length (now (key .entry))) (now (bundle .entry)) number (length (now (memory .entry))) ⌝ }
     ensures bytes { λ r. ⌜ now (memory .exit) ≡ written r (madeTable 4 (now (key .entry)) (now (bundle .entry)) number) (now (memory .entry)) ⌝ }
 {
-    if key.len() != 16 {
-        return Made::KeyLength;
-    }
-    if let Judgement::Refused(r) = judge::judge_bundle(bundle) {
-        return Made::Bundle(r);
-    }
-    if 3007 < number {
+    let answer = judged(key, bundle);
+    let Made::Done = answer else {
+        return answer;
+    };
+    if 3008 <= number {
         return Made::TableNumber;
     }
     let place = stage::place_of(number);
@@ -128,5 +137,5 @@ pub fn make_table(key: &[u8], bundle: &[u8], number: usize, memory: &mut [u8]) -
         return Made::MemoryLength;
     }
     fill_table(key, bundle, number, memory);
-    Made::Done
+    answer
 }

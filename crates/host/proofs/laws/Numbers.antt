@@ -21,7 +21,7 @@ use Rattle.bundle.specs.declared.answer.Refusal.{Refusal}
 use Rattle.bundle.specs.declared.answer.Refusal.the-variants.{Length, Pair, Encoding, ByteMatrix, ColumnMatrix, InputMatrix, OutputMatrix}
 use Rattle.bundle.proofs.laws.Search.{at-bad}
 use Rattle.bundle.proofs.laws.Tests.{by-unless, by-unlessAt, by-andThen}
-use Rattle.network.specs.Stages.{tableSize}
+use Rattle.network.specs.Stages.{lookups, setBytes, tableSize}
 use Rattle.external.specs.Calls as external
 use Rattle.external.specs.Calls.{unlessRefused}
 use Rattle.external.specs.declared.coding.Coded.{Coded}
@@ -105,20 +105,20 @@ module _ (l : List ℕ) where
   coded-second m n = by-judgement (judge 10 l) judged-second (eqb m 16 && eqb n 16)
 
   by-parts : (j : Judgement) → Below j → (a b c : Bool)
-      → tables.secondOf (cond a (tables.unlessRefused j (cond b made.TableNumber (cond c made.Done made.MemoryLength))) made.KeyLength) < 65536
+      → tables.secondOf (tables.unlessRefused (cond a (tables.ofBundle j) made.KeyLength) (cond b (cond c made.Done made.MemoryLength) made.TableNumber)) < 65536
   by-parts j lt false b c = omega arith
-  by-parts Accepted lt true true c = omega arith
-  by-parts Accepted lt true false true = omega arith
-  by-parts Accepted lt true false false = omega arith
+  by-parts Accepted lt true false c = omega arith
+  by-parts Accepted lt true true true = omega arith
+  by-parts Accepted lt true true false = omega arith
   by-parts (Refused r) lt true b c = lt
 
   pub set-second : (k m : ℕ) → tables.secondOf (tables.setAnswer k l m) < 65536
-  unfolding tables.setAnswer
-  set-second k m = by-parts (judge 10 l) judged-second (eqb k 16) false (eqb m 770048)
+  unfolding tables.setAnswer tables.judged
+  set-second k m = by-parts (judge 10 l) judged-second (eqb k 16) true (eqb m (setBytes 10))
 
   pub table-second : (k n m : ℕ) → tables.secondOf (tables.tableAnswer k l n m) < 65536
-  unfolding tables.tableAnswer
-  table-second k n m = by-parts (judge 10 l) judged-second (eqb k 16) (ltb 3007 n) (eqb m (tableSize 10 n))
+  unfolding tables.tableAnswer tables.judged
+  table-second k n m = by-parts (judge 10 l) judged-second (eqb k 16) (ltb n (lookups 10)) (eqb m (tableSize 10 n))
 
 -- ---- both are read off
 read-off : (cause second : ℕ) → second < 65536 → ReadOff (returned cause second) cause second
