@@ -41,7 +41,11 @@ pub fn nibble_byte(r: usize) -> u8
     requires { ⌜ r < 32 ⌝ }
     ensures { λ b. ⌜ b ≡ nibbleByte r ⌝ }
 {
-    if r < 16 { r as u8 } else { ((r - 16) * 16) as u8 }
+    if r < 16 {
+        r as u8
+    } else {
+        ((r - 16) * 16) as u8
+    }
 }
 
 // Their words, m bytes each.

@@ -41,14 +41,14 @@ sought-next l t v y x n h b e q is =
     let long : length t ≡ 16 = ap length is ∙ length-tabulate 16 (sought l (v + 1)) in
     ext-at 16 _ _ (length-set t y x ∙ long) (length-tabulate 16 _)
     (λ i g. elim (ℕ-discrete i y) [
-    | yes p ↦
-    ap (λ (k : ℕ). at (set t y x) k) p
-    ∙ getD-set-same t y x 0 (omega arith)
-    ∙ q
-    ∙ sym (at-tabulate 16 (sought l v) i g ∙ sought-more l v (omega arith) i ∙ ap (λ (b : Bool). cond b v (sought l (v + 1) i)) (eq-eqb (at l v) i (sym e ∙ sym p)))
-    | no p ↦
-    getD-set-other t y i x 0 p
-    ∙ ap (λ (s : List ℕ). at s i) is
-    ∙ at-tabulate 16 (sought l (v + 1)) i g
-    ∙ sym (at-tabulate 16 (sought l v) i g ∙ sought-more l v (omega arith) i ∙ ap (λ (b : Bool). cond b v (sought l (v + 1) i)) (ne-eqb (at l v) i (λ r. p (sym r ∙ sym e))))
+      | yes p ↦
+          ap (λ (k : ℕ). at (set t y x) k) p
+          ∙ getD-set-same t y x 0 (omega arith)
+          ∙ q
+          ∙ sym (at-tabulate 16 (sought l v) i g ∙ sought-more l v (omega arith) i ∙ ap (λ (b : Bool). cond b v (sought l (v + 1) i)) (eq-eqb (at l v) i (sym e ∙ sym p)))
+      | no p ↦
+          getD-set-other t y i x 0 p
+          ∙ ap (λ (s : List ℕ). at s i) is
+          ∙ at-tabulate 16 (sought l (v + 1)) i g
+          ∙ sym (at-tabulate 16 (sought l v) i g ∙ sought-more l v (omega arith) i ∙ ap (λ (b : Bool). cond b v (sought l (v + 1) i)) (ne-eqb (at l v) i (λ r. p (sym r ∙ sym e))))
     ])

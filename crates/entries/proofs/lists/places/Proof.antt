@@ -57,11 +57,10 @@ loop-again c =
     let l = imagesOf (A .p .now) in
     let s : L .v - 1 + 1 ≡ L .v = omega arith in
     let n = length-tabulate 16 (nibble (A .p .now)) in
-    let here : c .widened .result ≡ at l (L .v - 1) = c .widened .ensures .0 ∙ c .before .nibble .ensures .0 ∙ sym (at-tabulate 16 (nibble (A .p .now)) (L .v - 1) (omega arith)) in
-    (
-    omega arith,
-    length-set (L .dst) (c .widened .result) _ ∙ L .inv .1,
-    sought-next l (L .dst) (L .v - 1) _ _ n (omega arith) (omega arith) here refl (L .inv .2 ∙ ap (λ (k : ℕ). tabulate 16 (sought l k)) (sym s)),
+    let here : c .widened .result ≡ at l (L .v - 1) = c .widened .ensures .0 ∙ c .before .nibble .ensures .0 ∙ sym (at-tabulate 16 (nibble (A .p .now)) (L .v - 1) (omega arith)) in (
+      omega arith,
+      length-set (L .dst) (c .widened .result) _ ∙ L .inv .1,
+      sought-next l (L .dst) (L .v - 1) _ _ n (omega arith) (omega arith) here refl (L .inv .2 ∙ ap (λ (k : ℕ). tabulate 16 (sought l k)) (sym s)),
     )
 
 same-length : tie.Need-same-length Inv-loop μ-loop

@@ -76,9 +76,9 @@ loop-again c =
     let is : ys ≡ f r =
     c .before .before .write .ensures ∙ ap₂ bytesOf part (c .before .before .before .before .word .ensures ∙ ap (combined (rowAt (A .basis .now))) (c .before .before .before .before .before .nibble-byte .ensures)) in
     let e : r * m + m ≡ (r + 1) * m = sym (add-mul r 1 m ∙ ap (λ (z : ℕ). r * m + z) (one-mul m)) in (
-    omega arith,
-    c .before .dst .given .1 ∙ L .inv .1,
-    take-put (r * m) (r * m + m - r * m) ((r + 1) * m) (L .dst) ys (omega arith) (omega arith) ∙ ap₂ (λ u v. u ++ v) (L .inv .2) is ∙ sym (concat-next r f),
+      omega arith,
+      c .before .dst .given .1 ∙ L .inv .1,
+      take-put (r * m) (r * m + m - r * m) ((r + 1) * m) (L .dst) ys (omega arith) (omega arith) ∙ ap₂ (λ u v. u ++ v) (L .inv .2) is ∙ sym (concat-next r f),
     )
 
 same-length : tie.Need-same-length Inv-loop μ-loop

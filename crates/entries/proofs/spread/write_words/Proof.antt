@@ -103,9 +103,9 @@ loop-again c =
     ∙ ap (λ (n : ℕ). encodedBytes I n (tabulate n (λ k. bitXor (at lo k) (at hi k)))) part
     ∙ ap (encodedBytes I m) (summed-parts m W y lo hi low high) in
     let e : x * m + m ≡ (x + 1) * m = sym (add-mul x 1 m ∙ ap (λ (z : ℕ). x * m + z) (one-mul m)) in (
-    omega arith,
-    c .before .dst .given .1 ∙ L .inv .1,
-    take-put (x * m) (x * m + m - x * m) ((x + 1) * m) (L .dst) ys (omega arith) (omega arith) ∙ ap₂ (λ u v. u ++ v) (L .inv .2) is ∙ sym (concat-next x f),
+      omega arith,
+      c .before .dst .given .1 ∙ L .inv .1,
+      take-put (x * m) (x * m + m - x * m) ((x + 1) * m) (L .dst) ys (omega arith) (omega arith) ∙ ap₂ (λ u v. u ++ v) (L .inv .2) is ∙ sym (concat-next x f),
     )
 
 same-length : tie.Need-same-length Inv-loop μ-loop

@@ -64,9 +64,9 @@ loop-again c =
     let ys = c .before .before .write-row .last .1 .1 .1 .0 in
     let part : length (take (i * 8 + 8 - i * 8) (drop (i * 8) (L .dst))) ≡ 8 = simp (length-take, length-drop) (omega arith) in
     let long : length ys ≡ 8 = c .before .before .write-row .kept .1 .1 .1 .0 ∙ part in (
-    omega arith,
-    c .before .dst .given .1 ∙ L .inv .1,
-    take-put (i * 8) (i * 8 + 8 - i * 8) ((i + 1) * 8) (L .dst) ys (omega arith) (omega arith) ∙ ap₂ (λ u v. u ++ v) (L .inv .2) (c .before .before .write-row .ensures) ∙ sym (concat-next i f),
+      omega arith,
+      c .before .dst .given .1 ∙ L .inv .1,
+      take-put (i * 8) (i * 8 + 8 - i * 8) ((i + 1) * 8) (L .dst) ys (omega arith) (omega arith) ∙ ap₂ (λ u v. u ++ v) (L .inv .2) (c .before .before .write-row .ensures) ∙ sym (concat-next i f),
     )
 
 same-length : tie.Need-same-length Inv-loop μ-loop

@@ -46,8 +46,8 @@ push-bit-requires c κs =
     let L = c .before .before .before .before .loop in
     let A = c .before .before .before .before .before .before .before .args in
     let few : L .i ≤ 127 = omega arith in (
-    subst (λ (z : ℕ). z < 2 ^ 127) (sym (L .inv .1)) (lt-of-lt-of-le (product-lt (L .i) (at (A .p .now)) (A .x)) (pow-mono few)),
-    subst (λ (z : ℕ). z < 2) (sym (c .parity .ensures)) (dot-lt _ _),
+      subst (λ (z : ℕ). z < 2 ^ 127) (sym (L .inv .1)) (lt-of-lt-of-le (product-lt (L .i) (at (A .p .now)) (A .x)) (pow-mono few)),
+      subst (λ (z : ℕ). z < 2) (sym (c .parity .ensures)) (dot-lt _ _),
     )
 
 add-i : tie.Need-add-i Inv-loop μ-loop
@@ -60,10 +60,10 @@ loop-again : tie.Need-loop-again Inv-loop μ-loop
 loop-again c =
     let L = c .before .before .before .before .before .loop in
     let A = c .before .before .before .before .before .before .before .before .args in (
-    omega arith,
-    c .push-bit .ensures
-    ∙ ap₂ (λ (x y : ℕ). x * 2 + y) (L .inv .1) (c .before .parity .ensures ∙ ap₂ dot (c .before .before .vector-of2 .ensures) (c .before .before .before .before .before .before .vector-of .ensures))
-    ∙ sym (product-next (L .i) (at (A .p .now)) (A .x)),
+      omega arith,
+      c .push-bit .ensures
+          ∙ ap₂ (λ (x y : ℕ). x * 2 + y) (L .inv .1) (c .before .parity .ensures ∙ ap₂ dot (c .before .before .vector-of2 .ensures) (c .before .before .before .before .before .before .vector-of .ensures))
+          ∙ sym (product-next (L .i) (at (A .p .now)) (A .x)),
     )
 
 byte-requires : tie.Need-byte-requires Inv-loop μ-loop
