@@ -1,6 +1,6 @@
 /* Tazhikko: white-box AES-128 table sets, for programs in C.
  *
- * Every call takes slices as a pointer and a length, of any length. No pointer is null, also where its length is 0. Lent memory that a
+ * Every call takes slices as a pointer and a length, of any length. A pointer may be null where its length is 0. Lent memory that a
  * call writes must not overlap what it reads. A call returns 0 where it is accepted, else a refusal: TAZHIKKO_CAUSE and TAZHIKKO_SECOND read
  * its two numbers. A refused call leaves the lent memory as it was. */
 #ifndef TAZHIKKO_H

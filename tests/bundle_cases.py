@@ -5,8 +5,9 @@ usage: tests/bundle_cases.py           write both files
        tests/bundle_cases.py --check   compare them with what the reference says
 
 The input is a row of orders of 8 bytes (kind, k, a, n; see crates/bundle_cases/src/main.rt) over a memory of 65,537 bytes:
-kind 0 puts the next n bytes at place a, kind 1 judges the first a bytes, kind 2 shows part n of kind k of the first a bytes, kind 3
-calls coding k under the first a bytes with a block of n // 256 bytes, which follow, into one of n % 256 bytes.
+kind 0 puts the next n bytes at place a, kind 1 judges the first a bytes, kinds 2 and 3 show part n of kind k of the first a bytes, by the
+bundle's call and by a view, and kind 4 calls coding k under the first a bytes with a block of n // 256 bytes, which follow, into one of
+n % 256 bytes.
 """
 import os
 import random
@@ -68,7 +69,6 @@ class Cases:
         self.with_changes(changes, lambda: self.judge(length))
 
     def part(self, length, k, n):
-        self.order(2, k, length, n)
         far = n % 8 << 61
         section, number = (k, n if k < 3 else 0) if k < 5 else (k - 5, far)
         cause = self.verdict(length)
@@ -77,10 +77,12 @@ class Cases:
         if not (cause and cause[0] in (2, 3)) and number < wbref.lengths()[section] // SIZES[section]:
             at = wbref.pairs(data)[section][0] + SIZES[section] * number
             out = data[at:at + SIZES[section]]
-        self.expected.append(out.hex())
+        for kind in (2, 3):
+            self.order(kind, k, length, n)
+            self.expected.append(out.hex())
 
     def code(self, length, k, block, room):
-        self.order(3, k, length, 256 * len(block) + room)
+        self.order(4, k, length, 256 * len(block) + room)
         self.orders += block
         cause = self.verdict(length) or ((10, 0) if len(block) != 16 or room != 16 else None)
         self.say(cause)
@@ -113,18 +115,18 @@ def pair_cases(c, length):
         c.judge_with(length, pair(i, o + 1, n), pair(i + 1, p, m + 1))
 
 
-def list_at(c, n):
-    return wbref.pairs(c.mem)[0][0] + 8 * n
+def list_at(bundle, n):
+    return wbref.pairs(bundle)[0][0] + 8 * n
 
 
-def bad_lists(c, n):
+def bad_lists(bundle, n):
     """Lists that repeat an image: first and second, first and last, the last two, all alike, and a good one."""
-    images = wbref.Bundle(bytes(c.mem)).list(n)
+    images = wbref.Bundle(bundle).list(n)
     for a, b in ((0, 1), (0, 15), (14, 15), (7, 8), (3, 3)):
         changed = list(images)
         changed[b] = changed[a]
-        yield (list_at(c, n), wbref.pack_list(changed))
-    yield (list_at(c, n), bytes(8))
+        yield (list_at(bundle, n), wbref.pack_list(changed))
+    yield (list_at(bundle, n), bytes(8))
 
 
 def matrix_bytes(rows, n):
@@ -227,7 +229,7 @@ def make():
         c.judge(length)
     pair_cases(c, SHORTEST)
     for n in (0, 1, 31, 32, 3000, 6016, 6046, 6047):
-        for fault in bad_lists(c, n):
+        for fault in bad_lists(bytes(c.mem), n):
             c.judge_with(SHORTEST, fault)
     matrix_cases(c, rng, SHORTEST)
     several_faults(c, SHORTEST)
@@ -243,7 +245,8 @@ def make():
     c.with_changes([pair(2, o, n + 1)], lambda: few_parts(c, SHORTEST))
     c.with_changes([pair(2, o, n + 1)], lambda: refused_codes(c, rng, SHORTEST))
     b = wbref.Bundle(bytes(c.mem))
-    for at, data in ((list_at(c, 6047), bytes(8)), (b.start[1], bytes(8)), (b.start[2], bytes(128)), (b.start[3], bytes(2048)), (b.start[4], bytes(2048))):
+    starts = [list_at(c.mem, 6047)] + b.start[1:]
+    for at, data in zip(starts, (bytes(8), bytes(8), bytes(128), bytes(2048), bytes(2048))):
         c.with_changes([(at, data)], lambda: few_parts(c, SHORTEST))
         c.with_changes([(at, data)], lambda: refused_codes(c, rng, SHORTEST))
 

@@ -24,7 +24,7 @@ pub fn section<'a>(bundle: &'a [u8], s: usize) -> &'a [u8]
 }
 
 // Part n of a section that has parts of one size; empty behind the last.
-fn part<'a>(s: &'a [u8], size: usize, n: usize) -> &'a [u8]
+pub fn part<'a>(s: &'a [u8], size: usize, n: usize) -> &'a [u8]
     requires { ⌜ (1 ≤ size) × (length (now s) / size * size ≡ length (now s)) ⌝ }
     ensures { λ r. ⌜ now r ≡ partOf size (now (s .entry)) n ⌝ }
 {

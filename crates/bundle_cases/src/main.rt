@@ -9,6 +9,7 @@ use external::coding;
 use external::coding::Coded;
 use libc::STDIN_FILENO;
 use libc::STDOUT_FILENO;
+use view::part::Part;
 
 fn wide(x: u8) -> usize
     ensures { λ r. ⌜ r < 256 ⌝ }
@@ -50,19 +51,30 @@ fn say_judgement(bundle: &[u8]) {
     }
 }
 
-// The part that holds encoding, byte matrix or column matrix n, or the input or output matrix; from 5 on, one of the first three with
-// a number so large that 8 times it wraps.
-fn show_part(bundle: &[u8], k: u8, n: usize) {
+// What k and n name: encoding, byte matrix or column matrix n, or the input or output matrix; from 5 on, one of the first three with a
+// number so large that 8 times it wraps.
+fn named(k: u8, n: usize) -> Part {
     let far = n % 8 * 2305843009213693952;
     match k {
-        0 => show(parts::encoding_part(bundle, n)),
-        1 => show(parts::byte_matrix_part(bundle, n)),
-        2 => show(parts::column_matrix_part(bundle, n)),
-        3 => show(parts::input_matrix_part(bundle)),
-        4 => show(parts::output_matrix_part(bundle)),
-        5 => show(parts::encoding_part(bundle, far)),
-        6 => show(parts::byte_matrix_part(bundle, far)),
-        _ => show(parts::column_matrix_part(bundle, far)),
+        0 => Part::Encoding(n),
+        1 => Part::ByteMatrix(n),
+        2 => Part::ColumnMatrix(n),
+        3 => Part::InputMatrix,
+        4 => Part::OutputMatrix,
+        5 => Part::Encoding(far),
+        6 => Part::ByteMatrix(far),
+        _ => Part::ColumnMatrix(far),
+    }
+}
+
+// The part that the bundle's call of its kind hands back.
+fn show_part(bundle: &[u8], p: Part) {
+    match p {
+        Part::Encoding(n) => show(parts::encoding_part(bundle, n)),
+        Part::ByteMatrix(n) => show(parts::byte_matrix_part(bundle, n)),
+        Part::ColumnMatrix(n) => show(parts::column_matrix_part(bundle, n)),
+        Part::InputMatrix => show(parts::input_matrix_part(bundle)),
+        Part::OutputMatrix => show(parts::output_matrix_part(bundle)),
     }
 }
 
@@ -114,7 +126,8 @@ fn order(mem: &mut [u8], kind: u8, k: u8, a: usize, n: usize) {
     }
     match kind {
         1 => say_judgement(&mem[0..a]),
-        2 => show_part(&mem[0..a], k, n),
+        2 => show_part(&mem[0..a], named(k, n)),
+        3 => show(view::served(&mem[0..a], named(k, n))),
         _ => code(&mem[0..a], k, n),
     }
 }

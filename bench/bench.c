@@ -1,0 +1,158 @@
+/* Measures tazhikko's calls against plain.c on the same input, after a check that both give the same bytes.
+ *
+ * usage: bench < KEY_AND_BUNDLE      16 bytes of a key, then a good bundle
+ *
+ * Each line has the least processor time of several rounds. In a round the two sides take turns, so that both meet the same machine. */
+#include "plain/plain.h"
+#include "tazhikko.h"
+
+#include <math.h>
+#include <stdio.h>
+#include <stdlib.h>
+#include <string.h>
+#include <time.h>
+
+enum { ROUNDS = 101, SPREAD_TABLE = 496, XOR_TABLE = 512 };
+
+static uint8_t key[TAZHIKKO_KEY_BYTES];
+static uint8_t bundle[TAZHIKKO_BUNDLE_MAX_BYTES];
+static size_t bundle_len;
+static uint8_t our_set[TAZHIKKO_SET_BYTES], plain_set[TAZHIKKO_SET_BYTES];
+static uint8_t our_table[4096], plain_table[4096];
+static uint8_t our_block[TAZHIKKO_BLOCK_BYTES], plain_block[TAZHIKKO_BLOCK_BYTES];
+
+static void judge_ours(void) { tazhikko_judge_bundle(bundle, bundle_len); }
+static void judge_plain(void) { plain_judge_bundle(bundle, bundle_len); }
+static void set_ours(void) { tazhikko_make_set(key, sizeof key, bundle, bundle_len, our_set, sizeof our_set); }
+static void set_plain(void) { plain_make_set(key, bundle, bundle_len, plain_set); }
+
+static size_t table_bytes(size_t number)
+{
+    if (number < 16 || (number >= 2512 && number < 2528))
+        return 4096;
+    return number >= 496 && number < 2512 && (number - 496) % 112 < 16 ? 1024 : 128;
+}
+
+static void make_ours(size_t number)
+{
+    tazhikko_make_table(key, sizeof key, bundle, bundle_len, number, our_table, table_bytes(number));
+}
+
+static void make_plain(size_t number) { plain_make_table(key, bundle, bundle_len, number, plain_table); }
+static void spread_ours(void) { make_ours(SPREAD_TABLE); }
+static void spread_plain(void) { make_plain(SPREAD_TABLE); }
+static void xor_ours(void) { make_ours(XOR_TABLE); }
+static void xor_plain(void) { make_plain(XOR_TABLE); }
+
+/* Each answer is the next block, so that a walk reads other entries than the one before. */
+static void walk_ours(void)
+{
+    uint8_t answer[TAZHIKKO_BLOCK_BYTES];
+    tazhikko_walk(our_set, sizeof our_set, our_block, sizeof our_block, answer, sizeof answer);
+    memcpy(our_block, answer, sizeof answer);
+}
+
+static void walk_plain(void)
+{
+    uint8_t answer[TAZHIKKO_BLOCK_BYTES];
+    plain_walk(plain_set, plain_block, answer);
+    memcpy(plain_block, answer, sizeof answer);
+}
+
+static const struct task {
+    const char *what;
+    void (*ours)(void), (*plain)(void);
+    int calls; /* in one round */
+} TASKS[] = {
+    {"judge a bundle", judge_ours, judge_plain, 2},
+    {"make a set", set_ours, set_plain, 1},
+    {"make one spread table", spread_ours, spread_plain, 2},
+    {"make one XOR table", xor_ours, xor_plain, 2},
+    {"walk a block", walk_ours, walk_plain, 50},
+};
+
+enum { COUNT = sizeof TASKS / sizeof *TASKS };
+
+static void require(int same, const char *what)
+{
+    if (!same) {
+        fprintf(stderr, "bench: the two sides differ: %s\n", what);
+        exit(1);
+    }
+}
+
+/* A good bundle, and that bundle with one bit turned over: in each byte of the five pairs, then in every 97th byte. */
+static void check_judgements(void)
+{
+    require(tazhikko_judge_bundle(bundle, bundle_len) == 0 && plain_judge_bundle(bundle, bundle_len) == 0, "a good bundle");
+    for (size_t at = 0; at < bundle_len; at += at < 48 ? 1 : 97) {
+        uint8_t kept = bundle[at];
+        bundle[at] ^= 0x10;
+        require(tazhikko_judge_bundle(bundle, bundle_len) == plain_judge_bundle(bundle, bundle_len), "judgement");
+        bundle[at] = kept;
+    }
+}
+
+static void check_tables(void)
+{
+    size_t offset = 0;
+    set_ours();
+    set_plain();
+    require(memcmp(our_set, plain_set, sizeof our_set) == 0, "set");
+    for (size_t n = 0; n < TAZHIKKO_TABLES; n++) {
+        size_t bytes = table_bytes(n);
+        make_ours(n);
+        make_plain(n);
+        require(memcmp(our_table, our_set + offset, bytes) == 0 && memcmp(plain_table, plain_set + offset, bytes) == 0, "table");
+        offset += bytes;
+    }
+}
+
+static void check_walks(void)
+{
+    for (int i = 0; i < 1000; i++) {
+        walk_ours();
+        walk_plain();
+        require(memcmp(our_block, plain_block, sizeof our_block) == 0, "walk");
+    }
+}
+
+static double seconds(void (*call)(void), int calls)
+{
+    struct timespec from, to;
+    clock_gettime(CLOCK_PROCESS_CPUTIME_ID, &from);
+    for (int i = 0; i < calls; i++)
+        call();
+    clock_gettime(CLOCK_PROCESS_CPUTIME_ID, &to);
+    return ((double)(to.tv_sec - from.tv_sec) + 1e-9 * (double)(to.tv_nsec - from.tv_nsec)) / calls;
+}
+
+static double lesser(double a, double b) { return a < b ? a : b; }
+
+/* All tasks in every round: a busy moment of the machine then spoils one round of each, not one task. */
+static void measure(void)
+{
+    double ours[COUNT], plain[COUNT];
+    for (size_t i = 0; i < COUNT; i++)
+        ours[i] = plain[i] = INFINITY;
+    for (int round = 0; round < ROUNDS; round++)
+        for (size_t i = 0; i < COUNT; i++) {
+            ours[i] = lesser(ours[i], seconds(TASKS[i].ours, TASKS[i].calls));
+            plain[i] = lesser(plain[i], seconds(TASKS[i].plain, TASKS[i].calls));
+        }
+    printf("%-22s %12s %12s %8s\n", "microseconds", "ours", "plain C", "ratio");
+    for (size_t i = 0; i < COUNT; i++)
+        printf("%-22s %12.1f %12.1f %8.2f\n", TASKS[i].what, 1e6 * ours[i], 1e6 * plain[i], ours[i] / plain[i]);
+}
+
+int main(void)
+{
+    if (fread(key, 1, sizeof key, stdin) != sizeof key)
+        return 2;
+    bundle_len = fread(bundle, 1, sizeof bundle, stdin);
+    check_judgements();
+    check_tables();
+    check_walks();
+    measure();
+    return 0;
+}

@@ -1,0 +1,59 @@
+#include "bundle.h"
+
+#include "matrix.h"
+#include "plain.h"
+
+static const uint32_t SECTION_BYTES[SECTIONS] = {48384, 1280, 4608, 2048, 2048};
+
+static uint32_t refused(uint32_t cause, uint32_t second)
+{
+    return cause * 65536 + second;
+}
+
+static bool is_permutation(const uint8_t *list)
+{
+    unsigned seen = 0;
+    for (int i = 0; i < 8; i++)
+        seen |= 1u << (list[i] >> 4) | 1u << (list[i] & 15);
+    return seen == 0xffff;
+}
+
+uint32_t find_sections(const uint8_t *bundle, size_t len, const uint8_t *sections[SECTIONS])
+{
+    uint64_t end = 40;
+    if (len < 58408 || len > 65536)
+        return refused(2, 0);
+    for (uint32_t i = 0; i < SECTIONS; i++) {
+        uint64_t start = load32(bundle + 8 * i), bytes = load32(bundle + 8 * i + 4);
+        if (bytes != SECTION_BYTES[i] || start < end || start + bytes > len)
+            return refused(3, i);
+        sections[i] = bundle + start;
+        end = start + bytes;
+    }
+    return 0;
+}
+
+uint32_t plain_judge_bundle(const uint8_t *bundle, size_t bundle_len)
+{
+    const uint8_t *sections[SECTIONS];
+    uint32_t rows[32], inverse[32];
+    vector128 inverse128[128];
+    uint32_t refusal = find_sections(bundle, bundle_len, sections);
+    if (refusal != 0)
+        return refusal;
+    for (uint32_t i = 0; i < LISTS; i++)
+        if (!is_permutation(sections[0] + 8 * i))
+            return refused(4, i);
+    for (uint32_t i = 0; i < BYTE_MATRICES; i++)
+        if (!invert8(sections[1] + 8 * i, inverse))
+            return refused(5, i);
+    for (uint32_t i = 0; i < COLUMN_MATRICES; i++) {
+        load_matrix32(sections[2] + 128 * i, rows);
+        if (!invert32(32, rows, inverse))
+            return refused(6, i);
+    }
+    for (uint32_t i = 0; i < 2; i++)
+        if (!invert128(sections[3 + i], inverse128))
+            return refused(7, i);
+    return 0;
+}

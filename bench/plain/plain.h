@@ -1,0 +1,17 @@
+/* Document 01 in plain C, unproved: what tazhikko's calls are measured against. Lengths other than the bundle's are the caller's care. */
+#ifndef PLAIN_H
+#define PLAIN_H
+
+#include <stddef.h>
+#include <stdint.h>
+
+/* 0 for an accepted bundle, else cause * 65536 + the number returned with it. */
+uint32_t plain_judge_bundle(const uint8_t *bundle, size_t bundle_len);
+
+/* Both judge the bundle first and return what the judgement returns. */
+uint32_t plain_make_set(const uint8_t *key, const uint8_t *bundle, size_t bundle_len, uint8_t *set);
+uint32_t plain_make_table(const uint8_t *key, const uint8_t *bundle, size_t bundle_len, size_t number, uint8_t *table);
+
+void plain_walk(const uint8_t *set, const uint8_t *block, uint8_t *answer);
+
+#endif

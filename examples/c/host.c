@@ -1,0 +1,65 @@
+/* An example host: enciphers a block by a table set.
+ *
+ *     rt staticlib host
+ *     cc -std=c99 -I include examples/c/host.c target/staticlib/libhost.a -o host
+ *     ./host KEY BUNDLE BLOCK
+ *
+ * KEY and BLOCK are files of 16 bytes. The desk makes the set of the key and the bundle, and codes the block. A reader, which has the set
+ * and neither key nor bundle, walks the coded block. The desk uncodes the answer: the cipher block, printed as 32 hex digits. OpenSSL gives
+ * the same: openssl enc -aes-128-ecb -nopad -K (the key in hex) -in BLOCK | xxd -p
+ * Where a call is refused, `refused N I` is printed: the cause, and the number returned with it. */
+#include "tazhikko.h"
+
+#include <stdio.h>
+
+/* Room for one byte more than is right, so that a longer file is refused and not cut. */
+struct input {
+    uint8_t bytes[TAZHIKKO_BUNDLE_MAX_BYTES + 1];
+    size_t len;
+};
+
+static int read_input(const char *path, struct input *input)
+{
+    FILE *file = fopen(path, "rb");
+    if (file == NULL) {
+        perror(path);
+        return 0;
+    }
+    input->len = fread(input->bytes, 1, sizeof input->bytes, file);
+    int whole = !ferror(file);
+    fclose(file);
+    return whole;
+}
+
+static uint32_t encipher(const struct input *key, const struct input *bundle, const struct input *block, uint8_t cipher[16])
+{
+    static uint8_t set[TAZHIKKO_SET_BYTES];
+    uint8_t coded[16], answer[16];
+    uint32_t refusal = tazhikko_make_set(key->bytes, key->len, bundle->bytes, bundle->len, set, sizeof set);
+    if (refusal == 0)
+        refusal = tazhikko_encode_input(bundle->bytes, bundle->len, block->bytes, block->len, coded, sizeof coded);
+    if (refusal == 0)
+        refusal = tazhikko_walk(set, sizeof set, coded, sizeof coded, answer, sizeof answer);
+    if (refusal == 0)
+        refusal = tazhikko_decode_output(bundle->bytes, bundle->len, answer, sizeof answer, cipher, 16);
+    return refusal;
+}
+
+int main(int argc, char **argv)
+{
+    static struct input key, bundle, block;
+    uint8_t cipher[16];
+    if (argc != 4 || !read_input(argv[1], &key) || !read_input(argv[2], &bundle) || !read_input(argv[3], &block)) {
+        fputs("usage: host KEY BUNDLE BLOCK\n", stderr);
+        return 2;
+    }
+    uint32_t refusal = encipher(&key, &bundle, &block, cipher);
+    if (refusal != 0) {
+        printf("refused %u %u\n", TAZHIKKO_CAUSE(refusal), TAZHIKKO_SECOND(refusal));
+        return 1;
+    }
+    for (int i = 0; i < 16; i++)
+        printf("%02x", cipher[i]);
+    putchar('\n');
+    return 0;
+}

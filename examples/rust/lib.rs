@@ -1,0 +1,154 @@
+//! A safe wrapper, without crates, of Tazhikko's calls for C (`include/tazhikko.h`).
+//!
+//!     rt staticlib host
+//!     rustc --edition 2021 --crate-name tazhikko --crate-type rlib -L target/staticlib examples/rust/lib.rs
+//!
+//! Its tests: the same with `--test` in the place of `--crate-type rlib`, and then `./tazhikko`.
+
+#[cfg(test)]
+mod tests;
+
+pub const SET_BYTES: usize = 770_048;
+pub const TABLES: usize = 3_008;
+
+pub type Block = [u8; 16];
+
+/// Why a call is refused: the lowest cause that applies.
+#[derive(Clone, Copy, Debug, PartialEq, Eq)]
+pub enum Refusal {
+    KeyLength,
+    BundleLength,
+    /// The first bad pair, 0 to 4.
+    Section(u32),
+    /// The first encoding that is no permutation.
+    Encoding(u32),
+    /// The first byte matrix that has no inverse.
+    ByteMatrix(u32),
+    /// The first column matrix that has no inverse.
+    ColumnMatrix(u32),
+    /// 0 for the input matrix or both, 1 for the output matrix only.
+    BlockMatrix(u32),
+    TableNumber,
+    SetLength,
+    BlockLength,
+}
+
+/// A call for C that reads two slices and writes a third.
+type Call = unsafe extern "C" fn(*const u8, usize, *const u8, usize, *mut u8, usize) -> u32;
+
+#[link(name = "host", kind = "static")]
+extern "C" {
+    fn tazhikko_judge_bundle(bundle: *const u8, bundle_len: usize) -> u32;
+    fn tazhikko_encode_input(bundle: *const u8, bundle_len: usize, block: *const u8, block_len: usize, out: *mut u8, out_len: usize) -> u32;
+    fn tazhikko_decode_input(bundle: *const u8, bundle_len: usize, block: *const u8, block_len: usize, out: *mut u8, out_len: usize) -> u32;
+    fn tazhikko_encode_output(bundle: *const u8, bundle_len: usize, block: *const u8, block_len: usize, out: *mut u8, out_len: usize) -> u32;
+    fn tazhikko_decode_output(bundle: *const u8, bundle_len: usize, block: *const u8, block_len: usize, out: *mut u8, out_len: usize) -> u32;
+    fn tazhikko_encipher(key: *const u8, key_len: usize, block: *const u8, block_len: usize, out: *mut u8, out_len: usize) -> u32;
+    fn tazhikko_decipher(key: *const u8, key_len: usize, block: *const u8, block_len: usize, out: *mut u8, out_len: usize) -> u32;
+    fn tazhikko_make_set(key: *const u8, key_len: usize, bundle: *const u8, bundle_len: usize, set: *mut u8, set_len: usize) -> u32;
+    fn tazhikko_make_table(
+        key: *const u8,
+        key_len: usize,
+        bundle: *const u8,
+        bundle_len: usize,
+        number: usize,
+        table: *mut u8,
+        table_len: usize,
+    ) -> u32;
+    fn tazhikko_walk(set: *const u8, set_len: usize, block: *const u8, block_len: usize, answer: *mut u8, answer_len: usize) -> u32;
+}
+
+/// The judgement of a bundle.
+pub fn judge_bundle(bundle: &[u8]) -> Result<(), Refusal> {
+    // SAFETY: a slice's pointer and length.
+    answer(unsafe { tazhikko_judge_bundle(bundle.as_ptr(), bundle.len()) })
+}
+
+/// The input coding of a block under a bundle.
+pub fn encode_input(bundle: &[u8], block: &[u8]) -> Result<Block, Refusal> {
+    to_block(tazhikko_encode_input, bundle, block)
+}
+
+/// The input coding taken off.
+pub fn decode_input(bundle: &[u8], block: &[u8]) -> Result<Block, Refusal> {
+    to_block(tazhikko_decode_input, bundle, block)
+}
+
+/// The output coding of a block under a bundle.
+pub fn encode_output(bundle: &[u8], block: &[u8]) -> Result<Block, Refusal> {
+    to_block(tazhikko_encode_output, bundle, block)
+}
+
+/// The output coding taken off.
+pub fn decode_output(bundle: &[u8], block: &[u8]) -> Result<Block, Refusal> {
+    to_block(tazhikko_decode_output, bundle, block)
+}
+
+/// FIPS 197's AES-128.
+pub fn encipher(key: &[u8], block: &[u8]) -> Result<Block, Refusal> {
+    to_block(tazhikko_encipher, key, block)
+}
+
+/// FIPS 197's AES-128, backwards.
+pub fn decipher(key: &[u8], block: &[u8]) -> Result<Block, Refusal> {
+    to_block(tazhikko_decipher, key, block)
+}
+
+/// The table set of a key and a bundle.
+pub fn make_set(key: &[u8], bundle: &[u8]) -> Result<Vec<u8>, Refusal> {
+    let mut set = vec![0; SET_BYTES];
+    on_slices(tazhikko_make_set, key, bundle, &mut set)?;
+    Ok(set)
+}
+
+/// One table of the set.
+pub fn make_table(key: &[u8], bundle: &[u8], number: usize) -> Result<Vec<u8>, Refusal> {
+    let mut table = vec![0; table_bytes(number)];
+    // SAFETY: three slices' pointers and lengths; the one that is written is borrowed alone.
+    answer(unsafe { tazhikko_make_table(key.as_ptr(), key.len(), bundle.as_ptr(), bundle.len(), number, table.as_mut_ptr(), table.len()) })?;
+    Ok(table)
+}
+
+/// The walk of a set over a block under the input coding, to the cipher block under the output coding.
+pub fn walk(set: &[u8], block: &[u8]) -> Result<Block, Refusal> {
+    to_block(tazhikko_walk, set, block)
+}
+
+/// The length of a table, 0 for a number that no table has.
+pub fn table_bytes(number: usize) -> usize {
+    match number {
+        0..=15 | 2512..=2527 => 4096,
+        496..=2511 if (number - 496) % 112 < 16 => 1024,
+        0..=3007 => 128,
+        _ => 0,
+    }
+}
+
+fn to_block(call: Call, first: &[u8], second: &[u8]) -> Result<Block, Refusal> {
+    let mut out = [0; 16];
+    on_slices(call, first, second, &mut out)?;
+    Ok(out)
+}
+
+fn on_slices(call: Call, first: &[u8], second: &[u8], out: &mut [u8]) -> Result<(), Refusal> {
+    // SAFETY: three slices' pointers and lengths; the one that is written is borrowed alone.
+    answer(unsafe { call(first.as_ptr(), first.len(), second.as_ptr(), second.len(), out.as_mut_ptr(), out.len()) })
+}
+
+fn answer(number: u32) -> Result<(), Refusal> {
+    let second = number % 65536;
+    Err(match number / 65536 {
+        0 => return Ok(()),
+        1 => Refusal::KeyLength,
+        2 => Refusal::BundleLength,
+        3 => Refusal::Section(second),
+        4 => Refusal::Encoding(second),
+        5 => Refusal::ByteMatrix(second),
+        6 => Refusal::ColumnMatrix(second),
+        7 => Refusal::BlockMatrix(second),
+        8 => Refusal::TableNumber,
+        9 => Refusal::SetLength,
+        10 => Refusal::BlockLength,
+        cause => unreachable!("the calls for C have no cause {cause}"),
+    })
+}

@@ -1,0 +1,100 @@
+//! FIPS 197's published examples, through bundles built here by document 01's format, and every refusal.
+use super::*;
+
+/// FIPS 197, appendix C.1: key, block, cipher block.
+const KEY: Block = [0x00, 0x01, 0x02, 0x03, 0x04, 0x05, 0x06, 0x07, 0x08, 0x09, 0x0a, 0x0b, 0x0c, 0x0d, 0x0e, 0x0f];
+const BLOCK: Block = [0x00, 0x11, 0x22, 0x33, 0x44, 0x55, 0x66, 0x77, 0x88, 0x99, 0xaa, 0xbb, 0xcc, 0xdd, 0xee, 0xff];
+const CIPHER: Block = [0x69, 0xc4, 0xe0, 0xd8, 0x6a, 0x7b, 0x04, 0x30, 0xd8, 0xcd, 0xb7, 0x80, 0x70, 0xb4, 0xc5, 0x5a];
+
+const STARTS: [usize; 5] = [40, 48_424, 49_704, 54_312, 56_360];
+const LENGTHS: [usize; 5] = [48_384, 1_280, 4_608, 2_048, 2_048];
+
+/// Ones on the diagonal and, where the matrix is not plain, left of it too: it has an inverse, and that is another matrix.
+fn matrix(width: usize, plain: bool) -> Vec<u8> {
+    let mut bytes = vec![0; width * width / 8];
+    for row in 0..width {
+        let mut one = |column: usize| bytes[row * width / 8 + column / 8] |= 0x80 >> (column % 8);
+        one(row);
+        if !plain && row > 0 {
+            one(row - 1);
+        }
+    }
+    bytes
+}
+
+/// The plain bundle, or one whose encoding n turns the nibbles by n + 1.
+fn bundle(plain: bool) -> Vec<u8> {
+    let image = |list: usize, x: usize| ((x + if plain { 0 } else { list + 1 }) % 16) as u8;
+    let mut bytes: Vec<u8> = STARTS.iter().zip(LENGTHS).flat_map(|(o, n)| [(*o as u32).to_be_bytes(), (n as u32).to_be_bytes()].concat()).collect();
+    bytes.extend((0..6_048 * 8).map(|i| image(i / 8, i % 8 * 2) << 4 | image(i / 8, i % 8 * 2 + 1)));
+    for (width, count) in [(8, 160), (32, 36), (128, 2)] {
+        bytes.extend(matrix(width, plain).repeat(count));
+    }
+    bytes
+}
+
+/// The bundle with zeros written over one part.
+fn without(at: usize, len: usize) -> Vec<u8> {
+    let mut bytes = bundle(true);
+    bytes[at..at + len].fill(0);
+    bytes
+}
+
+#[test]
+fn fips_197() {
+    assert_eq!(encipher(&KEY, &BLOCK), Ok(CIPHER));
+    assert_eq!(decipher(&KEY, &CIPHER), Ok(BLOCK));
+}
+
+#[test]
+fn a_set_enciphers() {
+    for plain in [true, false] {
+        let bundle = bundle(plain);
+        assert_eq!(judge_bundle(&bundle), Ok(()));
+        let set = make_set(&KEY, &bundle).unwrap();
+        let presented = encode_input(&bundle, &BLOCK).unwrap();
+        let answer = walk(&set, &presented).unwrap();
+        assert_eq!(presented == BLOCK, plain);
+        assert_eq!(answer == CIPHER, plain);
+        assert_eq!(decode_input(&bundle, &presented), Ok(BLOCK));
+        assert_eq!(decode_output(&bundle, &answer), Ok(CIPHER));
+        assert_eq!(encode_output(&bundle, &CIPHER), Ok(answer));
+    }
+}
+
+#[test]
+fn tables_make_up_the_set() {
+    let bundle = bundle(false);
+    let tables: Vec<u8> = (0..TABLES).flat_map(|n| make_table(&KEY, &bundle, n).unwrap()).collect();
+    assert!(tables == make_set(&KEY, &bundle).unwrap());
+}
+
+#[test]
+fn faulty_bundles() {
+    let lists = STARTS[0];
+    assert_eq!(judge_bundle(&[]), Err(Refusal::BundleLength));
+    assert_eq!(judge_bundle(&bundle(true)[1..]), Err(Refusal::BundleLength));
+    assert_eq!(judge_bundle(&without(32, 4)), Err(Refusal::Section(4)));
+    assert_eq!(judge_bundle(&without(lists + 8 * 6_047, 8)), Err(Refusal::Encoding(6_047)));
+    assert_eq!(judge_bundle(&without(STARTS[1] + 8 * 159, 8)), Err(Refusal::ByteMatrix(159)));
+    assert_eq!(judge_bundle(&without(STARTS[2] + 128 * 35, 128)), Err(Refusal::ColumnMatrix(35)));
+    assert_eq!(judge_bundle(&without(STARTS[3], 4_096)), Err(Refusal::BlockMatrix(0)));
+    assert_eq!(judge_bundle(&without(STARTS[4], 2_048)), Err(Refusal::BlockMatrix(1)));
+}
+
+#[test]
+fn refused_calls() {
+    let good = bundle(true);
+    let faulty = without(STARTS[0], 8);
+    let set = vec![0; SET_BYTES];
+    assert_eq!(encipher(&[], &[]), Err(Refusal::KeyLength));
+    assert_eq!(decipher(&KEY, &BLOCK[1..]), Err(Refusal::BlockLength));
+    assert_eq!(make_set(&KEY[1..], &faulty), Err(Refusal::KeyLength));
+    assert_eq!(make_set(&KEY, &faulty), Err(Refusal::Encoding(0)));
+    assert_eq!(make_table(&KEY, &faulty, TABLES), Err(Refusal::Encoding(0)));
+    assert_eq!(make_table(&KEY, &good, TABLES), Err(Refusal::TableNumber));
+    assert_eq!(encode_input(&good, &[0; 17]), Err(Refusal::BlockLength));
+    assert_eq!(walk(&set[1..], &[]), Err(Refusal::SetLength));
+    assert_eq!(walk(&set, &[]), Err(Refusal::BlockLength));
+    assert_eq!(walk(&set, &BLOCK), Ok([0; 16]));
+}

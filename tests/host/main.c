@@ -1,0 +1,41 @@
+/* Random calls of every function of include/tazhikko.h, held against libcrypto and the reference's cases.
+ *
+ * usage: host CASES SEED CALLS     CASES is the folder that cases.py wrote, CALLS the number of random calls of each function */
+#include "tests.h"
+
+#include <stdio.h>
+#include <stdlib.h>
+
+uint32_t call(call_on_slices *f, const struct slices *s)
+{
+    return f(s->first.bytes, s->first.len, s->second.bytes, s->second.len, s->out.bytes, s->out.len);
+}
+
+size_t tries(const struct tests *t, size_t count)
+{
+    return t->calls < count ? t->calls : count;
+}
+
+size_t tried(struct tests *t, size_t count, size_t n)
+{
+    return t->calls < count ? below(&t->chance, count) : n;
+}
+
+int main(int argc, char **argv)
+{
+    if (argc != 4) {
+        fputs("usage: host CASES SEED CALLS\n", stderr);
+        return 2;
+    }
+    struct tests t = {.cases = read_cases(argv[1]), .chance = {strtoull(argv[2], NULL, 10)}, .calls = strtoull(argv[3], NULL, 10)};
+    printf("seed %s, %s random calls of each function\n", argv[2], argv[3]);
+    test_aes(&t);
+    test_judgements(&t);
+    test_codings(&t);
+    test_make_set(&t);
+    test_make_table(&t);
+    test_walk(&t);
+    test_demand2(&t);
+    printf("%lu checks; %lu groups passed, %lu failed\n", t.totals.calls, t.totals.passed, t.totals.failed);
+    return t.totals.failed == 0 ? 0 : 1;
+}
