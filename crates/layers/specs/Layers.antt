@@ -1,7 +1,7 @@
 -- What a table of a layer is made from. Definitions only.
 use mathlib.Core.List.{List, []}
 use mathlib.Core.Path.{_≡_}
-use Prim.Native.Nat.{ℕ, _+_, _*_, _/_, _%_, _<_}
+use Prim.Native.Nat.{ℕ, _+_, _-_, _*_, _/_, _%_, _≤_, _<_}
 use lib.ListN.{length, take, drop}
 use Rattle.bits.specs.Bytes.{numberOf}
 use Rattle.bits.specs.Elimination.{inverseOf}
@@ -37,6 +37,15 @@ pub record Ready (l columns input : List ℕ) : Type 0 where
   pub inverses : ColumnInverses l columns
   pub long : length input ≡ 256
   pub rows : rowsOf 128 input ≡ inverseOf 128 (inputMatrix 10 l)
+
+-- The one inverse that spread table p of a stage or half is made with, as rows: the input matrix's in the entry, its column's in a second
+-- half, none elsewhere.
+abbrev pub InverseFor : List ℕ → Stage → ℕ → List ℕ → Type 0
+InverseFor l Entry p m = (256 ≤ length m) × (rowsOf 128 m ≡ inverseOf 128 (inputMatrix 10 l))
+InverseFor l (First r) p m = Unit {0}
+InverseFor l (Second r) p m = (64 ≤ length m) × (rowsOf 32 m ≡ inverseOf 32 (columnMatrix 10 l (4 * (r - 1) + p / 4)))
+InverseFor l Exit p m = Unit {0}
+InverseFor l Beyond p m = Unit {0}
 
 -- The byte x that position p reads, decoded "by the two lists of its place".
 unfoldable pub readByte : List ℕ → Stage → ℕ → ℕ → ℕ

@@ -77,17 +77,18 @@ fn fill_set(key: &[u8], bundle: &[u8], memory: &mut [u8])
     set::write_all(bundle, &keys, &columns, &input, memory);
 }
 
-// Table n of that set.
+// Table n of that set; no other inverse than its own is worked out.
 fn fill_table(key: &[u8], bundle: &[u8], n: usize, memory: &mut [u8])
     requires { ⌜ (length (now key) ≡ 16) × (judge 10 (now bundle) ≡ Accepted) × (n < 3008) × (length (now memory) ≡ tableSize 10 n) ⌝ }
     ensures { λ _. ⌜ now (memory .exit) ≡ madeTable 4 (now (key .entry)) (now (bundle .entry)) n ⌝ }
 {
     let keys = aes::expand_key(key_of(key));
-    let mut columns = [0u64; 2304];
-    let mut input = [0u64; 256];
-    inverses::of_columns(bundle, &mut columns);
-    inverses::of_input(bundle, &mut input);
-    set::write_one(bundle, &keys, &columns, &input, n, memory);
+    let place = stage::place_of(n);
+    let s = place.stage;
+    let j = place.index;
+    let mut inverse = [0u64; 256];
+    inverses::of_table(bundle, s, j, &mut inverse);
+    set::write_one(bundle, &keys, &inverse, n, memory);
 }
 
 // Causes 1 to 7.

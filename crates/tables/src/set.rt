@@ -1,36 +1,38 @@
 // One table by its number, and the whole set.
 ghost use mathlib.Core.Path.{_≡_};
-ghost use Prim.Native.Nat.{_+_, _<_, _≤_};
+ghost use Prim.Native.Nat.{_+_, _<_};
 ghost use lib.ListN.{length};
 ghost use Rattle.bits.specs.Lists.{concat};
-ghost use Rattle.layers.specs.Layers.{Ready};
-ghost use Rattle.network.specs.Stages.{tableSize};
+ghost use Rattle.bundle.specs.Judge.{judge};
+ghost use Rattle.bundle.specs.declared.answer.Judgement.the-variants.{Accepted};
+ghost use Rattle.layers.specs.Layers.{Ready, InverseFor};
+ghost use Rattle.network.specs.Stages.{stageOf, indexOf, tableSize};
 ghost use Rattle.whitebox.specs.Bundles.{codingsOf};
 ghost use Rattle.whitebox.specs.Parts.{forward};
 ghost use Rattle.whitebox.specs.Tables.{tableOf};
 use crate::table;
+use layers::inverses;
 use network::stage;
 
-// Table n.
-pub fn write_one(
-    bundle: &[u8],
-    keys: &[u8],
-    columns: &[u64],
-    input: &[u64],
-    n: usize,
-    dst: &mut [u8],
-)
-    requires { ⌜ Ready (now bundle) (now columns) (now input) × (length (now keys) ≡ 176) × (n < 3008) × (length (now dst) ≡ tableSize 10 n) ⌝ }
+// Table n, with the inverse that it needs.
+pub fn write_one(bundle: &[u8], keys: &[u8], inverse: &[u64], n: usize, dst: &mut [u8])
+    requires { ⌜ (judge 10 (now bundle) ≡ Accepted) × (indexOf 10 n < 16 → InverseFor (now bundle) (stageOf 10 n) (indexOf 10 n) (now inverse)) × (length (now keys) ≡ 176) × (n < 3008) × (length (now dst) ≡ tableSize 10 n) ⌝ }
     ensures { λ _. ⌜ now (dst .exit) ≡ tableOf (forward 10 (now (keys .entry))) (codingsOf 10 (now (bundle .entry))) 10 n ⌝ }
 {
     let place = stage::place_of(n);
     let s = place.stage;
     let j = place.index;
-    table::write(bundle, keys, columns, input, s, j, dst);
+    table::write(bundle, keys, inverse, s, j, dst);
 }
 
 // Every table, each into its own part of the lent memory.
-pub fn write_all(bundle: &[u8], keys: &[u8], columns: &[u64], input: &[u64], memory: &mut [u8])
+pub fn write_all<'a>(
+    bundle: &[u8],
+    keys: &[u8],
+    columns: &'a [u64],
+    input: &'a [u64],
+    memory: &mut [u8],
+)
     requires { ⌜ Ready (now bundle) (now columns) (now input) × (length (now keys) ≡ 176) × (length (now memory) ≡ 770048) ⌝ }
     ensures { λ _. ⌜ now (memory .exit) ≡ concat 3008 (tableOf (forward 10 (now (keys .entry))) (codingsOf 10 (now (bundle .entry))) 10) ⌝ }
 {
@@ -40,7 +42,10 @@ pub fn write_all(bundle: &[u8], keys: &[u8], columns: &[u64], input: &[u64], mem
         let a = place.offset;
         let size = place.size;
         let e = a + size;
-        write_one(bundle, keys, columns, input, n, &mut memory[a..e]);
+        let s = place.stage;
+        let j = place.index;
+        let inverse = inverses::chosen(columns, input, s, j);
+        write_one(bundle, keys, inverse, n, &mut memory[a..e]);
         n += 1;
     }
 }

@@ -9,7 +9,7 @@ ghost use Rattle.bits.specs.Lists.{tabulate};
 ghost use Rattle.bits.specs.Words.{stored};
 ghost use Rattle.bundle.specs.Judge.{judge};
 ghost use Rattle.bundle.specs.declared.answer.Judgement.the-variants.{Accepted};
-ghost use Rattle.layers.specs.Layers.{roundOf, Ready, acted, wordNumber, readByte};
+ghost use Rattle.layers.specs.Layers.{roundOf, InverseFor, acted, wordNumber, readByte};
 ghost use Rattle.network.specs.Numbers.{layerResults};
 ghost use Rattle.network.specs.Order.{GoodWidth, xors, layerLookups};
 ghost use Rattle.network.specs.Sizes.{sizeOf};
@@ -61,45 +61,33 @@ fn values_of(bundle: &[u8], keys: &[u8], s: Stage, p: usize, dst: &mut [u8])
     }
 }
 
-// The words of the bytes 2^0 to 2^7.
-fn basis_of(bundle: &[u8], columns: &[u64], input: &[u64], s: Stage, p: usize, basis: &mut [u64])
-    requires { ⌜ Ready (now bundle) (now columns) (now input) × (1 ≤ roundOf s) × (roundOf s ≤ 9) × (p < 16) × (length (now basis) ≡ 16) ⌝ }
+// The words of the bytes 2^0 to 2^7; `inverse` is the one that they are made with, if any.
+fn basis_of(bundle: &[u8], inverse: &[u64], s: Stage, p: usize, basis: &mut [u64])
+    requires { ⌜ (judge 10 (now bundle) ≡ Accepted) × InverseFor (now bundle) s p (now inverse) × (1 ≤ roundOf s) × (roundOf s ≤ 9) × (p < 16) × (length (now basis) ≡ 16) ⌝ }
     ensures { λ _. ⌜ ((w : List ℕ) → now (basis .exit) ≡ stored 8 (λ k. wordNumber (forward 10 w) (codingsOf 10 (now (bundle .entry))) s p (2 ^ k)) (now (basis .entry))) ⌝ }
 {
     match s {
-        Stage::Entry => words::spread_basis(bundle, input, 16, p, 0, basis),
+        Stage::Entry => words::spread_basis(bundle, inverse, 16, p, 0, basis),
         Stage::First(r) => {
             let n = 4 * (r - 1) + p / 4;
             words::mixed_basis(parts::column_matrix_part(bundle, n), p % 4, basis);
         }
-        Stage::Second(r) => {
-            let a = (4 * (r - 1) + p / 4) * 64;
-            let e = a + 64;
-            words::spread_basis(
-                bundle,
-                &columns[a..e],
-                4,
-                p % 4,
-                16 * r + 4 * (p / 4),
-                basis,
-            );
-        }
+        Stage::Second(r) => words::spread_basis(
+            bundle,
+            inverse,
+            4,
+            p % 4,
+            16 * r + 4 * (p / 4),
+            basis,
+        ),
         Stage::Exit => words::placed_basis(parts::output_matrix_part(bundle), p, basis),
         Stage::Beyond => {}
     }
 }
 
 // Spread table p.
-fn spread_table(
-    bundle: &[u8],
-    keys: &[u8],
-    columns: &[u64],
-    input: &[u64],
-    s: Stage,
-    p: usize,
-    dst: &mut [u8],
-)
-    requires { ⌜ Ready (now bundle) (now columns) (now input) × (length (now keys) ≡ 176) × (1 ≤ roundOf s) × (roundOf s ≤ 9) × (p < 16) × (length (now dst) ≡ 256 * widthOf s) ⌝ }
+fn spread_table(bundle: &[u8], keys: &[u8], inverse: &[u64], s: Stage, p: usize, dst: &mut [u8])
+    requires { ⌜ (judge 10 (now bundle) ≡ Accepted) × InverseFor (now bundle) s p (now inverse) × (length (now keys) ≡ 176) × (1 ≤ roundOf s) × (roundOf s ≤ 9) × (p < 16) × (length (now dst) ≡ 256 * widthOf s) ⌝ }
     ensures { λ _. ⌜ now (dst .exit) ≡ spreadTable (codingsOf 10 (now (bundle .entry)) .encoding) (layerOf (forward 10 (now (keys .entry))) (codingsOf 10 (now (bundle .entry))) 10 s) (numbersOf 10 s) p ⌝ }
 {
     let m = stage::width_of(s);
@@ -107,7 +95,7 @@ fn spread_table(
     let mut basis = [0u64; 16];
     let mut images = [0u8; 512];
     values_of(bundle, keys, s, p, &mut values);
-    basis_of(bundle, columns, input, s, p, &mut basis);
+    basis_of(bundle, inverse, s, p, &mut basis);
     let d = 2 * m;
     let first = numbers::first_number(s) + p * d;
     lists::all_images(bundle, first, d, &mut images);
@@ -136,21 +124,13 @@ fn xor_table(bundle: &[u8], m: usize, first: usize, x: usize, dst: &mut [u8])
     xors::write(bundle, sum, first + (word + added + 1) * d + h, result, dst);
 }
 
-// Table j of a stage or half.
-pub fn write(
-    bundle: &[u8],
-    keys: &[u8],
-    columns: &[u64],
-    input: &[u64],
-    s: Stage,
-    j: usize,
-    dst: &mut [u8],
-)
-    requires { ⌜ Ready (now bundle) (now columns) (now input) × (length (now keys) ≡ 176) × (1 ≤ roundOf s) × (roundOf s ≤ 9) × (j < layerLookups (widthOf s)) × (length (now dst) ≡ sizeOf (widthOf s) j) ⌝ }
+// Table j of a stage or half; only a spread table has a use for the inverse.
+pub fn write(bundle: &[u8], keys: &[u8], inverse: &[u64], s: Stage, j: usize, dst: &mut [u8])
+    requires { ⌜ (judge 10 (now bundle) ≡ Accepted) × (j < 16 → InverseFor (now bundle) s j (now inverse)) × (length (now keys) ≡ 176) × (1 ≤ roundOf s) × (roundOf s ≤ 9) × (j < layerLookups (widthOf s)) × (length (now dst) ≡ sizeOf (widthOf s) j) ⌝ }
     ensures { λ _. ⌜ now (dst .exit) ≡ tableIn (codingsOf 10 (now (bundle .entry)) .encoding) (layerOf (forward 10 (now (keys .entry))) (codingsOf 10 (now (bundle .entry))) 10 s) (numbersOf 10 s) j ⌝ }
 {
     if j < 16 {
-        spread_table(bundle, keys, columns, input, s, j, dst);
+        spread_table(bundle, keys, inverse, s, j, dst);
     } else {
         xor_table(
             bundle,

@@ -1,16 +1,13 @@
 -- `layers::inverses::of_columns` meets its contract. Assumes nothing.
-use mathlib.Core.List.{List}
-use mathlib.Core.Path.{_≡_, refl, sym, ap, _∙_, subst}
+use mathlib.Core.Path.{_≡_, sym, ap, _∙_}
 use Prim.Native.Nat.{ℕ, _+_, _-_, _*_, _≤_, _<_}
 use native.Mathlib.Decide.{decLt}
 use borrow.Rule.Slice.PartMut.{putMid}
 use lib.ListN.{length, take, drop, length-take, length-drop}
 use Rattle.bits.specs.Elimination.{inverseOf}
-use Rattle.bits.specs.Matrices.{matrixOf, Invertible}
 use Rattle.bits.specs.Words.{rowsOf}
-use Rattle.bundle.specs.Format.{columnMatrix, columnMatrices}
-use Rattle.bundle.proofs.laws.Judgements.{accepted-sound}
-use Rattle.layers.proofs.laws.Code.{frame-of, column-part-long, put-here, put-before}
+use Rattle.bundle.specs.Format.{columnMatrix}
+use Rattle.layers.proofs.laws.Code.{put-here, put-before}
 use native.Mathlib.Omega.{arith}
 use Rattle.layers.proofs.inverses.of_columns.Statement.{statement}
 use Rattle.layers.proofs.inverses.of_columns.Tie as tie
@@ -22,7 +19,7 @@ abbrev μ-loop : tie.MeasureT-loop
 μ-loop bundle dst₀ n₀ dst n = 36 - n
 
 loop-holds : tie.Need-loop-holds Inv-loop μ-loop
-loop-holds c = (omega arith, c .before .before .pre .1, λ k h. absurd (omega arith))
+loop-holds c = (omega arith, (c .before .before .pre) .1, λ k h. absurd (omega arith))
 
 mul-a : tie.Need-mul-a Inv-loop μ-loop
 mul-a c = omega arith
@@ -30,32 +27,20 @@ mul-a c = omega arith
 add-e : tie.Need-add-e Inv-loop μ-loop
 add-e c = omega arith
 
-column-matrix-part-requires : tie.Need-column-matrix-part-requires Inv-loop μ-loop
-column-matrix-part-requires c κs = omega arith
+mul-of-column : tie.Need-mul-of-column Inv-loop μ-loop
+mul-of-column c = omega arith
 
-mul-inverse : tie.Need-mul-inverse Inv-loop μ-loop
-mul-inverse c = omega arith
+sub-of-column : tie.Need-sub-of-column Inv-loop μ-loop
+sub-of-column c = omega arith
 
-sub-inverse : tie.Need-sub-inverse Inv-loop μ-loop
-sub-inverse c = omega arith
+part-of-column-start : tie.Need-part-of-column-start Inv-loop μ-loop
+part-of-column-start c = omega arith
 
-part-inverse-start : tie.Need-part-inverse-start Inv-loop μ-loop
-part-inverse-start c = omega arith
+part-of-column-end : tie.Need-part-of-column-end Inv-loop μ-loop
+part-of-column-end c = omega arith
 
-part-inverse-end : tie.Need-part-inverse-end Inv-loop μ-loop
-part-inverse-end c = omega arith
-
-inverse-requires : tie.Need-inverse-requires Inv-loop μ-loop
-unfolding columnMatrices
-inverse-requires c κs =
-    let A = c .before .before .before .before .before .before .args in
-    let L = c .before .before .before .loop in
-    let l = A .bundle .now in
-    let q = c .before .column-matrix-part .ensures in
-    let S = accepted-sound 10 l (λ i. c .before .before .before .before .before .shared-slice-known .given i .fits) (c .before .before .before .before .before .before .pre .0) in
-    let long = column-part-long l _ (frame-of l (c .before .before .before .before .before .before .pre .0)) (L .n) (omega arith) q in
-    let part : length (take (L .n * 64 + 64 - L .n * 64) (drop (L .n * 64) (L .dst))) ≡ 64 = simp (length-take, length-drop) (omega arith) in
-    (omega arith, omega arith, omega arith, subst (λ (t : List ℕ). Invertible 32 (matrixOf 4 t)) (sym q) (S .columns (L .n) (omega arith)))
+of-column-requires : tie.Need-of-column-requires Inv-loop μ-loop
+of-column-requires c κs = ((c .before .before .before .before .before .pre) .0, omega arith, simp (length-take, length-drop) (omega arith))
 
 add-n : tie.Need-add-n Inv-loop μ-loop
 add-n c = omega arith
@@ -65,14 +50,12 @@ loop-less c = omega arith
 
 loop-again : tie.Need-loop-again Inv-loop μ-loop
 loop-again c =
-    let A = c .before .before .before .before .before .before .before .before .before .args in
-    let L = c .before .before .before .before .before .before .loop in
+    let L = c .before .before .before .before .before .loop in
     let n = L .n in
-    let l = A .bundle .now in
-    let ys = c .before .before .inverse .last .1 .0 in
+    let l = c .before .before .before .before .before .before .before .before .args .bundle .now in
+    let ys = c .before .before .of-column .last .1 .1 .0 in
     let part : length (take (n * 64 + 64 - n * 64) (drop (n * 64) (L .dst))) ≡ 64 = simp (length-take, length-drop) (omega arith) in
-    let long : length ys ≡ 64 = c .before .before .inverse .kept .1 .0 ∙ part in
-    let is : rowsOf 32 ys ≡ inverseOf 32 (columnMatrix 10 l n) = c .before .before .inverse .ensures ∙ ap (λ (t : List ℕ). inverseOf 32 (matrixOf 4 t)) (c .before .before .before .before .column-matrix-part .ensures) in
+    let long : length ys ≡ 64 = c .before .before .of-column .kept .1 .1 .0 ∙ part in
     let old = L .inv .2 in (
       omega arith,
       c .before .dst .given .1 ∙ L .inv .1,
@@ -82,7 +65,7 @@ loop-again c =
             let e : k ≡ n = omega arith in
             ap (λ (i : ℕ). rowsOf 32 (take 64 (drop (i * 64) (putMid (n * 64) (n * 64 + 64 - n * 64) (L .dst) ys)))) e
             ∙ ap (rowsOf 32) (put-here (n * 64) (L .dst) ys (omega arith) (n * 64 + 64 - n * 64) 64 long)
-            ∙ is
+            ∙ c .before .before .of-column .ensures
             ∙ ap (λ (i : ℕ). inverseOf 32 (columnMatrix 10 l i)) (sym e)
       ],
     )
@@ -105,12 +88,11 @@ of-columns-spec =
     loop-holds
     mul-a
     add-e
-    column-matrix-part-requires
-    mul-inverse
-    sub-inverse
-    part-inverse-start
-    part-inverse-end
-    inverse-requires
+    mul-of-column
+    sub-of-column
+    part-of-column-start
+    part-of-column-end
+    of-column-requires
     add-n
     loop-less
     loop-again

@@ -1,7 +1,7 @@
 -- `tables::table::spread_table` meets its contract. Assumes nothing.
 use mathlib.Core.List.{List}
-use mathlib.Core.Path.{_≡_, refl, sym, ap, ap₂, _∙_, subst}
-use Prim.Native.Nat.{ℕ, _+_, _-_, _*_, _^_, _<_, _≤_}
+use mathlib.Core.Path.{sym, ap, ap₂, _∙_}
+use Prim.Native.Nat.{ℕ, _+_, _-_, _*_}
 use lib.ListN.{length, take}
 use Rattle.bits.specs.Lists.{at, concat}
 use Rattle.bits.specs.Words.{rowAt}
@@ -39,17 +39,17 @@ first-number-requires : tie.Need-first-number-requires
 first-number-requires c κs = search needs
 
 mul-first : tie.Need-mul-first
-mul-first c = omega (arith, product-le (c .before .before .before .before .before .before .before .before .before .before .before .before .before .args .p) (2 * c .before .before .before .before .before .before .before .width-of .result) 16 32 (omega arith) (omega arith))
+mul-first c = omega (arith, product-le (c .before .before .before .before .before .before .before .before .before .before .before .before .args .p) (2 * c .before .before .before .before .before .before .before .width-of .result) 16 32 (omega arith) (omega arith))
 
 add-first : tie.Need-add-first
-add-first c = omega (arith, product-le (c .before .before .before .before .before .before .before .before .before .before .before .before .before .args .p) (2 * c .before .before .before .before .before .before .before .width-of .result) 16 32 (omega arith) (omega arith))
+add-first c = omega (arith, product-le (c .before .before .before .before .before .before .before .before .before .before .before .before .args .p) (2 * c .before .before .before .before .before .before .before .width-of .result) 16 32 (omega arith) (omega arith))
 
 slice-aggregate-all-images : tie.Need-slice-aggregate-all-images
 slice-aggregate-all-images c = search needs
 
 all-images-requires : tie.Need-all-images-requires
 all-images-requires c κs =
-    let b = product-le (c .before .before .before .before .before .before .before .before .before .before .before .before .before .before .args .p) (2 * c .before .before .before .before .before .before .before .before .width-of .result) 15 32 (omega arith) (omega arith) in
+    let b = product-le (c .before .before .before .before .before .before .before .before .before .before .before .before .before .args .p) (2 * c .before .before .before .before .before .before .before .before .width-of .result) 15 32 (omega arith) (omega arith) in
     (omega arith, omega arith, omega arith)
 
 slice-aggregate-write : tie.Need-slice-aggregate-write
@@ -63,16 +63,15 @@ slice-aggregate-write-3 c = search needs
 
 write-requires : tie.Need-write-requires
 write-requires c κs =
-    let p = c .before .before .before .before .before .before .before .before .before .before .before .before .before .before .before .before .before .before .before .before .pre in
     let m = c .before .before .before .before .before .before .before .before .before .before .before .before .before .before .width-of .result in
     let images = c .before .before .before .before .before .all-images .last .1 .1 .1 .0 in
-    let below = images-lt (c .before .before .before .before .before .before .before .before .before .before .before .before .before .before .before .before .before .before .before .before .args .bundle .now) images (λ i. c .before .before .before .before .before .before .before .before .before .before .before .before .before .before .before .before .before .before .before .shared-slice-known .given i .fits) _ (2 * m) (c .before .before .before .before .before .all-images .ensures) in (
+    let below = images-lt (c .before .before .before .before .before .before .before .before .before .before .before .before .before .before .before .before .before .before .before .args .bundle .now) images (λ i. c .before .before .before .before .before .before .before .before .before .before .before .before .before .before .before .before .before .before .shared-slice-known .given i .fits) _ (2 * m) (c .before .before .before .before .before .all-images .ensures) in (
       ap length (c .before .before .before .before .before .before .before .before .before .before .before .before .values-of .ensures) ∙ length-tabulate 256 _,
-      omega (arith, c .before .before .before .before .before .before .before .before .before .basis-of .kept .1 .1 .1 .1 .1 .0),
+      omega (arith, c .before .before .before .before .before .before .before .before .before .basis-of .kept .1 .1 .1 .1 .0),
       omega arith,
       omega (arith, c .before .before .before .before .before .all-images .kept .1 .1 .1 .0),
       λ i h. below i (omega arith),
-      p .5 ∙ ap (λ (z : ℕ). 256 * z) (sym (c .before .before .before .before .before .before .before .before .before .before .before .before .before .before .width-of .ensures .0)),
+      (c .before .before .before .before .before .before .before .before .before .before .before .before .before .before .before .before .before .before .before .pre) .6 ∙ ap (λ (z : ℕ). 256 * z) (sym (c .before .before .before .before .before .before .before .before .before .before .before .before .before .before .width-of .ensures .0)),
     )
 
 same-length : tie.Need-same-length
@@ -80,18 +79,18 @@ same-length c = search needs
 
 returns : tie.Need-returns
 returns c =
-    let A = c .before .before .before .before .before .before .before .before .before .before .before .before .before .before .before .before .before .before .before .before .before .before .before .args in
-    let p = c .before .before .before .before .before .before .before .before .before .before .before .before .before .before .before .before .before .before .before .before .before .before .before .pre in
+    let A = c .before .before .before .before .before .before .before .before .before .before .before .before .before .before .before .before .before .before .before .before .before .before .args in
+    let p = c .before .before .before .before .before .before .before .before .before .before .before .before .before .before .before .before .before .before .before .before .before .before .pre in
     let l = A .bundle .now in
     let w = A .keys .now in
     let values = c .before .before .before .before .before .before .before .before .before .before .before .before .before .before .before .values-of .last .1 .1 .1 .1 .0 in
-    let basis = c .before .before .before .before .before .before .before .before .before .before .before .before .basis-of .last .1 .1 .1 .1 .1 .0 in
+    let basis = c .before .before .before .before .before .before .before .before .before .before .before .before .basis-of .last .1 .1 .1 .1 .0 in
     let images = c .before .before .before .before .before .before .before .before .all-images .last .1 .1 .1 .0 in
     let W = c .before .before .before .before .before .before .before .before .before .before .before .before .before .before .before .before .before .width-of .ensures .0 in
     let D = c .before .before .write .ensures ∙ ap (λ (m : ℕ). concat 256 (λ x. encodedWord (at images) m (combined (rowAt basis) (at values x)))) W in
     let I = sym (ap (λ (m : ℕ). take (2 * m * 16) images) W) ∙ c .before .before .before .before .before .before .before .before .all-images .ensures
     ∙ ap₂ (λ (m f : ℕ). concat (2 * m) (λ h. encodingOf 10 l (f + A .p * (2 * m) + h))) W (c .before .before .before .before .before .before .before .before .before .before .first-number .ensures .0) in
-    spread-is l w (λ i. c .before .before .before .before .before .before .before .before .before .before .before .before .before .before .before .before .before .before .before .before .before .before .shared-slice-known .given i .fits) (λ i. c .before .before .before .before .before .before .before .before .before .before .before .before .before .before .before .before .before .before .before .before .before .shared-slice-known2 .given i .fits) (p .0 .judged) (A .s) (p .2) (p .3) (A .p) (p .4) values images _ (rowAt basis) D (c .before .before .before .before .before .before .before .before .before .before .before .before .before .before .before .values-of .ensures)
+    spread-is l w (λ i. c .before .before .before .before .before .before .before .before .before .before .before .before .before .before .before .before .before .before .before .before .before .shared-slice-known .given i .fits) (λ i. c .before .before .before .before .before .before .before .before .before .before .before .before .before .before .before .before .before .before .before .before .shared-slice-known2 .given i .fits) (p .0) (A .s) (p .3) (p .4) (A .p) (p .5) values images _ (rowAt basis) D (c .before .before .before .before .before .before .before .before .before .before .before .before .before .before .before .values-of .ensures)
     (λ k h. ap (λ (t : List ℕ). rowAt t k) (c .before .before .before .before .before .before .before .before .before .before .before .before .basis-of .ensures w) ∙ row-stored 8 _ _ (omega arith) k h) I
 
 pub spread-table-spec : {M : Type 1} → statement M

@@ -1,9 +1,7 @@
 -- `tables::table::write` meets its contract. Assumes nothing.
-use mathlib.Core.List.{List}
-use mathlib.Core.Path.{_≡_, refl, sym, ap, ap₂, _∙_, subst}
-use Prim.Native.Nat.{ℕ, _+_, _-_, _*_, _≤_, _<_}
+use mathlib.Core.Path.{sym, ap₂, _∙_, subst}
+use Prim.Native.Nat.{ℕ, _+_, _-_, _≤_, _<_}
 use borrow.Author.Tests.{lt-ltb, le-ltb}
-use lib.ListN.{length}
 use Rattle.network.specs.Numbers.{layerResults}
 use Rattle.network.specs.Order.{GoodWidth, xors}
 use Rattle.network.specs.Stages.{widthOf, numbersOf}
@@ -17,8 +15,9 @@ use Rattle.tables.proofs.table.write.Tie as tie
 
 spread-table-requires : tie.Need-spread-table-requires
 spread-table-requires c κs =
-    let p = c .before .before .before .before .before .before .before .pre in
-    (p .0, p .1, p .2, p .3, c .before .if1 .taken, rw (lt-ltb _ _ (c .before .if1 .taken)) at (p .5))
+    let p = c .before .before .before .before .before .before .pre in
+    let spread = c .before .if1 .taken in
+    (p .0, p .1 spread, p .2, p .3, p .4, spread, rw (lt-ltb _ _ spread) at (p .6))
 
 width-of-requires : tie.Need-width-of-requires
 width-of-requires c κs = search needs
@@ -28,13 +27,14 @@ first-number-requires c κs = search needs
 
 xor-table-requires : tie.Need-xor-table-requires
 xor-table-requires c κs =
-    let p = c .before .before .before .before .before .before .before .before .before .pre in
+    let A = c .before .before .before .before .before .before .before .before .args in
+    let p = c .before .before .before .before .before .before .before .before .pre in
     let W = c .before .before .width-of .ensures .0 in
     let F = c .before .first-number .ensures .0 in (
-      subst GoodWidth (sym W) (good-width (c .before .before .before .before .before .before .before .before .before .args .s) (p .2)),
-      subst (λ (m : ℕ). c .before .first-number .result + layerResults m ≤ 6048) (sym W) (subst (λ (f : ℕ). f + layerResults (widthOf (c .before .before .before .before .before .before .before .before .before .args .s)) ≤ 6048) (sym F) (results-fit (c .before .before .before .before .before .before .before .before .before .args .s) (p .2) (p .3))),
-      subst (λ (m : ℕ). c .before .before .before .before .before .before .before .before .before .args .j - 16 < xors m) (sym W) (xor-in (widthOf (c .before .before .before .before .before .before .before .before .before .args .s)) (c .before .before .before .before .before .before .before .before .before .args .j) (c .before .before .before .if1 .left) (p .4)),
-      rw (le-ltb _ _ (c .before .before .before .if1 .left)) at (p .5),
+      subst GoodWidth (sym W) (good-width (A .s) (p .3)),
+      subst (λ (m : ℕ). c .before .first-number .result + layerResults m ≤ 6048) (sym W) (subst (λ (f : ℕ). f + layerResults (widthOf (A .s)) ≤ 6048) (sym F) (results-fit (A .s) (p .3) (p .4))),
+      subst (λ (m : ℕ). A .j - 16 < xors m) (sym W) (xor-in (widthOf (A .s)) (A .j) (c .before .before .before .if1 .left) (p .5)),
+      rw (le-ltb _ _ (c .before .before .before .if1 .left)) at (p .6),
     )
 
 same-length : tie.Need-same-length
@@ -49,7 +49,9 @@ same-length-2 c = search needs
 
 returns-2 : tie.Need-returns-2
 unfolding tableIn numbersOf
-returns-2 c = rw (le-ltb _ _ (c .before .before .before .before .before .before .if1 .left)) (c .before .before .xor-table .ensures ∙ ap₂ (λ (m f : ℕ). xorTable (codingsOf 10 (c .before .before .before .before .before .before .before .before .before .before .before .before .args .bundle .now) .encoding) m f (c .before .before .before .before .before .before .before .before .before .before .before .before .args .j - 16)) (c .before .before .before .before .before .width-of .ensures .0) (c .before .before .before .before .first-number .ensures .0))
+returns-2 c =
+    let A = c .before .before .before .before .before .before .before .before .before .before .before .args in
+    rw (le-ltb _ _ (c .before .before .before .before .before .before .if1 .left)) (c .before .before .xor-table .ensures ∙ ap₂ (λ (m f : ℕ). xorTable (codingsOf 10 (A .bundle .now) .encoding) m f (A .j - 16)) (c .before .before .before .before .before .width-of .ensures .0) (c .before .before .before .before .first-number .ensures .0))
 
 pub write-spec : {M : Type 1} → statement M
 write-spec =
