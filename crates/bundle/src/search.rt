@@ -1,6 +1,7 @@
 // Searches in one section: the first encoding that is no permutation, the first matrix that has no inverse.
+ghost use mathlib.Core.Bool.{true, cond};
 ghost use mathlib.Core.Path.{_≡_};
-ghost use Prim.Native.Nat.{_*_, _<_, _≤_};
+ghost use Prim.Native.Nat.{_*_, _/_, _%_, _<_, _≤_};
 ghost use lib.Bits.{bitXor};
 ghost use lib.Dec.{eqb};
 ghost use lib.ListN.{length};
@@ -9,7 +10,6 @@ ghost use Rattle.bundle.specs.Format.{partOf};
 ghost use Rattle.bundle.specs.Judge.{noPermutation, noInverse};
 ghost use Rattle.bundle.specs.Search.{first};
 use crate::answer::Found;
-use crate::encoding::nibble;
 use bits::matrix;
 
 // Image x is marked in `seen`, whose bit x says so.
@@ -29,9 +29,19 @@ fn turned(seen: u64, x: u8) -> u64
     seen ^ (one << (15 - x))
 }
 
-// The first of the encodings that a section holds that repeats an image.
+// One of the two images of a byte is marked, or both are the same.
+fn repeated(seen: u64, b: u8) -> bool
+    ensures { λ r. ⌜ r ≡ cond (eqb (bit 16 (b / 16) seen) 1) true (eqb (bit 16 (b % 16) (bitXor seen (unit 16 (b / 16)))) 1) ⌝ }
+{
+    if marked(seen, b / 16) {
+        return true;
+    }
+    marked(turned(seen, b / 16), b % 16)
+}
+
+// The first of the encodings that a section holds that repeats an image; a byte has two.
 pub fn first_bad_encoding(lists: &[u8], count: usize) -> Found
-    requires { ⌜ count ≤ 6048 ⌝ }
+    requires { ⌜ (count ≤ 6048) × (count * 8 ≤ length (now lists)) ⌝ }
     ensures { λ r. ⌜ r ≡ first count (λ n. noPermutation (partOf 8 (now (lists .entry)) n)) ⌝ }
 {
     let mut n: usize = 0;
@@ -41,12 +51,12 @@ pub fn first_bad_encoding(lists: &[u8], count: usize) -> Found
         }
         let mut seen: u64 = 0;
         let mut i: usize = 0;
-        'images: while i < 16 {
-            let x = nibble(lists, n * 16 + i);
-            if marked(seen, x) {
+        'images: while i < 8 {
+            let b = lists[n * 8 + i];
+            if repeated(seen, b) {
                 break 'lists Found::At(n);
             }
-            seen = turned(seen, x);
+            seen = turned(turned(seen, b / 16), b % 16);
             i += 1;
         }
         n += 1;

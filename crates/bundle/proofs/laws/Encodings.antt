@@ -1,7 +1,7 @@
 -- Laws, not definitions: the test for a repeated image, one turn of its loop, and that it is exact; nibbles and images as the code
 -- reads them.
 -- Assumes nothing.
-use mathlib.Core.Bool.{Bool, true, false, _||_, or-false, or-assoc}
+use mathlib.Core.Bool.{Bool, true, false, cond, _||_, or-false, or-assoc}
 use mathlib.Core.List.{List}
 use mathlib.Core.Path.{_≡_, refl, sym, ap, ap₂, _∙_, subst}
 use Prim.Native.Nat.{ℕ, zero, suc, _+_, _-_, _*_, _/_, _%_, _≤_, _<_}
@@ -20,7 +20,7 @@ use Rattle.bits.specs.Lists.{at}
 use Rattle.bits.specs.Nibbles.{half, nibble}
 use Rattle.bits.specs.Vectors.{bit, unit}
 use Rattle.bits.proofs.laws.Lists.{length-tabulate, at-tabulate, at-past}
-use Rattle.bits.proofs.laws.Nibbles.{nibble-lt}
+use Rattle.bits.proofs.laws.Nibbles.{nibble-lt, nibble-even, nibble-odd}
 use Rattle.bits.proofs.laws.Vectors.{bit-lt, bit-xor, bit-zero, bit-unit-same, bit-unit-other}
 use Rattle.bundle.specs.Format.{partOf}
 use Rattle.bundle.specs.Judge.{among, repeats, noPermutation}
@@ -177,6 +177,51 @@ pub in-section : (s : List ℕ) (n : ℕ) → badIn s n ≡ repeats (16 - 0) 0 (
 unfolding noPermutation
 in-section s n =
     repeats-same 16 0 (at (imagesOf (partOf 8 s n))) (imageIn s n) (λ i h. image-at (partOf 8 s n) i (omega arith) ∙ nibble-part s n i (omega arith))
+
+unlike : false ≡ true → ⊥
+unlike r = let y : _≡_ {A = ℕ} 0 1 = ap (λ (b : Bool). cond b 1 0) r in absurd (omega arith)
+
+-- ---- one turn of the loop over a list's bytes: its images i and i + 1
+module _ (m s : ℕ) (f : ℕ → ℕ) (i b : ℕ) (e : b / 16 ≡ f i) (e′ : b % 16 ≡ f (i + 1)) (small : b < 256) (h : i + 1 < m) (S : Seen s f i) where
+  abbrev once : ℕ
+  once = bitXor s (unit 16 (b / 16))
+
+  told : (p : Bool) → eqb (bit 16 (b / 16) s) 1 ≡ p → among i 0 f (f i) ≡ p
+  told p t = seen-told s f i (b / 16) e (omega arith) S (eqb (bit 16 (b / 16) s) 1) refl ∙ t
+
+  first-new : eqb (bit 16 (b / 16) s) 1 ≡ false → Seen once f (i + 1)
+  first-new t = seen-turned s f i (b / 16) e (omega arith) S (told false t) once refl
+
+  told-next : eqb (bit 16 (b / 16) s) 1 ≡ false → (q : Bool) → eqb (bit 16 (b % 16) once) 1 ≡ q → among (i + 1) 0 f (f (i + 1)) ≡ q
+  told-next t q u = seen-told once f (i + 1) (b % 16) e′ (omega arith) (first-new t) (eqb (bit 16 (b % 16) once) 1) refl ∙ u
+
+  pair-yes : (p q : Bool) → eqb (bit 16 (b / 16) s) 1 ≡ p → eqb (bit 16 (b % 16) once) 1 ≡ q → cond p true q ≡ true → repeats (m - i) i f ≡ true
+  pair-yes true q t u r = repeats-yes m i f (omega arith) (told true t)
+  pair-yes false true t u r = repeats-no m i f (omega arith) (told false t) ∙ repeats-yes m (i + 1) f h (told-next t true u)
+  pair-yes false false t u r = absurd (unlike r)
+
+  pair-no : (p q : Bool) → eqb (bit 16 (b / 16) s) 1 ≡ p → eqb (bit 16 (b % 16) once) 1 ≡ q → cond p true q ≡ false
+      → (repeats (m - i) i f ≡ repeats (m - (i + 1 + 1)) (i + 1 + 1) f) × Seen (bitXor once (unit 16 (b % 16))) f (i + 1 + 1)
+  pair-no true q t u r = absurd (unlike (sym r))
+  pair-no false true t u r = absurd (unlike (sym r))
+  pair-no false false t u r = (
+    repeats-no m i f (omega arith) (told false t) ∙ repeats-no m (i + 1) f h (told-next t false u),
+    seen-turned once f (i + 1) (b % 16) e′ (omega arith) (first-new t) (told-next t false u) _ refl,
+  )
+
+  pub byte-repeats : cond (eqb (bit 16 (b / 16) s) 1) true (eqb (bit 16 (b % 16) once) 1) ≡ true → repeats (m - i) i f ≡ true
+  byte-repeats = pair-yes _ _ refl refl
+
+  pub byte-new : cond (eqb (bit 16 (b / 16) s) 1) true (eqb (bit 16 (b % 16) once) 1) ≡ false
+      → (repeats (m - i) i f ≡ repeats (m - (i + 1 + 1)) (i + 1 + 1) f) × Seen (bitXor once (unit 16 (b % 16))) f (i + 1 + 1)
+  byte-new = pair-no _ _ refl refl
+
+-- Byte i of list n has its images 2 i and 2 i + 1.
+pub byte-images : (s : List ℕ) (n i : ℕ) → (at s (n * 8 + i) / 16 ≡ imageIn s n (2 * i)) × (at s (n * 8 + i) % 16 ≡ imageIn s n (2 * i + 1))
+byte-images s n i =
+    let a : 2 * (n * 8 + i) ≡ n * 16 + 2 * i = omega arith in
+    let o : 2 * (n * 8 + i) + 1 ≡ n * 16 + (2 * i + 1) = omega arith in
+    (sym (nibble-even s (n * 8 + i)) ∙ ap (nibble s) a, sym (nibble-odd s (n * 8 + i)) ∙ ap (nibble s) o)
 
 -- ---- the test is exact
 pub good-permutation : (p : List ℕ) → Bytes p → noPermutation p ≡ false → Permutation (imagesOf p)

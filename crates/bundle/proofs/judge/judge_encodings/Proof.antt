@@ -1,8 +1,9 @@
 -- `bundle::judge::judge_encodings` meets its contract. Assumes nothing.
-use mathlib.Core.Path.{sym, _∙_}
-use Rattle.bundle.specs.Format.{partCount}
+use mathlib.Core.Path.{refl, sym, _∙_}
+use native.Mathlib.Omega.{arith}
+use Rattle.bundle.specs.Format.{partCount, partSize}
 use Rattle.bundle.specs.declared.answer.Found.the-variants.{At, Nothing}
-use Rattle.bundle.proofs.laws.Code.{encodings-judged}
+use Rattle.bundle.proofs.laws.Code.{encodings-judged, section-room}
 use borrow.Author.Needs.{needs}
 use Rattle.bundle.proofs.judge.judge_encodings.Statement.{statement}
 use Rattle.bundle.proofs.judge.judge_encodings.Tie as tie
@@ -14,7 +15,8 @@ part-count-requires : tie.Need-part-count-requires
 part-count-requires c κs = search needs
 
 first-bad-encoding-requires : tie.Need-first-bad-encoding-requires
-first-bad-encoding-requires c κs = search needs
+unfolding partSize
+first-bad-encoding-requires c κs = (c .part-count .ensures .1, section-room 10 _ _ 0 8 _ (c .before .before .before .pre) (omega arith) (c .before .section .ensures) refl (c .part-count .ensures .0))
 
 enum-known-n : tie.Need-enum-known-n
 enum-known-n c = search needs

@@ -1,19 +1,24 @@
 -- `bundle::search::first_bad_encoding` meets its contract. Assumes nothing.
-use mathlib.Core.Path.{_≡_, sym, _∙_}
-use Prim.Native.Nat.{_-_, _≤_}
+use mathlib.Core.Path.{_≡_, sym, ap, ap₂, _∙_, subst}
+use Prim.Native.Nat.{ℕ, _+_, _-_, _*_, _/_, _%_, _≤_}
+use lib.Bits.{bitXor}
+use Rattle.bits.specs.Lists.{at}
+use Rattle.bits.specs.Vectors.{unit}
 use Rattle.bundle.specs.Judge.{repeats}
 use Rattle.bundle.specs.Search.{first, firstFrom}
-use Rattle.bundle.proofs.laws.Encodings.{imageIn, badIn, in-section, Seen, seen-none, seen-told, seen-turned, repeats-no, repeats-yes, repeats-end}
+use Rattle.bundle.proofs.laws.Encodings.{imageIn, badIn, in-section, Seen, seen-none, byte-images, byte-repeats, byte-new, repeats-end}
 use Rattle.bundle.proofs.laws.Search.{first-no, first-yes, first-end, first-start}
 use native.Mathlib.Omega.{arith}
 use Rattle.bundle.proofs.search.first_bad_encoding.Statement.{statement}
 use Rattle.bundle.proofs.search.first_bad_encoding.Tie as tie
+use Rattle.bundle.proofs.search.repeated.Reads as repeated-reads
+use Rattle.bundle.proofs.search.turned.Reads as turned-reads
 
 abbrev Inv-images : tie.InvT-images
-Inv-images lists count n seen₀ i₀ seen i = (i ≤ 16) × (badIn lists n ≡ repeats (16 - i) i (imageIn lists n)) × Seen seen (imageIn lists n) i
+Inv-images lists count n seen₀ i₀ seen i = (i ≤ 8) × (badIn lists n ≡ repeats (16 - 2 * i) (2 * i) (imageIn lists n)) × Seen seen (imageIn lists n) (2 * i)
 
 abbrev μ-images : tie.MeasureT-images
-μ-images lists count n seen₀ i₀ seen i = 16 - i
+μ-images lists count n seen₀ i₀ seen i = 8 - i
 
 abbrev Inv-lists : tie.InvT-lists
 Inv-lists lists count n₀ n = (n ≤ count) × (first count (badIn lists) ≡ firstFrom (count - n) n (badIn lists))
@@ -27,20 +32,25 @@ lists-holds c = (omega arith, first-start _ _)
 images-holds : tie.Need-images-holds Inv-images μ-images Inv-lists μ-lists
 images-holds c = (omega arith, in-section (c .before .before .before .args .lists .now) (c .before .lists .n), seen-none (imageIn (c .before .before .before .args .lists .now) (c .before .lists .n)))
 
-mul-nibble : tie.Need-mul-nibble Inv-images μ-images Inv-lists μ-lists
-mul-nibble c = omega arith
+mul-b : tie.Need-mul-b Inv-images μ-images Inv-lists μ-lists
+mul-b c = omega arith
 
-add-nibble : tie.Need-add-nibble Inv-images μ-images Inv-lists μ-lists
-add-nibble c = omega arith
+add-b : tie.Need-add-b Inv-images μ-images Inv-lists μ-lists
+add-b c = omega arith
 
-nibble-requires : tie.Need-nibble-requires Inv-images μ-images Inv-lists μ-lists
-nibble-requires c κs = omega arith
+shared-slice-read-b : tie.Need-shared-slice-read-b Inv-images μ-images Inv-lists μ-lists
+shared-slice-read-b c = omega arith
 
-marked-requires : tie.Need-marked-requires Inv-images μ-images Inv-lists μ-lists
-marked-requires c κs = c .nibble .ensures .1
+repeated-requires : tie.Need-repeated-requires Inv-images μ-images Inv-lists μ-lists
+repeated-requires c κs = omega arith
 
 turned-requires : tie.Need-turned-requires Inv-images μ-images Inv-lists μ-lists
-turned-requires c κs = c .before .before .nibble .ensures .1
+turned-requires c κs =
+    let small = c .before .before .before .before .before .before .before .shared-slice-known .given (c .before .before .before .before .before .before .lists .n * 8 + c .before .before .before .before .images .i) .fits in
+    omega arith
+
+turned-requires-2 : tie.Need-turned-requires-2 Inv-images μ-images Inv-lists μ-lists
+turned-requires-2 c κs = omega arith
 
 add-i : tie.Need-add-i Inv-images μ-images Inv-lists μ-lists
 add-i c = omega arith
@@ -50,13 +60,17 @@ images-less c = omega arith
 
 images-again : tie.Need-images-again Inv-images μ-images Inv-lists μ-lists
 images-again c =
-    let f = imageIn (c .before .before .before .before .before .before .before .before .before .args .lists .now) (c .before .before .before .before .before .before .before .lists .n) in
-    let L = c .before .before .before .before .before .images in
-    let x = c .before .before .before .nibble in
-    let new = seen-told (L .seen) f (L .i) (x .result) (x .ensures .0) (x .ensures .1) (L .inv .2) _ (c .before .before .marked .ensures) ∙ c .before .if2 .left in (
+    let l = c .before .before .before .before .before .before .before .before .before .before .args .lists .now in
+    let n = c .before .before .before .before .before .before .before .before .lists .n in
+    let f = imageIn l n in
+    let L = c .before .before .before .before .before .before .images in
+    let b = at l (n * 8 + L .i) in
+    let B = byte-images l n (L .i) in
+    let new = byte-new 16 (L .seen) f (2 * L .i) b (B .0) (B .1) (c .before .before .before .before .before .before .before .before .before .shared-slice-known .given (n * 8 + L .i) .fits) (omega arith) (L .inv .2) (sym (c .before .before .before .repeated .ensures) ∙ c .before .before .if2 .left) in
+    let two : 2 * L .i + 1 + 1 ≡ 2 * (L .i + 1) = omega arith in (
       omega arith,
-      L .inv .1 ∙ repeats-no 16 (L .i) f (c .before .before .before .before .images-test .taken) new,
-      seen-turned (L .seen) f (L .i) (x .result) (x .ensures .0) (x .ensures .1) (L .inv .2) new _ (c .turned .ensures),
+      L .inv .1 ∙ new .0 ∙ ap (λ (k : ℕ). repeats (16 - k) k f) two,
+      subst (λ (k : ℕ). Seen (c .turned2 .result) f k) two (subst (λ (z : ℕ). Seen z f (2 * L .i + 1 + 1)) (sym (c .turned2 .ensures ∙ ap (λ (z : ℕ). bitXor z (unit 16 (b % 16))) (c .before .turned .ensures))) (new .1)),
     )
 
 add-n : tie.Need-add-n Inv-images μ-images Inv-lists μ-lists
@@ -68,7 +82,7 @@ lists-less c = omega arith
 lists-again : tie.Need-lists-again Inv-images μ-images Inv-lists μ-lists
 lists-again c =
     let l = c .before .before .before .before .before .args .lists .now in
-    let b = c .before .images .inv .1 ∙ repeats-end 16 _ (imageIn l (c .before .before .before .lists .n)) (c .images-test .left) in
+    let b = c .before .images .inv .1 ∙ repeats-end 16 _ (imageIn l (c .before .before .before .lists .n)) (omega arith) in
     (omega arith, c .before .before .before .lists .inv .1 ∙ first-no _ _ (badIn l) (c .before .before .if1 .left) b)
 
 returns : tie.Need-returns Inv-images μ-images Inv-lists μ-lists
@@ -80,9 +94,9 @@ returns-2 c =
     let n = c .before .before .before .before .before .before .lists .n in
     let f = imageIn l n in
     let L = c .before .before .before .before .images in
-    let x = c .before .before .nibble in
-    let old = seen-told (L .seen) f (L .i) (x .result) (x .ensures .0) (x .ensures .1) (L .inv .2) _ (c .before .marked .ensures) ∙ c .if2 .taken in
-    sym (c .before .before .before .before .before .before .lists .inv .1 ∙ first-yes _ n (badIn l) (c .before .before .before .before .before .if1 .left) (L .inv .1 ∙ repeats-yes 16 (L .i) f (c .before .before .before .images-test .taken) old))
+    let B = byte-images l n (L .i) in
+    let old = byte-repeats 16 (L .seen) f (2 * L .i) (at l (n * 8 + L .i)) (B .0) (B .1) (c .before .before .before .before .before .before .before .shared-slice-known .given (n * 8 + L .i) .fits) (omega arith) (L .inv .2) (sym (c .before .repeated .ensures) ∙ c .if2 .taken) in
+    sym (c .before .before .before .before .before .before .lists .inv .1 ∙ first-yes _ n (badIn l) (c .before .before .before .before .before .if1 .left) (L .inv .1 ∙ old))
 
 pub first-bad-encoding-spec : {M : Type 1} → statement M
 first-bad-encoding-spec =
@@ -94,11 +108,12 @@ first-bad-encoding-spec =
     μ-lists
     lists-holds
     images-holds
-    mul-nibble
-    add-nibble
-    nibble-requires
-    marked-requires
+    mul-b
+    add-b
+    shared-slice-read-b
+    repeated-requires
     turned-requires
+    turned-requires-2
     add-i
     images-less
     images-again
