@@ -1,1 +1,2 @@
+pub mod Encodings
 pub mod Spread

@@ -1,13 +1,13 @@
-// Encodings (lists) of a bundle, one nibble to a byte.
+// Encodings (lists) of a bundle, one nibble to a byte. Those by number are of the bundle's section of encodings.
 ghost use mathlib.Core.Path.{_≡_};
 ghost use Prim.Native.Nat.{ℕ, _+_, _*_, _/_, _%_, _<_, _≤_};
 ghost use lib.ListN.{length, take};
 ghost use Rattle.bits.specs.Encodings.{imagesOf, decode, Permutation};
 ghost use Rattle.bits.specs.Lists.{at, tabulate, concat};
 ghost use Rattle.bits.specs.Nibbles.{pack};
-ghost use Rattle.bundle.specs.Format.{encodingOf};
+ghost use Rattle.entries.specs.Encodings.{encodingIn};
 use bundle::encoding;
-use bundle::parts;
+use bundle::sections;
 
 // A byte as an index.
 pub fn widened(x: u8) -> usize
@@ -55,15 +55,15 @@ pub fn places(p: &[u8], dst: &mut [u8])
 }
 
 // The images of the encodings n, n + 1, .., `count` of them, one after the other.
-pub fn all_images(bundle: &[u8], n: usize, count: usize, dst: &mut [u8])
-    requires { ⌜ (n ≤ 6048) × (count ≤ 32) × (16 * count ≤ length (now dst)) ⌝ }
-    ensures { λ _. ⌜ take (count * 16) (now (dst .exit)) ≡ concat count (λ h. encodingOf 10 (now (bundle .entry)) (n + h)) ⌝ }
+pub fn all_images(section: &[u8], n: usize, count: usize, dst: &mut [u8])
+    requires { ⌜ (length (now section) % 8 ≡ 0) × (n ≤ 6048) × (count ≤ 32) × (16 * count ≤ length (now dst)) ⌝ }
+    ensures { λ _. ⌜ take (count * 16) (now (dst .exit)) ≡ concat count (λ h. encodingIn (now (section .entry)) (n + h)) ⌝ }
 {
     let mut h: usize = 0;
     while h < count {
         let a = h * 16;
         let e = a + 16;
-        images(parts::encoding_part(bundle, n + h), &mut dst[a..e]);
+        images(sections::part(section, 8, n + h), &mut dst[a..e]);
         h += 1;
     }
 }
@@ -77,14 +77,14 @@ fn decoded(high: &[u8], low: &[u8], x: usize) -> u8
 }
 
 // Every byte with its nibbles decoded by the encodings numbered `high` and `low`.
-pub fn decoded_bytes(bundle: &[u8], high: usize, low: usize, dst: &mut [u8])
-    requires { ⌜ (length (now dst) ≡ 256) × Permutation (encodingOf 10 (now bundle) high) × Permutation (encodingOf 10 (now bundle) low) ⌝ }
-    ensures { λ _. ⌜ now (dst .exit) ≡ tabulate 256 (λ x. pack (decode (encodingOf 10 (now (bundle .entry)) high) (x / 16)) (decode (encodingOf 10 (now (bundle .entry)) low) (x % 16))) ⌝ }
+pub fn decoded_bytes(section: &[u8], high: usize, low: usize, dst: &mut [u8])
+    requires { ⌜ (length (now section) % 8 ≡ 0) × (length (now dst) ≡ 256) × Permutation (encodingIn (now section) high) × Permutation (encodingIn (now section) low) ⌝ }
+    ensures { λ _. ⌜ now (dst .exit) ≡ tabulate 256 (λ x. pack (decode (encodingIn (now (section .entry)) high) (x / 16)) (decode (encodingIn (now (section .entry)) low) (x % 16))) ⌝ }
 {
     let mut a = [0u8; 16];
     let mut b = [0u8; 16];
-    places(parts::encoding_part(bundle, high), &mut a);
-    places(parts::encoding_part(bundle, low), &mut b);
+    places(sections::part(section, 8, high), &mut a);
+    places(sections::part(section, 8, low), &mut b);
     let mut x: usize = 0;
     while x < 256 {
         dst[x] = decoded(&a, &b, x);

@@ -1,14 +1,14 @@
 // XOR tables: "index 16a+b, a the sum so far and b the next word's half-byte, both encoded".
 ghost use mathlib.Core.Path.{_≡_};
-ghost use Prim.Native.Nat.{ℕ, _+_, _*_, _/_, _%_, _<_, _≤_};
+ghost use Prim.Native.Nat.{ℕ, _+_, _*_, _/_, _%_, _<_};
 ghost use lib.Bits.{bitXor};
 ghost use lib.ListN.{length};
 ghost use Rattle.bits.specs.Encodings.{encode, decode};
 ghost use Rattle.bits.specs.Lists.{at};
 ghost use Rattle.bits.specs.Nibbles.{packed};
-ghost use Rattle.bundle.specs.Format.{encodingOf};
+ghost use Rattle.entries.specs.Encodings.{encodingIn};
 use crate::lists;
-use bundle::parts;
+use bundle::sections;
 
 // Element x; 0 behind the last.
 fn element(s: &[u8], x: u8) -> u8
@@ -48,15 +48,15 @@ fn write_entries(sum: &[u8], added: &[u8], result: &[u8], dst: &mut [u8])
 }
 
 // The XOR table for the encodings of the sum so far, of the nibble that is added, and of the result, by number.
-pub fn write(bundle: &[u8], sum: usize, added: usize, result: usize, dst: &mut [u8])
-    requires { ⌜ length (now dst) ≡ 128 ⌝ }
-    ensures { λ _. ⌜ now (dst .exit) ≡ packed 128 (λ e. encode (encodingOf 10 (now (bundle .entry)) result) (bitXor (decode (encodingOf 10 (now (bundle .entry)) sum) (e / 16)) (decode (encodingOf 10 (now (bundle .entry)) added) (e % 16)))) ⌝ }
+pub fn write(section: &[u8], sum: usize, added: usize, result: usize, dst: &mut [u8])
+    requires { ⌜ (length (now section) % 8 ≡ 0) × (length (now dst) ≡ 128) ⌝ }
+    ensures { λ _. ⌜ now (dst .exit) ≡ packed 128 (λ e. encode (encodingIn (now (section .entry)) result) (bitXor (decode (encodingIn (now (section .entry)) sum) (e / 16)) (decode (encodingIn (now (section .entry)) added) (e % 16)))) ⌝ }
 {
     let mut a = [0u8; 16];
     let mut b = [0u8; 16];
     let mut c = [0u8; 16];
-    lists::places(parts::encoding_part(bundle, sum), &mut a);
-    lists::places(parts::encoding_part(bundle, added), &mut b);
-    lists::images(parts::encoding_part(bundle, result), &mut c);
+    lists::places(sections::part(section, 8, sum), &mut a);
+    lists::places(sections::part(section, 8, added), &mut b);
+    lists::images(sections::part(section, 8, result), &mut c);
     write_entries(&a, &b, &c, dst);
 }

@@ -1,18 +1,18 @@
 // The words of a spread table before they are encoded: of the bytes 2^0 to 2^7, since a word is linear in its byte.
 ghost use mathlib.Core.Path.{_≡_};
-ghost use Prim.Native.Nat.{ℕ, _+_, _*_, _^_, _<_, _≤_};
+ghost use Prim.Native.Nat.{_+_, _*_, _^_, _<_, _≤_};
 ghost use lib.ListN.{length};
 ghost use Rattle.aes.specs.State.{mixRows, entry};
 ghost use Rattle.bits.specs.Bytes.{number, byte, placed};
 ghost use Rattle.bits.specs.Matrices.{product, matrixOf};
 ghost use Rattle.bits.specs.Words.{value, rowsOf, stored};
-ghost use Rattle.bundle.specs.Format.{byteMatrix, frame};
+ghost use Rattle.bundle.specs.Format.{byteMatrix, frame, partOf};
 ghost use Rattle.bundle.specs.declared.answer.Judgement.the-variants.{Accepted};
 ghost use Rattle.field.specs.Field.{mul};
 use bits::matrix;
 use bits::vector;
 use bits::vector::Vector;
-use bundle::parts;
+use bundle::sections;
 
 const MIX: [u8; 16] = [2, 3, 1, 1, 1, 2, 3, 1, 1, 1, 2, 3, 3, 1, 1, 2];
 
@@ -90,16 +90,16 @@ fn mixed(q: usize, y: u8) -> Vector
     vector::read(&b, 0, 4)
 }
 
-// Each of n bytes times its byte matrix, which are numbered from `first` on.
-fn by_bytes(bundle: &[u8], first: usize, n: usize, v: Vector) -> Vector
-    requires { ⌜ (frame 10 (now bundle) ≡ Accepted) × (first + n ≤ 160) × (n ≤ 16) ⌝ }
-    ensures { λ r. ⌜ value r ≡ number n (λ j. product 8 (byteMatrix 10 (now (bundle .entry)) (first + j)) (byte n j (value v))) ⌝ }
+// Each of n bytes times its byte matrix: those of the section that are numbered from `first` on.
+fn by_bytes(section: &[u8], first: usize, n: usize, v: Vector) -> Vector
+    requires { ⌜ (length (now section) ≡ 1280) × (first + n ≤ 160) × (n ≤ 16) ⌝ }
+    ensures { λ r. ⌜ value r ≡ number n (λ j. product 8 (matrixOf 1 (partOf 8 (now (section .entry)) (first + j))) (byte n j (value v))) ⌝ }
 {
     let mut b = [0u8; 16];
     let mut j: usize = 0;
     while j < n {
         b[j] = byte_by_part(
-            parts::byte_matrix_part(bundle, first + j),
+            sections::part(section, 8, first + j),
             vector::byte(v, n - 1 - j),
         );
         j += 1;
@@ -112,10 +112,11 @@ pub fn spread_basis(bundle: &[u8], m: &[u64], n: usize, i: usize, first: usize, 
     requires { ⌜ (frame 10 (now bundle) ≡ Accepted) × (n ≤ 16) × (i < n) × (first + n ≤ 160) × (16 * n ≤ length (now m)) × (length (now basis) ≡ 16) ⌝ }
     ensures { λ _. ⌜ now (basis .exit) ≡ stored 8 (λ k. number n (λ j. product 8 (byteMatrix 10 (now (bundle .entry)) (first + j)) (byte n j (product (8 * n) (rowsOf (8 * n) (now (m .entry))) (placed n i (2 ^ k)))))) (now (basis .entry)) ⌝ }
 {
+    let section = sections::section(bundle, 1);
     let mut k: usize = 0;
     while k < 8 {
         let v = matrix::multiply(m, 8 * n, placed(n, i, power(k)));
-        matrix::set_row(basis, k, by_bytes(bundle, first, n, v));
+        matrix::set_row(basis, k, by_bytes(section, first, n, v));
         k += 1;
     }
 }

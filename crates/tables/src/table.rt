@@ -19,6 +19,7 @@ ghost use Rattle.whitebox.specs.Bundles.{codingsOf};
 ghost use Rattle.whitebox.specs.Parts.{forward};
 ghost use Rattle.whitebox.specs.Tables.{layerOf};
 use bundle::parts;
+use bundle::sections;
 use entries::lists;
 use entries::spread;
 use entries::xors;
@@ -36,7 +37,7 @@ fn read_bytes(bundle: &[u8], s: Stage, p: usize, dst: &mut [u8])
     let j = stage::source_of(s, p);
     let high = numbers::standing_number(s, 2 * j);
     let low = numbers::standing_number(s, 2 * j + 1);
-    lists::decoded_bytes(bundle, high, low, dst);
+    lists::decoded_bytes(sections::section(bundle, 0), high, low, dst);
 }
 
 // For each of them, the byte that its word is linear in.
@@ -98,7 +99,7 @@ fn spread_table(bundle: &[u8], keys: &[u8], inverse: &[u64], s: Stage, p: usize,
     basis_of(bundle, inverse, s, p, &mut basis);
     let d = 2 * m;
     let first = numbers::first_number(s) + p * d;
-    lists::all_images(bundle, first, d, &mut images);
+    lists::all_images(sections::section(bundle, 0), first, d, &mut images);
     spread::write(&values, &basis, &images, m, dst);
 }
 
@@ -121,7 +122,14 @@ fn xor_table(bundle: &[u8], m: usize, first: usize, x: usize, dst: &mut [u8])
     let added = turn % (m - 1);
     let result = first + 16 * d + x;
     let sum = sum_so_far(added, first + word * d + h, result - d);
-    xors::write(bundle, sum, first + (word + added + 1) * d + h, result, dst);
+    let encodings = sections::section(bundle, 0);
+    xors::write(
+        encodings,
+        sum,
+        first + (word + added + 1) * d + h,
+        result,
+        dst,
+    );
 }
 
 // Table j of a stage or half; only a spread table has a use for the inverse.

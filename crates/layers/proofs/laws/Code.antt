@@ -1,9 +1,9 @@
 -- Laws, not definitions: inverses, words and numbers as the code meets them.
 -- Assumes nothing.
-use mathlib.Core.Bool.{Bool, true, cond}
+use mathlib.Core.Bool.{true, cond}
 use mathlib.Core.List.{List, _++_}
-use mathlib.Core.Path.{_≡_, refl, sym, ap, ap₂, _∙_, subst}
-use Prim.Native.Nat.{ℕ, zero, suc, _+_, _-_, _*_, _/_, _%_, _^_, _≤_, _<_}
+use mathlib.Core.Path.{_≡_, refl, sym, ap, ap₂, _∙_}
+use Prim.Native.Nat.{ℕ, suc, _+_, _-_, _*_, _/_, _%_, _^_, _≤_, _<_}
 use native.Mathlib.Decide.{decLt}
 use native.Mathlib.Nat.{one-mul, zero-add, mod-eq-of-lt}
 use native.Mathlib.Omega.{arith}
@@ -27,9 +27,10 @@ use Rattle.bits.proofs.laws.Inverses.{answered, exact}
 use Rattle.bits.proofs.laws.Lists.{at-tabulate, tabulate-at, at-past}
 use Rattle.bits.proofs.laws.Matrices.{product-lt, product-rows, product-xor}
 use Rattle.bits.proofs.laws.Words.{rows-stored}
-use Rattle.bundle.specs.Format.{byteMatrices, columnMatrices, partCount, partSize, frame, byteMatrixPart, columnMatrixPart, inputMatrixPart, outputMatrixPart, byteMatrix, columnMatrix}
+use Rattle.bundle.specs.Format.{byteMatrices, columnMatrices, partCount, partSize, sectionLength, frame, sectionOf, partOf, partAt, byteMatrixPart, columnMatrixPart, inputMatrixPart, outputMatrixPart, byteMatrix, columnMatrix}
 use Rattle.bundle.specs.Judge.{judge}
 use Rattle.bundle.specs.declared.answer.Judgement.the-variants.{Accepted}
+use Rattle.bundle.proofs.laws.Frame.{section-length}
 use Rattle.bundle.proofs.laws.Parts.{part-long, take-inside}
 use Rattle.bundle.proofs.laws.Tests.{first-accepted}
 use Rattle.entries.specs.Spread.{nibbleByte}
@@ -92,6 +93,16 @@ module _ (l p : List ℕ) (f : frame 10 l ≡ Accepted) where
   pub output-part-long : p ≡ outputMatrixPart 10 l → length p ≡ 2048
   unfolding partCount partSize
   output-part-long e = ap length e ∙ part-long 10 l 4 0 (omega arith) f (omega arith)
+
+-- The section of the byte matrices.
+module _ (l s : List ℕ) (e : s ≡ sectionOf 10 l 1) where
+  pub byte-section-long : frame 10 l ≡ Accepted → length s ≡ 1280
+  unfolding sectionLength partCount partSize byteMatrices
+  byte-section-long f = ap length e ∙ section-length 10 l f 1 (omega arith)
+
+  pub byte-matrices-in : _≡_ {A = ℕ → List ℕ} (λ n. matrixOf 1 (partOf 8 s n)) (byteMatrix 10 l)
+  unfolding partAt partSize
+  byte-matrices-in = ap {B = ℕ → List ℕ} (λ (t : List ℕ). λ (n : ℕ). matrixOf 1 (partOf 8 t n)) e
 
 pub byte-is : (l : List ℕ) (n : ℕ) → n < 160 → codingsOf 10 l .byteMatrix n ≡ byteMatrix 10 l n
 unfolding codingsOf byteMatrices

@@ -2,7 +2,7 @@
 -- Assumes nothing.
 use mathlib.Core.Bool.{cond}
 use mathlib.Core.List.{List}
-use mathlib.Core.Path.{_≡_, refl, sym, ap, ap₂, _∙_, subst}
+use mathlib.Core.Path.{_≡_, refl, sym, ap, ap₂, _∙_}
 use Prim.Native.Nat.{ℕ, zero, suc, _+_, _-_, _*_, _/_, _%_, _≤_, _<_}
 use native.Mathlib.Nat.{div-add-mod', suc-mul}
 use native.Mathlib.Omega.{arith}
@@ -53,21 +53,21 @@ module _ (m : ℕ) (good : GoodWidth m) (first x : ℕ) where
   unfolding encodingNumber
   added-is = let e : sumOf m x + addedOf m x + 1 ≡ sumOf m x + suc (addedOf m x) = omega arith in ap (λ (z : ℕ). first + z * (2 * m) + nibbleOf m x) e
 
-  -- The table from these numbers.
-  pub xor-is : (l : List ℕ) (sum added result : ℕ) → first + layerResults m ≤ 6048 → x < xors m
+  -- The table from these numbers and from the encodings by number.
+  pub xor-is : (l : List ℕ) (f : ℕ → List ℕ) → f ≡ encodingOf 10 l → (sum added result : ℕ) → first + layerResults m ≤ 6048 → x < xors m
       → sum ≡ encodingNumber m first (sumOf m x) (addedOf m x) (nibbleOf m x)
       → added ≡ encodingNumber m first (sumOf m x + suc (addedOf m x)) 0 (nibbleOf m x)
       → result ≡ encodingNumber m first (sumOf m x) (suc (addedOf m x)) (nibbleOf m x)
-      → packed 128 (λ e. encode (encodingOf 10 l result) (bitXor (decode (encodingOf 10 l sum) (e / 16)) (decode (encodingOf 10 l added) (e % 16)))) ≡ xorTable (codingsOf 10 l .encoding) m first x
+      → packed 128 (λ e. encode (f result) (bitXor (decode (f sum) (e / 16)) (decode (f added) (e % 16)))) ≡ xorTable (codingsOf 10 l .encoding) m first x
   unfolding xorTable xorEntry encodings
-  xor-is l sum added result room made a b c =
+  xor-is l f is sum added result room made a b c =
       let w = sumOf m x in
       let d = addedOf m x in
       let h = nibbleOf m x in
       let within = added-word-lt m good x made in
       let few = added-lt m good x in
       let hh = nibble-in m good x in
-      let own : (n k : ℕ) → k ≡ n → n < 6048 → encodingOf 10 l k ≡ codingsOf 10 l .encoding n = λ n k e g. ap (encodingOf 10 l) e ∙ sym (encoding-is 10 l n g) in
+      let own : (n k : ℕ) → k ≡ n → n < 6048 → f k ≡ codingsOf 10 l .encoding n = λ n k e g. ap f e ∙ ap (λ (h : ℕ → List ℕ). h n) is ∙ sym (encoding-is 10 l n g) in
       let lt = number-lt m good first in
       let wide = good .wide in
       let A = own _ sum a (omega (arith, lt w d h (omega arith) (omega arith) hh)) in

@@ -1,21 +1,21 @@
 -- `entries::lists::all_images` meets its contract. Assumes nothing.
-use mathlib.Core.List.{List, _++_}
+use mathlib.Core.List.{_++_}
 use mathlib.Core.Path.{_≡_, refl, sym, ap, ap₂, _∙_}
-use Prim.Native.Nat.{ℕ, _+_, _-_, _*_, _≤_, _<_}
+use Prim.Native.Nat.{ℕ, _+_, _-_, _*_, _≤_}
 use lib.ListN.{length, take, drop, length-take, length-drop}
 use Rattle.bits.specs.Encodings.{imagesOf}
 use Rattle.bits.specs.Lists.{concat}
 use Rattle.bits.proofs.laws.Lists.{concat-next, take-put}
-use Rattle.bundle.specs.Format.{encodingOf}
+use Rattle.entries.specs.Encodings.{encodingIn}
 use native.Mathlib.Omega.{arith}
 use Rattle.entries.proofs.lists.all_images.Statement.{statement}
 use Rattle.entries.proofs.lists.all_images.Tie as tie
 
 abbrev Inv-loop : tie.InvT-loop
-Inv-loop bundle n count dst₀ h₀ dst h = (h ≤ count) × (length dst ≡ length dst₀) × (take (h * 16) dst ≡ concat h (λ k. encodingOf 10 bundle (n + k)))
+Inv-loop section n count dst₀ h₀ dst h = (h ≤ count) × (length dst ≡ length dst₀) × (take (h * 16) dst ≡ concat h (λ k. encodingIn section (n + k)))
 
 abbrev μ-loop : tie.MeasureT-loop
-μ-loop bundle n count dst₀ h₀ dst h = count - h
+μ-loop section n count dst₀ h₀ dst h = count - h
 
 loop-holds : tie.Need-loop-holds Inv-loop μ-loop
 unfolding concat
@@ -27,11 +27,11 @@ mul-a c = omega arith
 add-e : tie.Need-add-e Inv-loop μ-loop
 add-e c = omega arith
 
-add-encoding-part : tie.Need-add-encoding-part Inv-loop μ-loop
-add-encoding-part c = omega arith
+add-part : tie.Need-add-part Inv-loop μ-loop
+add-part c = omega arith
 
-encoding-part-requires : tie.Need-encoding-part-requires Inv-loop μ-loop
-encoding-part-requires c κs = omega arith
+part-requires : tie.Need-part-requires Inv-loop μ-loop
+part-requires c κs = omega arith
 
 sub-images : tie.Need-sub-images Inv-loop μ-loop
 sub-images c = omega arith
@@ -62,8 +62,8 @@ loop-again c =
       omega arith,
       c .before .dst .given .1 ∙ L .inv .1,
       take-put (h * 16) (h * 16 + 16 - h * 16) ((h + 1) * 16) (L .dst) ys (omega arith) (omega arith)
-          ∙ ap₂ (λ u v. u ++ v) (L .inv .2) (c .before .before .images .ensures ∙ ap imagesOf (c .before .before .before .before .encoding-part .ensures))
-          ∙ sym (concat-next h (λ k. encodingOf 10 (A .bundle .now) (A .n + k))),
+          ∙ ap₂ (λ u v. u ++ v) (L .inv .2) (c .before .before .images .ensures ∙ ap imagesOf (c .before .before .before .before .part .ensures))
+          ∙ sym (concat-next h (λ k. encodingIn (A .section .now) (A .n + k))),
     )
 
 same-length : tie.Need-same-length Inv-loop μ-loop
@@ -76,7 +76,7 @@ returns c =
     let done : L .h ≡ A .count = omega arith in
     ap (λ (k : ℕ). take (k * 16) (L .dst)) (sym done)
     ∙ L .inv .2
-    ∙ ap (λ (k : ℕ). concat k (λ i. encodingOf 10 (A .bundle .now) (A .n + i))) done
+    ∙ ap (λ (k : ℕ). concat k (λ i. encodingIn (A .section .now) (A .n + i))) done
 
 pub all-images-spec : {M : Type 1} → statement M
 all-images-spec =
@@ -87,8 +87,8 @@ all-images-spec =
     loop-holds
     mul-a
     add-e
-    add-encoding-part
-    encoding-part-requires
+    add-part
+    part-requires
     sub-images
     part-images-start
     part-images-end

@@ -1,26 +1,25 @@
 -- `entries::lists::decoded_bytes` meets its contract. Assumes nothing.
 use mathlib.Core.List.{List}
-use mathlib.Core.Path.{_≡_, refl, sym, ap, ap₂, _∙_}
-use Prim.Native.Nat.{ℕ, _+_, _-_, _*_, _/_, _%_, _≤_, _<_}
-use lib.ListN.{length}
+use mathlib.Core.Path.{ap, ap₂, _∙_}
+use Prim.Native.Nat.{ℕ, _-_, _/_, _%_}
 use Rattle.bits.specs.Encodings.{imagesOf, decode}
-use Rattle.bits.specs.Lists.{at, tabulate}
+use Rattle.bits.specs.Lists.{tabulate}
 use Rattle.bits.specs.Nibbles.{pack}
 use Rattle.bits.proofs.laws.Filled.{Filled, filled-none, filled-more, filled-all}
-use Rattle.bundle.specs.Format.{encodingOf}
+use Rattle.entries.specs.Encodings.{encodingIn}
 use Rattle.entries.proofs.laws.Entries.{place-at, place-below}
 use native.Mathlib.Omega.{arith}
 use Rattle.entries.proofs.lists.decoded_bytes.Statement.{statement}
 use Rattle.entries.proofs.lists.decoded_bytes.Tie as tie
 
 abbrev Inv-loop : tie.InvT-loop
-Inv-loop bundle high low dst₀ a b x₀ dst x = Filled 256 (λ x. pack (decode (encodingOf 10 bundle high) (x / 16)) (decode (encodingOf 10 bundle low) (x % 16))) dst x
+Inv-loop section high low dst₀ a b x₀ dst x = Filled 256 (λ x. pack (decode (encodingIn section high) (x / 16)) (decode (encodingIn section low) (x % 16))) dst x
 
 abbrev μ-loop : tie.MeasureT-loop
-μ-loop bundle high low dst₀ a b x₀ dst x = 256 - x
+μ-loop section high low dst₀ a b x₀ dst x = 256 - x
 
-encoding-part-requires : tie.Need-encoding-part-requires Inv-loop μ-loop
-encoding-part-requires c κs = omega arith
+part-requires : tie.Need-part-requires Inv-loop μ-loop
+part-requires c κs = omega arith
 
 slice-aggregate-places : tie.Need-slice-aggregate-places Inv-loop μ-loop
 slice-aggregate-places c = omega arith
@@ -28,8 +27,8 @@ slice-aggregate-places c = omega arith
 places-requires : tie.Need-places-requires Inv-loop μ-loop
 places-requires c κs = omega arith
 
-encoding-part-requires-2 : tie.Need-encoding-part-requires-2 Inv-loop μ-loop
-encoding-part-requires-2 c κs = omega arith
+part-requires-2 : tie.Need-part-requires-2 Inv-loop μ-loop
+part-requires-2 c κs = omega arith
 
 slice-aggregate-places-2 : tie.Need-slice-aggregate-places-2 Inv-loop μ-loop
 slice-aggregate-places-2 c = omega arith
@@ -38,7 +37,7 @@ places-requires-2 : tie.Need-places-requires-2 Inv-loop μ-loop
 places-requires-2 c κs = omega arith
 
 loop-holds : tie.Need-loop-holds Inv-loop μ-loop
-loop-holds c = filled-none 256 _ _ (c .before .before .before .before .before .before .before .before .before .before .pre .0)
+loop-holds c = filled-none 256 _ _ ((c .before .before .before .before .before .before .before .before .before .before .pre) .1)
 
 slice-aggregate-decoded : tie.Need-slice-aggregate-decoded Inv-loop μ-loop
 slice-aggregate-decoded c = omega arith
@@ -49,10 +48,10 @@ slice-aggregate-decoded-2 c = omega arith
 decoded-requires : tie.Need-decoded-requires Inv-loop μ-loop
 decoded-requires c κs =
     let A = c .before .before .before .before .before .before .before .before .before .before .before .before .before .before .args in
-    let l = A .bundle .now in
+    let l = A .section .now in
     let p = c .before .before .before .before .before .before .before .before .before .before .before .before .before .before .pre in
-    let a = place-below (encodingOf 10 l (A .high)) (c .before .before .before .before .before .before .before .before .before .places .last .1 .0) (c .before .before .before .before .before .before .before .before .before .places .ensures ∙ ap (λ (t : List ℕ). tabulate 16 (decode (imagesOf t))) (c .before .before .before .before .before .before .before .before .before .before .before .encoding-part .ensures)) (p .1) in
-    let b = place-below (encodingOf 10 l (A .low)) (c .before .before .before .before .before .places2 .last .1 .0) (c .before .before .before .before .before .places2 .ensures ∙ ap (λ (t : List ℕ). tabulate 16 (decode (imagesOf t))) (c .before .before .before .before .before .before .before .encoding-part2 .ensures)) (p .2) in
+    let a = place-below (encodingIn l (A .high)) (c .before .before .before .before .before .before .before .before .before .places .last .1 .0) (c .before .before .before .before .before .before .before .before .before .places .ensures ∙ ap (λ (t : List ℕ). tabulate 16 (decode (imagesOf t))) (c .before .before .before .before .before .before .before .before .before .before .before .part .ensures)) (p .2) in
+    let b = place-below (encodingIn l (A .low)) (c .before .before .before .before .before .places2 .last .1 .0) (c .before .before .before .before .before .places2 .ensures ∙ ap (λ (t : List ℕ). tabulate 16 (decode (imagesOf t))) (c .before .before .before .before .before .before .before .part2 .ensures)) (p .3) in
     (omega arith, omega arith, omega arith, a, b)
 
 slice-write-dst : tie.Need-slice-write-dst Inv-loop μ-loop
@@ -68,9 +67,9 @@ loop-again : tie.Need-loop-again Inv-loop μ-loop
 loop-again c =
     let A = c .before .before .before .before .before .before .before .before .before .before .before .before .before .before .before .args in
     let L = c .before .before .before .before .loop in
-    let l = A .bundle .now in
-    let a = place-at (encodingOf 10 l (A .high)) (c .before .before .before .before .before .before .before .before .before .before .places .last .1 .0) (c .before .before .before .before .before .before .before .before .before .before .places .ensures ∙ ap (λ (t : List ℕ). tabulate 16 (decode (imagesOf t))) (c .before .before .before .before .before .before .before .before .before .before .before .before .encoding-part .ensures)) (L .x / 16) (omega arith) in
-    let b = place-at (encodingOf 10 l (A .low)) (c .before .before .before .before .before .before .places2 .last .1 .0) (c .before .before .before .before .before .before .places2 .ensures ∙ ap (λ (t : List ℕ). tabulate 16 (decode (imagesOf t))) (c .before .before .before .before .before .before .before .before .encoding-part2 .ensures)) (L .x % 16) (omega arith) in
+    let l = A .section .now in
+    let a = place-at (encodingIn l (A .high)) (c .before .before .before .before .before .before .before .before .before .before .places .last .1 .0) (c .before .before .before .before .before .before .before .before .before .before .places .ensures ∙ ap (λ (t : List ℕ). tabulate 16 (decode (imagesOf t))) (c .before .before .before .before .before .before .before .before .before .before .before .before .part .ensures)) (L .x / 16) (omega arith) in
+    let b = place-at (encodingIn l (A .low)) (c .before .before .before .before .before .before .places2 .last .1 .0) (c .before .before .before .before .before .before .places2 .ensures ∙ ap (λ (t : List ℕ). tabulate 16 (decode (imagesOf t))) (c .before .before .before .before .before .before .before .before .part2 .ensures)) (L .x % 16) (omega arith) in
     filled-more (L .inv) (omega arith) (c .decoded .ensures ∙ ap₂ pack a b)
 
 same-length : tie.Need-same-length Inv-loop μ-loop
@@ -85,10 +84,10 @@ decoded-bytes-spec =
     (tie.spec
     Inv-loop
     μ-loop
-    encoding-part-requires
+    part-requires
     slice-aggregate-places
     places-requires
-    encoding-part-requires-2
+    part-requires-2
     slice-aggregate-places-2
     places-requires-2
     loop-holds

@@ -1,4 +1,5 @@
 -- `layers::words::by_bytes` meets its contract. Assumes nothing.
+use mathlib.Core.List.{List}
 use mathlib.Core.Path.{_≡_, refl, ap, ap₂, _∙_}
 use Prim.Native.Nat.{ℕ, suc, _+_, _-_, _*_, _/_, _%_, _^_, _≤_}
 use lib.ListN.{length, take, length-set}
@@ -8,27 +9,28 @@ use Rattle.bits.specs.Lists.{tabulate}
 use Rattle.bits.specs.Matrices.{product, matrixOf}
 use Rattle.bits.specs.Words.{value}
 use Rattle.bits.proofs.laws.Lists.{fill-more}
-use Rattle.bundle.specs.Format.{byteMatrix}
-use Rattle.layers.proofs.laws.Code.{front-number, byte-part-long}
+use Rattle.bundle.specs.Format.{partOf}
+use Rattle.bundle.proofs.laws.Parts.{part-length}
+use Rattle.layers.proofs.laws.Code.{front-number}
 use native.Mathlib.Omega.{arith}
 use Rattle.layers.proofs.words.by_bytes.Statement.{statement}
 use Rattle.layers.proofs.words.by_bytes.Tie as tie
 
 abbrev Inv-loop : tie.InvT-loop
-Inv-loop bundle first n v b₀ j₀ b j = (j ≤ n) × (length b ≡ 16) × (take j b ≡ tabulate j (λ k. product 8 (byteMatrix 10 bundle (first + k)) (byte n k (value v))))
+Inv-loop section first n v b₀ j₀ b j = (j ≤ n) × (length b ≡ 16) × (take j b ≡ tabulate j (λ k. product 8 (matrixOf 1 (partOf 8 section (first + k))) (byte n k (value v))))
 
 abbrev μ-loop : tie.MeasureT-loop
-μ-loop bundle first n v b₀ j₀ b j = n - j
+μ-loop section first n v b₀ j₀ b j = n - j
 
 loop-holds : tie.Need-loop-holds Inv-loop μ-loop
 unfolding tabulate
 loop-holds c = (omega arith, refl, refl)
 
-add-byte-matrix-part : tie.Need-add-byte-matrix-part Inv-loop μ-loop
-add-byte-matrix-part c = omega arith
+add-part : tie.Need-add-part Inv-loop μ-loop
+add-part c = omega arith
 
-byte-matrix-part-requires : tie.Need-byte-matrix-part-requires Inv-loop μ-loop
-byte-matrix-part-requires c κs = omega arith
+part-requires : tie.Need-part-requires Inv-loop μ-loop
+part-requires c κs = omega arith
 
 sub-byte : tie.Need-sub-byte Inv-loop μ-loop
 sub-byte c = omega arith
@@ -40,10 +42,7 @@ byte-requires : tie.Need-byte-requires Inv-loop μ-loop
 byte-requires c κs = omega arith
 
 byte-by-part-requires : tie.Need-byte-by-part-requires Inv-loop μ-loop
-byte-by-part-requires c κs =
-    let L = c .before .before .before .loop in
-    let A = c .before .before .before .before .before .args in
-    omega (arith, byte-part-long (A .bundle .now) _ (c .before .before .before .before .before .pre .0) (A .first + L .j) (omega arith) (c .before .byte-matrix-part .ensures))
+byte-by-part-requires c κs = omega (arith, ap length (c .before .part .ensures), part-length 8 (c .before .before .before .before .before .args .section .now) (c .before .before .before .before .before .args .first + c .before .before .before .loop .j) (omega arith))
 
 array-write-b : tie.Need-array-write-b Inv-loop μ-loop
 array-write-b c = omega arith
@@ -62,8 +61,8 @@ loop-again c =
     let e : A .n - 1 - L .j ≡ A .n - suc (L .j) = omega arith in (
       omega arith,
       simp length-set (L .inv .1),
-      fill-more (L .b) (L .j) (λ k. product 8 (byteMatrix 10 (A .bundle .now) (A .first + k)) (byte (A .n) k (value (A .v)))) (c .byte-by-part .result) (omega arith) (L .inv .2)
-          (c .byte-by-part .ensures ∙ ap₂ (λ t (x : ℕ). product 8 (matrixOf 1 t) x) (c .before .before .byte-matrix-part .ensures) (c .before .byte .ensures ∙ ap (λ (x : ℕ). value (A .v) / 2 ^ (8 * x) % 256) e)),
+      fill-more (L .b) (L .j) (λ k. product 8 (matrixOf 1 (partOf 8 (A .section .now) (A .first + k))) (byte (A .n) k (value (A .v)))) (c .byte-by-part .result) (omega arith) (L .inv .2)
+          (c .byte-by-part .ensures ∙ ap₂ (λ (t : List ℕ) (x : ℕ). product 8 (matrixOf 1 t) x) (c .before .before .part .ensures) (c .before .byte .ensures ∙ ap (λ (x : ℕ). value (A .v) / 2 ^ (8 * x) % 256) e)),
     )
 
 slice-aggregate-read : tie.Need-slice-aggregate-read Inv-loop μ-loop
@@ -77,7 +76,7 @@ returns c =
     let L = c .before .before .before .loop in
     let A = c .before .before .before .before .before .args in
     let done : L .j ≡ A .n = omega arith in
-    c .read .ensures ∙ front-number (A .n) (L .b) (λ k. product 8 (byteMatrix 10 (A .bundle .now) (A .first + k)) (byte (A .n) k (value (A .v)))) (rw done at (L .inv .2))
+    c .read .ensures ∙ front-number (A .n) (L .b) (λ k. product 8 (matrixOf 1 (partOf 8 (A .section .now) (A .first + k))) (byte (A .n) k (value (A .v)))) (rw done at (L .inv .2))
 
 pub by-bytes-spec : {M : Type 1} → statement M
 by-bytes-spec =
@@ -86,8 +85,8 @@ by-bytes-spec =
     Inv-loop
     μ-loop
     loop-holds
-    add-byte-matrix-part
-    byte-matrix-part-requires
+    add-part
+    part-requires
     sub-byte
     sub-byte-2
     byte-requires

@@ -8,19 +8,23 @@ use Rattle.bits.specs.Matrices.{product}
 use Rattle.bits.specs.Words.{rowsOf, setRow, stored}
 use Rattle.bits.proofs.laws.Words.{stored-next}
 use Rattle.bundle.specs.Format.{byteMatrix}
+use Rattle.layers.proofs.laws.Code.{byte-section-long, byte-matrices-in}
 use native.Mathlib.Omega.{arith}
 use Rattle.layers.proofs.words.spread_basis.Statement.{statement}
 use Rattle.layers.proofs.words.spread_basis.Tie as tie
 
 abbrev Inv-loop : tie.InvT-loop
-Inv-loop bundle m n i first basis₀ k₀ basis k = (k ≤ 8) × (length basis ≡ 16) × (basis ≡ stored k (λ i₁. number n (λ j. product 8 (byteMatrix 10 bundle (first + j)) (byte n j (product (8 * n) (rowsOf (8 * n) m) (placed n i (2 ^ i₁)))))) basis₀)
+Inv-loop bundle m n i first basis₀ section k₀ basis k = (k ≤ 8) × (length basis ≡ 16) × (basis ≡ stored k (λ i₁. number n (λ j. product 8 (byteMatrix 10 bundle (first + j)) (byte n j (product (8 * n) (rowsOf (8 * n) m) (placed n i (2 ^ i₁)))))) basis₀)
 
 abbrev μ-loop : tie.MeasureT-loop
-μ-loop bundle m n i first basis₀ k₀ basis k = 8 - k
+μ-loop bundle m n i first basis₀ section k₀ basis k = 8 - k
+
+section-requires : tie.Need-section-requires Inv-loop μ-loop
+section-requires c κs = omega arith
 
 loop-holds : tie.Need-loop-holds Inv-loop μ-loop
 unfolding stored
-loop-holds c = (omega arith, c .before .before .before .pre .5, refl)
+loop-holds c = (omega arith, (c .before .before .before .before .pre) .5, refl)
 
 mul-multiply : tie.Need-mul-multiply Inv-loop μ-loop
 mul-multiply c = omega arith
@@ -35,7 +39,7 @@ multiply-requires : tie.Need-multiply-requires Inv-loop μ-loop
 multiply-requires c κs = omega arith
 
 by-bytes-requires : tie.Need-by-bytes-requires Inv-loop μ-loop
-by-bytes-requires c κs = (c .before .before .before .before .before .before .before .before .before .pre .0, omega arith, omega arith)
+by-bytes-requires c κs = (byte-section-long (c .before .before .before .before .before .before .before .before .before .before .args .bundle .now) _ (c .before .before .before .before .before .before .section .ensures) ((c .before .before .before .before .before .before .before .before .before .before .pre) .0), omega arith, omega arith)
 
 set-row-requires : tie.Need-set-row-requires Inv-loop μ-loop
 set-row-requires c κs = omega arith
@@ -49,12 +53,13 @@ loop-less c = omega arith
 loop-again : tie.Need-loop-again Inv-loop μ-loop
 loop-again c =
     let L = c .before .before .before .before .before .before .before .before .before .loop in
-    let A = c .before .before .before .before .before .before .before .before .before .before .before .before .before .args in
+    let A = c .before .before .before .before .before .before .before .before .before .before .before .before .before .before .args in
     let n = A .n in
-    let is = c .before .before .before .by-bytes .ensures ∙ ap (λ (v : ℕ). number n (λ j. product 8 (byteMatrix 10 (A .bundle .now) (A .first + j)) (byte n j v))) (c .before .before .before .before .before .multiply .ensures ∙ ap (product (8 * n) (rowsOf (8 * n) (A .m .now))) (c .before .before .before .before .before .before .placed .ensures ∙ ap (placed n (A .i)) (c .before .before .before .before .before .before .before .power .ensures))) in (
+    let v = c .before .before .before .before .before .multiply .ensures ∙ ap (product (8 * n) (rowsOf (8 * n) (A .m .now))) (c .before .before .before .before .before .before .placed .ensures ∙ ap (placed n (A .i)) (c .before .before .before .before .before .before .before .power .ensures)) in
+    let is = c .before .before .before .by-bytes .ensures ∙ ap₂ (λ (f : ℕ → List ℕ) (x : ℕ). number n (λ j. product 8 (f (A .first + j)) (byte n j x))) (byte-matrices-in (A .bundle .now) _ (c .before .before .before .before .before .before .before .before .before .before .section .ensures)) v in (
       omega arith,
       c .before .before .set-row .kept .0 ∙ L .inv .1,
-      c .before .before .set-row .ensures ∙ ap₂ (λ (t : List ℕ) (v : ℕ). setRow t (L .k) v) (L .inv .2) is ∙ sym (stored-next (L .k) _ (A .basis .now)),
+      c .before .before .set-row .ensures ∙ ap₂ (λ (t : List ℕ) (x : ℕ). setRow t (L .k) x) (L .inv .2) is ∙ sym (stored-next (L .k) _ (A .basis .now)),
     )
 
 same-length : tie.Need-same-length Inv-loop μ-loop
@@ -71,6 +76,7 @@ spread-basis-spec =
     (tie.spec
     Inv-loop
     μ-loop
+    section-requires
     loop-holds
     mul-multiply
     power-requires

@@ -1,13 +1,16 @@
 -- `tables::table::read_bytes` meets its contract. Assumes nothing.
-use mathlib.Core.Path.{_≡_, sym, ap, ap₂, _∙_}
+use mathlib.Core.List.{List}
+use mathlib.Core.Path.{sym, ap, ap₂, _∙_, subst}
 use Prim.Native.Nat.{ℕ, _+_, _*_, _/_, _%_}
-use Rattle.bits.specs.Encodings.{decode}
+use Rattle.bits.specs.Encodings.{decode, Permutation}
+use Rattle.bits.specs.Lists.{tabulate}
 use Rattle.bits.specs.Nibbles.{pack}
 use Rattle.bits.proofs.laws.Lists.{tabulate-ext}
 use Rattle.bundle.specs.Format.{encodings, encodingOf}
 use Rattle.bundle.proofs.laws.Judgements.{accepted-sound}
 use Rattle.layers.specs.Layers.{readByte}
 use Rattle.network.specs.Stages.{standingNumber}
+use Rattle.tables.proofs.laws.Encodings.{whole-encodings, encodings-in}
 use borrow.Author.Needs.{needs}
 use Rattle.tables.proofs.table.read_bytes.Statement.{statement}
 use Rattle.tables.proofs.table.read_bytes.Tie as tie
@@ -30,12 +33,20 @@ add-standing-number c = search needs
 standing-number-requires-2 : tie.Need-standing-number-requires-2
 standing-number-requires-2 c κs = search needs
 
+section-requires : tie.Need-section-requires
+section-requires c κs = search needs
+
 decoded-bytes-requires : tie.Need-decoded-bytes-requires
 unfolding encodings
 decoded-bytes-requires c κs =
-    let A = c .before .before .before .before .before .before .args in
-    let S = accepted-sound 10 (A .bundle .now) (λ i. c .before .before .before .before .before .shared-slice-known .given i .fits) (c .before .before .before .before .before .before .pre .0) in
-    (c .before .before .before .before .before .before .pre .4, S .lists (c .before .before .standing-number .result) (c .before .before .standing-number .ensures .1), S .lists (c .before .standing-number2 .result) (c .before .standing-number2 .ensures .1))
+    let l = c .before .before .before .before .before .before .before .args .bundle .now in
+    let S = accepted-sound 10 l (λ i. c .before .before .before .before .before .before .shared-slice-known .given i .fits) ((c .before .before .before .before .before .before .before .pre) .0) in
+    let in-section = sym (encodings-in l _ (c .before .section .ensures)) in (
+      whole-encodings l _ (c .before .section .ensures),
+      (c .before .before .before .before .before .before .before .pre) .4,
+      subst (λ (g : ℕ → List ℕ). Permutation (g (c .before .before .before .standing-number .result))) in-section (S .lists (c .before .before .before .standing-number .result) (c .before .before .before .standing-number .ensures .1)),
+      subst (λ (g : ℕ → List ℕ). Permutation (g (c .before .before .standing-number2 .result))) in-section (S .lists (c .before .before .standing-number2 .result) (c .before .before .standing-number2 .ensures .1)),
+    )
 
 same-length : tie.Need-same-length
 same-length c = search needs
@@ -43,11 +54,13 @@ same-length c = search needs
 returns : tie.Need-returns
 unfolding readByte
 returns c =
-    let A = c .before .before .before .before .before .before .before .before .before .args in
+    let A = c .before .before .before .before .before .before .before .before .before .before .args in
     let l = A .bundle .now in
-    let hi = c .before .before .before .before .before .standing-number .ensures .0 ∙ ap (λ (j : ℕ). standingNumber 10 (A .s) (2 * j)) (c .before .before .before .before .before .before .source-of .ensures .0) in
-    let lo = c .before .before .before .before .standing-number2 .ensures .0 ∙ ap (λ (j : ℕ). standingNumber 10 (A .s) (2 * j + 1)) (c .before .before .before .before .before .before .source-of .ensures .0) in
-    c .before .before .decoded-bytes .ensures ∙ tabulate-ext 256 _ _ (λ x h. ap₂ (λ (a b : ℕ). pack (decode (encodingOf 10 l a) (x / 16)) (decode (encodingOf 10 l b) (x % 16))) hi lo)
+    let hi = c .before .before .before .before .before .before .standing-number .ensures .0 ∙ ap (λ (j : ℕ). standingNumber 10 (A .s) (2 * j)) (c .before .before .before .before .before .before .before .source-of .ensures .0) in
+    let lo = c .before .before .before .before .before .standing-number2 .ensures .0 ∙ ap (λ (j : ℕ). standingNumber 10 (A .s) (2 * j + 1)) (c .before .before .before .before .before .before .before .source-of .ensures .0) in
+    c .before .before .decoded-bytes .ensures
+    ∙ ap (λ (g : ℕ → List ℕ). tabulate 256 (λ x. pack (decode (g (c .before .before .before .before .before .before .standing-number .result)) (x / 16)) (decode (g (c .before .before .before .before .before .standing-number2 .result)) (x % 16)))) (encodings-in l _ (c .before .before .before .before .section .ensures))
+    ∙ tabulate-ext 256 _ _ (λ x h. ap₂ (λ (a b : ℕ). pack (decode (encodingOf 10 l a) (x / 16)) (decode (encodingOf 10 l b) (x % 16))) hi lo)
 
 pub read-bytes-spec : {M : Type 1} → statement M
 read-bytes-spec =
@@ -59,6 +72,7 @@ read-bytes-spec =
     mul-standing-number-2
     add-standing-number
     standing-number-requires-2
+    section-requires
     decoded-bytes-requires
     same-length
     returns)

@@ -1,7 +1,7 @@
 -- `tables::table::spread_table` meets its contract. Assumes nothing.
 use mathlib.Core.List.{List}
 use mathlib.Core.Path.{sym, ap, ap₂, _∙_}
-use Prim.Native.Nat.{ℕ, _+_, _-_, _*_}
+use Prim.Native.Nat.{ℕ, _+_, _*_}
 use lib.ListN.{length, take}
 use Rattle.bits.specs.Lists.{at, concat}
 use Rattle.bits.specs.Words.{rowAt}
@@ -10,6 +10,7 @@ use Rattle.bits.proofs.laws.Words.{row-stored}
 use Rattle.bundle.specs.Format.{encodingOf}
 use Rattle.bundle.proofs.laws.Code.{product-le}
 use Rattle.entries.specs.Spread.{combined, encodedWord}
+use Rattle.tables.proofs.laws.Encodings.{whole-encodings, encodings-in}
 use Rattle.tables.proofs.laws.Spread.{spread-is}
 use Rattle.tables.proofs.laws.Words.{images-lt}
 use native.Mathlib.Omega.{arith}
@@ -44,13 +45,16 @@ mul-first c = omega (arith, product-le (c .before .before .before .before .befor
 add-first : tie.Need-add-first
 add-first c = omega (arith, product-le (c .before .before .before .before .before .before .before .before .before .before .before .before .args .p) (2 * c .before .before .before .before .before .before .before .width-of .result) 16 32 (omega arith) (omega arith))
 
+section-requires : tie.Need-section-requires
+section-requires c κs = search needs
+
 slice-aggregate-all-images : tie.Need-slice-aggregate-all-images
 slice-aggregate-all-images c = search needs
 
 all-images-requires : tie.Need-all-images-requires
 all-images-requires c κs =
-    let b = product-le (c .before .before .before .before .before .before .before .before .before .before .before .before .before .args .p) (2 * c .before .before .before .before .before .before .before .before .width-of .result) 15 32 (omega arith) (omega arith) in
-    (omega arith, omega arith, omega arith)
+    let b = product-le (c .before .before .before .before .before .before .before .before .before .before .before .before .before .before .args .p) (2 * c .before .before .before .before .before .before .before .before .before .width-of .result) 15 32 (omega arith) (omega arith) in
+    (whole-encodings (c .before .before .before .before .before .before .before .before .before .before .before .before .before .before .args .bundle .now) _ (c .before .section .ensures), omega arith, omega arith, omega arith)
 
 slice-aggregate-write : tie.Need-slice-aggregate-write
 slice-aggregate-write c = search needs
@@ -63,15 +67,18 @@ slice-aggregate-write-3 c = search needs
 
 write-requires : tie.Need-write-requires
 write-requires c κs =
-    let m = c .before .before .before .before .before .before .before .before .before .before .before .before .before .before .width-of .result in
+    let A = c .before .before .before .before .before .before .before .before .before .before .before .before .before .before .before .before .before .before .before .before .args in
+    let l = A .bundle .now in
+    let m = c .before .before .before .before .before .before .before .before .before .before .before .before .before .before .before .width-of .result in
+    let E = c .before .before .before .before .before .all-images .ensures ∙ ap (λ (g : ℕ → List ℕ). concat (2 * m) (λ h. g (c .before .before .before .before .before .before .before .before .first-number .result + A .p * (2 * m) + h))) (encodings-in l _ (c .before .before .before .before .before .before .before .section .ensures)) in
     let images = c .before .before .before .before .before .all-images .last .1 .1 .1 .0 in
-    let below = images-lt (c .before .before .before .before .before .before .before .before .before .before .before .before .before .before .before .before .before .before .before .args .bundle .now) images (λ i. c .before .before .before .before .before .before .before .before .before .before .before .before .before .before .before .before .before .before .shared-slice-known .given i .fits) _ (2 * m) (c .before .before .before .before .before .all-images .ensures) in (
-      ap length (c .before .before .before .before .before .before .before .before .before .before .before .before .values-of .ensures) ∙ length-tabulate 256 _,
-      omega (arith, c .before .before .before .before .before .before .before .before .before .basis-of .kept .1 .1 .1 .1 .0),
+    let below = images-lt l images (λ i. c .before .before .before .before .before .before .before .before .before .before .before .before .before .before .before .before .before .before .before .shared-slice-known .given i .fits) _ (2 * m) E in (
+      ap length (c .before .before .before .before .before .before .before .before .before .before .before .before .before .values-of .ensures) ∙ length-tabulate 256 _,
+      omega (arith, c .before .before .before .before .before .before .before .before .before .before .basis-of .kept .1 .1 .1 .1 .0),
       omega arith,
       omega (arith, c .before .before .before .before .before .all-images .kept .1 .1 .1 .0),
       λ i h. below i (omega arith),
-      (c .before .before .before .before .before .before .before .before .before .before .before .before .before .before .before .before .before .before .before .pre) .6 ∙ ap (λ (z : ℕ). 256 * z) (sym (c .before .before .before .before .before .before .before .before .before .before .before .before .before .before .width-of .ensures .0)),
+      (c .before .before .before .before .before .before .before .before .before .before .before .before .before .before .before .before .before .before .before .before .pre) .6 ∙ ap (λ (z : ℕ). 256 * z) (sym (c .before .before .before .before .before .before .before .before .before .before .before .before .before .before .before .width-of .ensures .0)),
     )
 
 same-length : tie.Need-same-length
@@ -79,19 +86,21 @@ same-length c = search needs
 
 returns : tie.Need-returns
 returns c =
-    let A = c .before .before .before .before .before .before .before .before .before .before .before .before .before .before .before .before .before .before .before .before .before .before .args in
-    let p = c .before .before .before .before .before .before .before .before .before .before .before .before .before .before .before .before .before .before .before .before .before .before .pre in
+    let A = c .before .before .before .before .before .before .before .before .before .before .before .before .before .before .before .before .before .before .before .before .before .before .before .args in
+    let p = c .before .before .before .before .before .before .before .before .before .before .before .before .before .before .before .before .before .before .before .before .before .before .before .pre in
     let l = A .bundle .now in
     let w = A .keys .now in
-    let values = c .before .before .before .before .before .before .before .before .before .before .before .before .before .before .before .values-of .last .1 .1 .1 .1 .0 in
-    let basis = c .before .before .before .before .before .before .before .before .before .before .before .before .basis-of .last .1 .1 .1 .1 .0 in
+    let values = c .before .before .before .before .before .before .before .before .before .before .before .before .before .before .before .before .values-of .last .1 .1 .1 .1 .0 in
+    let basis = c .before .before .before .before .before .before .before .before .before .before .before .before .before .basis-of .last .1 .1 .1 .1 .0 in
     let images = c .before .before .before .before .before .before .before .before .all-images .last .1 .1 .1 .0 in
-    let W = c .before .before .before .before .before .before .before .before .before .before .before .before .before .before .before .before .before .width-of .ensures .0 in
+    let m = c .before .before .before .before .before .before .before .before .before .before .before .before .before .before .before .before .before .before .width-of .result in
+    let W = c .before .before .before .before .before .before .before .before .before .before .before .before .before .before .before .before .before .before .width-of .ensures .0 in
+    let E = c .before .before .before .before .before .before .before .before .all-images .ensures ∙ ap (λ (g : ℕ → List ℕ). concat (2 * m) (λ h. g (c .before .before .before .before .before .before .before .before .before .before .before .first-number .result + A .p * (2 * m) + h))) (encodings-in l _ (c .before .before .before .before .before .before .before .before .before .before .section .ensures)) in
     let D = c .before .before .write .ensures ∙ ap (λ (m : ℕ). concat 256 (λ x. encodedWord (at images) m (combined (rowAt basis) (at values x)))) W in
-    let I = sym (ap (λ (m : ℕ). take (2 * m * 16) images) W) ∙ c .before .before .before .before .before .before .before .before .all-images .ensures
-    ∙ ap₂ (λ (m f : ℕ). concat (2 * m) (λ h. encodingOf 10 l (f + A .p * (2 * m) + h))) W (c .before .before .before .before .before .before .before .before .before .before .first-number .ensures .0) in
-    spread-is l w (λ i. c .before .before .before .before .before .before .before .before .before .before .before .before .before .before .before .before .before .before .before .before .before .shared-slice-known .given i .fits) (λ i. c .before .before .before .before .before .before .before .before .before .before .before .before .before .before .before .before .before .before .before .before .shared-slice-known2 .given i .fits) (p .0) (A .s) (p .3) (p .4) (A .p) (p .5) values images _ (rowAt basis) D (c .before .before .before .before .before .before .before .before .before .before .before .before .before .before .before .values-of .ensures)
-    (λ k h. ap (λ (t : List ℕ). rowAt t k) (c .before .before .before .before .before .before .before .before .before .before .before .before .basis-of .ensures w) ∙ row-stored 8 _ _ (omega arith) k h) I
+    let I = sym (ap (λ (m : ℕ). take (2 * m * 16) images) W) ∙ E
+    ∙ ap₂ (λ (m f : ℕ). concat (2 * m) (λ h. encodingOf 10 l (f + A .p * (2 * m) + h))) W (c .before .before .before .before .before .before .before .before .before .before .before .first-number .ensures .0) in
+    spread-is l w (λ i. c .before .before .before .before .before .before .before .before .before .before .before .before .before .before .before .before .before .before .before .before .before .before .shared-slice-known .given i .fits) (λ i. c .before .before .before .before .before .before .before .before .before .before .before .before .before .before .before .before .before .before .before .before .before .shared-slice-known2 .given i .fits) (p .0) (A .s) (p .3) (p .4) (A .p) (p .5) values images _ (rowAt basis) D (c .before .before .before .before .before .before .before .before .before .before .before .before .before .before .before .before .values-of .ensures)
+    (λ k h. ap (λ (t : List ℕ). rowAt t k) (c .before .before .before .before .before .before .before .before .before .before .before .before .before .basis-of .ensures w) ∙ row-stored 8 _ _ (omega arith) k h) I
 
 pub spread-table-spec : {M : Type 1} → statement M
 spread-table-spec =
@@ -106,6 +115,7 @@ spread-table-spec =
     first-number-requires
     mul-first
     add-first
+    section-requires
     slice-aggregate-all-images
     all-images-requires
     slice-aggregate-write

@@ -1,5 +1,7 @@
 -- `tables::table::xor_table` meets its contract. Assumes nothing.
-use mathlib.Core.Path.{_≡_, sym, ap, _∙_}
+use mathlib.Core.Path.{_∙_}
+use Rattle.entries.specs.Encodings.{encodingIn}
+use Rattle.tables.proofs.laws.Encodings.{whole-encodings, encodings-in}
 use Rattle.tables.proofs.laws.Xors.{bounds, so-far-is, added-is, result-is, xor-is}
 use native.Mathlib.Omega.{arith}
 use borrow.Author.Needs.{needs}
@@ -22,7 +24,7 @@ div-word : tie.Need-div-word
 div-word c = search needs
 
 mul-word : tie.Need-mul-word
-mul-word c = let b = bounds (c .before .before .args .m) (c .before .before .pre .0) (c .before .before .args .first) (c .before .before .args .x) (c .before .before .pre .1) (c .before .before .pre .2) in omega arith
+mul-word c = let b = bounds (c .before .before .args .m) ((c .before .before .pre) .0) (c .before .before .args .first) (c .before .before .args .x) ((c .before .before .pre) .1) ((c .before .before .pre) .2) in omega arith
 
 sub-added : tie.Need-sub-added
 sub-added c = search needs
@@ -37,16 +39,16 @@ add-result : tie.Need-add-result
 add-result c = search needs
 
 add-result-2 : tie.Need-add-result-2
-add-result-2 c = let b = bounds (c .before .before .args .m) (c .before .before .pre .0) (c .before .before .args .first) (c .before .before .args .x) (c .before .before .pre .1) (c .before .before .pre .2) in omega arith
+add-result-2 c = let b = bounds (c .before .before .args .m) ((c .before .before .pre) .0) (c .before .before .args .first) (c .before .before .args .x) ((c .before .before .pre) .1) ((c .before .before .pre) .2) in omega arith
 
 mul-sum-so-far : tie.Need-mul-sum-so-far
-mul-sum-so-far c = let b = bounds (c .before .before .args .m) (c .before .before .pre .0) (c .before .before .args .first) (c .before .before .args .x) (c .before .before .pre .1) (c .before .before .pre .2) in omega arith
+mul-sum-so-far c = let b = bounds (c .before .before .args .m) ((c .before .before .pre) .0) (c .before .before .args .first) (c .before .before .args .x) ((c .before .before .pre) .1) ((c .before .before .pre) .2) in omega arith
 
 add-sum-so-far : tie.Need-add-sum-so-far
-add-sum-so-far c = let b = bounds (c .before .before .args .m) (c .before .before .pre .0) (c .before .before .args .first) (c .before .before .args .x) (c .before .before .pre .1) (c .before .before .pre .2) in omega arith
+add-sum-so-far c = let b = bounds (c .before .before .args .m) ((c .before .before .pre) .0) (c .before .before .args .first) (c .before .before .args .x) ((c .before .before .pre) .1) ((c .before .before .pre) .2) in omega arith
 
 add-sum-so-far-2 : tie.Need-add-sum-so-far-2
-add-sum-so-far-2 c = let b = bounds (c .before .before .args .m) (c .before .before .pre .0) (c .before .before .args .first) (c .before .before .args .x) (c .before .before .pre .1) (c .before .before .pre .2) in omega arith
+add-sum-so-far-2 c = let b = bounds (c .before .before .args .m) ((c .before .before .pre) .0) (c .before .before .args .first) (c .before .before .args .x) ((c .before .before .pre) .1) ((c .before .before .pre) .2) in omega arith
 
 sub-sum-so-far : tie.Need-sub-sum-so-far
 sub-sum-so-far c = search needs
@@ -54,33 +56,37 @@ sub-sum-so-far c = search needs
 sum-so-far-requires : tie.Need-sum-so-far-requires
 sum-so-far-requires c κs = search needs
 
+section-requires : tie.Need-section-requires
+section-requires c κs = search needs
+
 add-write : tie.Need-add-write
-add-write c = let b = bounds (c .before .before .before .args .m) (c .before .before .before .pre .0) (c .before .before .before .args .first) (c .before .before .before .args .x) (c .before .before .before .pre .1) (c .before .before .before .pre .2) in omega arith
+add-write c = let b = bounds (c .before .before .before .before .args .m) ((c .before .before .before .before .pre) .0) (c .before .before .before .before .args .first) (c .before .before .before .before .args .x) ((c .before .before .before .before .pre) .1) ((c .before .before .before .before .pre) .2) in omega arith
 
 add-write-2 : tie.Need-add-write-2
-add-write-2 c = let b = bounds (c .before .before .before .args .m) (c .before .before .before .pre .0) (c .before .before .before .args .first) (c .before .before .before .args .x) (c .before .before .before .pre .1) (c .before .before .before .pre .2) in omega arith
+add-write-2 c = let b = bounds (c .before .before .before .before .args .m) ((c .before .before .before .before .pre) .0) (c .before .before .before .before .args .first) (c .before .before .before .before .args .x) ((c .before .before .before .before .pre) .1) ((c .before .before .before .before .pre) .2) in omega arith
 
 mul-write : tie.Need-mul-write
-mul-write c = let b = bounds (c .before .before .before .args .m) (c .before .before .before .pre .0) (c .before .before .before .args .first) (c .before .before .before .args .x) (c .before .before .before .pre .1) (c .before .before .before .pre .2) in omega arith
+mul-write c = let b = bounds (c .before .before .before .before .args .m) ((c .before .before .before .before .pre) .0) (c .before .before .before .before .args .first) (c .before .before .before .before .args .x) ((c .before .before .before .before .pre) .1) ((c .before .before .before .before .pre) .2) in omega arith
 
 add-write-3 : tie.Need-add-write-3
-add-write-3 c = let b = bounds (c .before .before .before .args .m) (c .before .before .before .pre .0) (c .before .before .before .args .first) (c .before .before .before .args .x) (c .before .before .before .pre .1) (c .before .before .before .pre .2) in omega arith
+add-write-3 c = let b = bounds (c .before .before .before .before .args .m) ((c .before .before .before .before .pre) .0) (c .before .before .before .before .args .first) (c .before .before .before .before .args .x) ((c .before .before .before .before .pre) .1) ((c .before .before .before .before .pre) .2) in omega arith
 
 add-write-4 : tie.Need-add-write-4
-add-write-4 c = let b = bounds (c .before .before .before .args .m) (c .before .before .before .pre .0) (c .before .before .before .args .first) (c .before .before .before .args .x) (c .before .before .before .pre .1) (c .before .before .before .pre .2) in omega arith
+add-write-4 c = let b = bounds (c .before .before .before .before .args .m) ((c .before .before .before .before .pre) .0) (c .before .before .before .before .args .first) (c .before .before .before .before .args .x) ((c .before .before .before .before .pre) .1) ((c .before .before .before .before .pre) .2) in omega arith
 
 write-requires : tie.Need-write-requires
-write-requires c κs = search needs
+write-requires c κs = (whole-encodings (c .before .before .before .before .before .args .bundle .now) _ (c .before .section .ensures), (c .before .before .before .before .before .pre) .3)
 
 same-length : tie.Need-same-length
 same-length c = search needs
 
 returns : tie.Need-returns
 returns c =
-    let A = c .before .before .before .before .before .before .before .args in
-    let g = c .before .before .before .before .before .before .before .pre .0 in
+    let A = c .before .before .before .before .before .before .before .before .args in
+    let p = c .before .before .before .before .before .before .before .before .pre in
+    let g = p .0 in
     c .before .before .write .ensures
-    ∙ xor-is (A .m) g (A .first) (A .x) (A .bundle .now) _ _ _ (c .before .before .before .before .before .before .before .pre .1) (c .before .before .before .before .before .before .before .pre .2) (c .before .before .before .before .sum-so-far .ensures ∙ so-far-is (A .m) g (A .first) (A .x)) (added-is (A .m) g (A .first) (A .x)) (result-is (A .m) g (A .first) (A .x))
+    ∙ xor-is (A .m) g (A .first) (A .x) (A .bundle .now) (encodingIn (c .before .before .before .before .section .result .now)) (encodings-in (A .bundle .now) _ (c .before .before .before .before .section .ensures)) _ _ _ (p .1) (p .2) (c .before .before .before .before .before .sum-so-far .ensures ∙ so-far-is (A .m) g (A .first) (A .x)) (added-is (A .m) g (A .first) (A .x)) (result-is (A .m) g (A .first) (A .x))
 
 pub xor-table-spec : {M : Type 1} → statement M
 xor-table-spec =
@@ -102,6 +108,7 @@ xor-table-spec =
     add-sum-so-far-2
     sub-sum-so-far
     sum-so-far-requires
+    section-requires
     add-write
     add-write-2
     mul-write
