@@ -4,7 +4,7 @@
 usage: tests/maker.py [MAKER]     MAKER is the compiled program, target/bin/maker by default
 
 Sets of random and plain bundles with and without gaps, keys cut short, bundles of wrong length, and bundles with a fault of every cause,
-alone and together.
+alone and together. Two sets of one key with the same outer codings are walked.
 """
 import os
 import random
@@ -66,8 +66,22 @@ def refused(key, bundle):
         same(key + bundle + bytes(length - len(bundle)))
 
 
+def alike(rng):
+    """Two sets of one key with the same outer codings answer alike, whatever the rest of their bundles."""
+    key, one, other = rng.randbytes(16), wbref.random_sections(rng), wbref.random_sections(rng)
+    outer = 32 * 8
+    other[0] = one[0][:outer] + other[0][outer:-outer] + one[0][-outer:]
+    other[3:] = one[3:]
+    first, second = (same(key + wbref.build_bundle(sections)) for sections in (one, other))
+    assert first != second
+    for _ in range(3):
+        block = rng.randbytes(16)
+        assert wbref.walk_block(first, block) == wbref.walk_block(second, block)
+
+
 def main():
     rng = random.Random(9)
+    alike(rng)
     for bundle in (wbref.random_bundle(2), wbref.random_bundle(3), wbref.build_bundle(wbref.plain_sections(), GAPS)):
         assert len(same(rng.randbytes(16) + bundle)) == wbref.SET_LEN
     refused(rng.randbytes(16), wbref.random_bundle(4))
