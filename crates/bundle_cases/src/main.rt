@@ -153,7 +153,7 @@ fn step(mem: &mut [u8]) -> bool {
 }
 
 // Order after order.
-fn work(mem: &mut [u8]) {
+fn run(mem: &mut [u8]) {
     let mut i: usize = 0;
     while i < 10000 {
         if !step(mem) {
@@ -165,5 +165,5 @@ fn work(mem: &mut [u8]) {
 
 fn main() {
     let mut mem = [0u8; 65537];
-    work(&mut mem);
+    run(&mut mem);
 }

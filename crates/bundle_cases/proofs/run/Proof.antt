@@ -1,10 +1,10 @@
--- `bundle_cases::work` meets its contract. Assumes nothing.
+-- `bundle_cases::run` meets its contract. Assumes nothing.
 use mathlib.Core.Path.{_≡_}
 use Prim.Native.Nat.{_≤_, _-_}
 use lib.ListN.{length}
 use borrow.Author.Needs.{needs}
-use Rattle.bundle_cases.proofs.work.Statement.{statement}
-use Rattle.bundle_cases.proofs.work.Tie as tie
+use Rattle.bundle_cases.proofs.run.Statement.{statement}
+use Rattle.bundle_cases.proofs.run.Tie as tie
 
 abbrev Inv-loop : tie.InvT-loop
 Inv-loop mem₀ i₀ mem i = (i ≤ 10000) × (length mem ≡ length mem₀)
@@ -39,8 +39,8 @@ same-length-2 c = search needs
 returns-2 : tie.Need-returns-2 Inv-loop μ-loop
 returns-2 c = search needs
 
-pub work-spec : {M : Type 1} → statement M
-work-spec =
+pub run-spec : {M : Type 1} → statement M
+run-spec =
     tie.close
     (tie.spec
     Inv-loop
