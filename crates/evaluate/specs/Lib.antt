@@ -1,4 +1,4 @@
 pub mod Answers
 pub mod Held
-pub mod InPlace
+pub mod Advanced
 pub mod Demands

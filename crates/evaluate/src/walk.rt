@@ -6,11 +6,11 @@ ghost use Rattle.network.specs.Stages.{shifted};
 ghost use Rattle.whitebox.specs.Calls as calls;
 ghost use Rattle.evaluate.specs.Answers.{startedReply, movedReply, fetchedReply};
 ghost use Rattle.evaluate.specs.Held.{held};
-ghost use Rattle.evaluate.specs.InPlace.{Advanced};
+ghost use Rattle.evaluate.specs.Advanced.{Advanced};
 use crate::answer::Fetched;
 use crate::answer::Moved;
 use crate::answer::Started;
-use crate::layer;
+use lookups::layer;
 use network::stage::place_of;
 use network::stage::width_of;
 

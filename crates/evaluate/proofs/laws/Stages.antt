@@ -19,8 +19,8 @@ use Rattle.network.proofs.laws.Order.{layer-lookups}
 use Rattle.network.proofs.laws.Ranges.{stage-entry, stage-first, stage-second, stage-exit, by-stage}
 use Rattle.network.proofs.laws.Stages.{lookups-16, lookups-4, bytes-16, bytes-4}
 use Rattle.whitebox.specs.Calls.{advance}
-use Rattle.evaluate.specs.InPlace.{tableFrom, spreadsIn, xorsIn, sumsIn}
-use Rattle.evaluate.proofs.laws.Layers.{at-spread, at-xor, at-last}
+use Rattle.lookups.specs.InPlace.{tableFrom, spreadsIn, xorsIn, sumsIn}
+use Rattle.lookups.proofs.laws.Layers.{at-spread, at-xor, at-last}
 
 -- ---- lookup n is one of the stage or half s
 pub record InStage (n : ℕ) (s : Stage) : Type 0 where

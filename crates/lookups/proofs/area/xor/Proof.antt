@@ -1,0 +1,47 @@
+-- `evaluate::area::xor` meets its contract. Assumes nothing.
+use Rattle.bits.specs.Nibbles.{nibble, setNibble}
+use borrow.Author.Needs.{needs}
+use Rattle.lookups.proofs.area.xor.Statement.{statement}
+use Rattle.lookups.proofs.area.xor.Tie as tie
+
+element-copy-out-half-of : tie.Need-element-copy-out-half-of
+element-copy-out-half-of c = search needs
+
+half-of-requires : tie.Need-half-of-requires
+half-of-requires c κs = search needs
+
+element-copy-out-half-of-2 : tie.Need-element-copy-out-half-of-2
+element-copy-out-half-of-2 c = search needs
+
+half-of-requires-2 : tie.Need-half-of-requires-2
+half-of-requires-2 c κs = search needs
+
+xor-entry-requires : tie.Need-xor-entry-requires
+xor-entry-requires c κs = search needs
+
+element-copy-out-with-half : tie.Need-element-copy-out-with-half
+element-copy-out-with-half c = search needs
+
+with-half-requires : tie.Need-with-half-requires
+with-half-requires c κs = search needs
+
+element-write-area : tie.Need-element-write-area
+element-write-area c = search needs
+
+returns : tie.Need-returns
+unfolding nibble setNibble
+returns c = cc
+
+pub xor-spec : {M : Type 1} → statement M
+xor-spec =
+    tie.close
+    (tie.spec
+    element-copy-out-half-of
+    half-of-requires
+    element-copy-out-half-of-2
+    half-of-requires-2
+    xor-entry-requires
+    element-copy-out-with-half
+    with-half-requires
+    element-write-area
+    returns)

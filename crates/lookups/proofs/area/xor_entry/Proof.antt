@@ -1,0 +1,39 @@
+-- `evaluate::area::xor_entry` meets its contract. Assumes nothing.
+use Rattle.bits.specs.Nibbles.{nibble}
+use borrow.Author.Needs.{needs}
+use Rattle.lookups.proofs.area.xor_entry.Statement.{statement}
+use Rattle.lookups.proofs.area.xor_entry.Tie as tie
+
+wide-requires : tie.Need-wide-requires
+wide-requires c κs = search needs
+
+mul-e : tie.Need-mul-e
+mul-e c = search needs
+
+wide-requires-2 : tie.Need-wide-requires-2
+wide-requires-2 c κs = search needs
+
+add-e : tie.Need-add-e
+add-e c = search needs
+
+shared-slice-read-half-of : tie.Need-shared-slice-read-half-of
+shared-slice-read-half-of c = search needs
+
+half-of-requires : tie.Need-half-of-requires
+half-of-requires c κs = search needs
+
+returns : tie.Need-returns
+unfolding nibble
+returns c = (cc, search needs)
+
+pub xor-entry-spec : {M : Type 1} → statement M
+xor-entry-spec =
+    tie.close
+    (tie.spec
+    wide-requires
+    mul-e
+    wide-requires-2
+    add-e
+    shared-slice-read-half-of
+    half-of-requires
+    returns)

@@ -1,0 +1,3 @@
+pub mod Area
+pub mod Layers
+pub mod Whole

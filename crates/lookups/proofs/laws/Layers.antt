@@ -1,0 +1,182 @@
+-- Laws, not definitions: a lookup of a stage or half, made in place.
+-- Assumes nothing.
+use mathlib.Core.List.{List}
+use mathlib.Core.Logic.{⊎-elim, _⊎_, inl, inr}
+use mathlib.Core.Path.{_≡_, refl, sym, ap, ap₂, _∙_}
+use Prim.Native.Nat.{ℕ, suc, _+_, _-_, _*_, _/_, _%_, _≤_, _<_}
+use native.Mathlib.Omega.{arith}
+use borrow.Author.Tests.{eq-eqb, ne-eqb, lt-ltb, le-ltb}
+use lib.ListN.{length, drop, length-set, length-replicate}
+use lib.Seq.{paste}
+use Rattle.bits.specs.Lists.{at}
+use Rattle.bits.specs.Nibbles.{nibble, setNibble, pack}
+use Rattle.bits.proofs.laws.Lists.{length-tabulate}
+use Rattle.network.specs.Lookups.{Walk, Shape, spreadArea, xorArea, sums, zeroArea, lookupIn}
+use Rattle.network.specs.Order.{xors, layerLookups, sumPlace, addedPlace}
+use Rattle.network.specs.Stages.{widthOf}
+use Rattle.network.specs.declared.stage.Stage.{Stage}
+use Rattle.network.specs.declared.stage.Stage.the-variants.{Entry, First, Second, Exit, Beyond}
+use Rattle.network.proofs.laws.Stages.{lookups-16, lookups-4}
+use Rattle.lookups.specs.InPlace.{Fits, XorIn, LookedUp, xorByte}
+use Rattle.lookups.proofs.laws.Area.{xor-both}
+
+-- ---- an XOR lookup at its two places
+xor-at : (m x p q : ℕ) (t a : List ℕ) → p ≡ sumPlace m x → q ≡ addedPlace m x
+    → setNibble a p (nibble t (pack (nibble a p) (nibble a q))) ≡ xorArea m x t a
+unfolding xorArea
+xor-at m x p q t a e f = ap₂ (λ (p q : ℕ). setNibble a p (nibble t (pack (nibble a p) (nibble a q)))) e f
+
+-- Two XOR lookups in a row, those of one byte.
+xor-pair-at : (m y p q : ℕ) (high low a : List ℕ) → p < length a → (q ≡ p → ⊥)
+    → 2 * p ≡ sumPlace m (2 * y) → 2 * q ≡ addedPlace m (2 * y) → 2 * p + 1 ≡ sumPlace m (2 * y + 1) → 2 * q + 1 ≡ addedPlace m (2 * y + 1)
+    → xorByte high low p q a ≡ xorArea m (2 * y + 1) low (xorArea m (2 * y) high a)
+xor-pair-at m y p q high low a h n e f e′ f′ =
+    xor-both high low a p q h n (xorArea m (2 * y) high a) (sym (xor-at m (2 * y) (2 * p) (2 * q) high a e f))
+    ∙ xor-at m (2 * y + 1) (2 * p + 1) (2 * q + 1) low (xorArea m (2 * y) high a) e′ f′
+
+-- Entry and exit: one group of 16 words.
+pub below-480 : (m x : ℕ) → m ≡ 16 → XorIn m x → x < 480
+below-480 m x e k = ⊎-elim (λ p. p .1) (λ p. absurd (omega arith)) k
+
+pub xor-16 : (m x p q : ℕ) (t a : List ℕ) → m ≡ 16 → p ≡ sumPlace 16 x → q ≡ addedPlace 16 x
+    → setNibble a p (nibble t (pack (nibble a p) (nibble a q))) ≡ xorArea m x t a
+xor-16 m x p q t a e f g = xor-at 16 x p q t a f g ∙ ap (λ (m : ℕ). xorArea m x t a) (sym e)
+
+pub xor-pair-16 : (m y : ℕ) (high low a : List ℕ) → m ≡ 16 → y < 240 → length a ≡ 256
+    → xorByte high low (y % 16) (y + 16) a ≡ xorArea m (2 * y + 1) low (xorArea m (2 * y) high a)
+xor-pair-16 m y high low a e h l =
+    xor-pair-at 16 y (y % 16) (y + 16) high low a (omega arith) (λ z. omega arith) (omega arith) (omega arith) (omega arith) (omega arith)
+    ∙ ap (λ (m : ℕ). xorArea m (2 * y + 1) low (xorArea m (2 * y) high a)) (sym e)
+
+-- A half: four groups of 4 words.
+pub is-4 : (m x : ℕ) → (m ≡ 16 → ⊥) → XorIn m x → (m ≡ 4) × (x < 96)
+is-4 m x n k = ⊎-elim (λ p. absurd (n (p .0))) (λ p. p) k
+
+pub xor-4 : (m x p q : ℕ) (t a : List ℕ) → m ≡ 4 → p ≡ sumPlace 4 x → q ≡ addedPlace 4 x
+    → setNibble a p (nibble t (pack (nibble a p) (nibble a q))) ≡ xorArea m x t a
+xor-4 m x p q t a e f g = xor-at 4 x p q t a f g ∙ ap (λ (m : ℕ). xorArea m x t a) (sym e)
+
+pub xor-pair-4 : (m y : ℕ) (high low a : List ℕ) → m ≡ 4 → y < 48 → length a ≡ 256
+    → xorByte high low (y / 12 * 16 + y % 4) (y / 12 * 16 + 4 + y % 12) a ≡ xorArea m (2 * y + 1) low (xorArea m (2 * y) high a)
+xor-pair-4 m y high low a e h l =
+    let turn : 2 * y / 8 ≡ y / 4 = omega arith in
+    let turn′ : (2 * y + 1) / 8 ≡ y / 4 = omega arith in
+    let group : y / 4 / 3 ≡ y / 12 = omega arith in
+    let word : y % 12 ≡ y / 4 % 3 * 4 + y % 4 = omega arith in
+    xor-pair-at 4 y (y / 12 * 16 + y % 4) (y / 12 * 16 + 4 + y % 12) high low a (omega arith) (λ z. omega arith)
+    (rw (turn, group) (omega arith)) (rw (turn, group, word) (omega arith)) (rw (turn′, group) (omega arith)) (rw (turn′, group, word) (omega arith))
+    ∙ ap (λ (m : ℕ). xorArea m (2 * y + 1) low (xorArea m (2 * y) high a)) (sym e)
+
+pub length-xor : (m x : ℕ) (t a : List ℕ) → length (xorArea m x t a) ≡ length a
+unfolding xorArea setNibble
+length-xor m x t a = simp length-set
+
+-- ---- what a lookup that fits has
+lookups-0 : layerLookups 0 ≡ 16
+unfolding layerLookups xors
+lookups-0 = refl
+
+pub record Spreads (m long : ℕ) : Type 0 where
+  pub narrow : m ≤ 16
+  pub sized : long ≡ 256 * m
+
+pub spreads : (s : Stage) (j long : ℕ) → Fits s j long → j < 16 → Spreads (widthOf s) long
+spreads s j long f h = record { narrow = most s; sized = rw (lt-ltb j 16 h) at (f .sized) }
+  where
+    most : (s : Stage) → widthOf s ≤ 16
+    most Entry = omega arith
+    most (First r) = omega arith
+    most (Second r) = omega arith
+    most Exit = omega arith
+    most Beyond = omega arith
+
+pub record Xors (m j long : ℕ) : Type 0 where
+  pub within : XorIn m (j - 16)
+  pub sized : long ≡ 128
+
+pub xors-in : (s : Stage) (j long : ℕ) → Fits s j long → 16 ≤ j → Xors (widthOf s) j long
+xors-in s j long f h = record { within = kind s (f .within); sized = rw (le-ltb j 16 h) at (f .sized) }
+  where
+    kind : (s : Stage) → j < layerLookups (widthOf s) → XorIn (widthOf s) (j - 16)
+    kind Entry w = inl (refl, omega (arith, lookups-16))
+    kind (First r) w = inr (refl, omega (arith, lookups-4))
+    kind (Second r) w = inr (refl, omega (arith, lookups-4))
+    kind Exit w = inl (refl, omega (arith, lookups-16))
+    kind Beyond w = absurd (omega (arith, lookups-0))
+
+pub record Groups (m j : ℕ) : Type 0 where
+  pub width : (m ≡ 4) ⊎ (m ≡ 16)
+  pub below : j < 496
+
+pub groups : (s : Stage) (j long : ℕ) → Fits s j long → 16 ≤ j → Groups (widthOf s) j
+groups s j long f h =
+    ⊎-elim
+    (λ p. record { width = inr (p .0); below = omega arith })
+    (λ p. record { width = inl (p .0); below = omega arith })
+    (xors-in s j long f h .within)
+
+pub length-sums : (m : ℕ) (a : List ℕ) → length (sums m a) ≡ 16
+unfolding sums
+length-sums m a = length-tabulate 16 _
+
+-- ---- lookup j: a spread lookup, an XOR lookup, the last XOR lookup
+module _ (S : Shape) (j : ℕ) (t : List ℕ) (w : Walk) where
+  pub at-spread : j < 16
+      → lookupIn S j t w
+      ≡ record { count = suc (w .count); standing = w .standing; area = spreadArea (S .width) (S .source j) j t (w .standing) (w .area) }
+  unfolding lookupIn
+  at-spread h = rw (lt-ltb j 16 h)
+
+  pub at-xor : (x : ℕ) → j - 16 ≡ x → 16 ≤ j → (suc j ≡ layerLookups (S .width) → ⊥)
+      → lookupIn S j t w ≡ record { count = suc (w .count); standing = w .standing; area = xorArea (S .width) x t (w .area) }
+  unfolding lookupIn
+  at-xor x e h l = rw (e, le-ltb j 16 h, ne-eqb (suc j) (layerLookups (S .width)) l)
+
+  pub at-last : (x : ℕ) → j - 16 ≡ x → 16 ≤ j → suc j ≡ layerLookups (S .width)
+      → lookupIn S j t w
+      ≡ record { count = suc (w .count); standing = sums (S .width) (xorArea (S .width) x t (w .area)); area = zeroArea }
+  unfolding lookupIn
+  at-last x e h l = rw (e, le-ltb j 16 h, eq-eqb (suc j) (layerLookups (S .width)) l)
+
+-- ---- the same, from what the parts of the code left
+next : ℕ → List ℕ → List ℕ → Walk
+next n s a = record { count = suc n; standing = s; area = a }
+
+module _ (S : Shape) (j m : ℕ) (t s a : List ℕ) (e : m ≡ S .width) where
+  pub by-spread : (i : ℕ) (a′ : List ℕ) → j < 16 → i ≡ S .source j → a′ ≡ paste a (j * m) (drop (at s i * m) t) m
+      → length a′ ≡ length a → LookedUp S j t s a s a′
+  unfolding spreadArea next
+  by-spread i a′ h f g l =
+      record {
+        walk =
+            λ n.
+            at-spread S j t (record { count = n; standing = s; area = a }) h
+            ∙ ap (next n s) (ap₂ (λ (m i : ℕ). paste a (j * m) (drop (at s i * m) t) m) (sym e) (sym f) ∙ sym g);
+        kept = refl;
+        long = l;
+      }
+
+  pub by-xor : (a′ : List ℕ) → 16 ≤ j → a′ ≡ xorArea m (j - 16) t a → (suc j ≡ layerLookups m → ⊥) → LookedUp S j t s a s a′
+  unfolding next
+  by-xor a′ h g l =
+      record {
+        walk =
+            λ n.
+            at-xor S j t (record { count = n; standing = s; area = a }) (j - 16) refl h (rw e at l)
+            ∙ ap (next n s) (ap (λ (m : ℕ). xorArea m (j - 16) t a) (sym e) ∙ sym g);
+        kept = refl;
+        long = ap length g ∙ length-xor m (j - 16) t a;
+      }
+
+  pub by-last : (x s′ a′ : List ℕ) → 16 ≤ j → x ≡ xorArea m (j - 16) t a → suc j ≡ layerLookups m → s′ ≡ sums m x → a′ ≡ zeroArea
+      → length s ≡ 16 → length a ≡ 256 → LookedUp S j t s a s′ a′
+  unfolding next
+  by-last x s′ a′ h g l p q k b =
+      record {
+        walk =
+            λ n.
+            at-last S j t (record { count = n; standing = s; area = a }) (j - 16) refl h (l ∙ ap layerLookups e)
+            ∙ ap₂ (next n) (ap (λ (m : ℕ). sums m (xorArea m (j - 16) t a)) (sym e) ∙ ap (sums m) (sym g) ∙ sym p) (sym q);
+        kept = ap length p ∙ length-sums m x ∙ sym k;
+        long = ap length q ∙ length-replicate {A = ℕ} 256 0 ∙ sym b;
+      }

@@ -1,0 +1,128 @@
+// The lookups of a stage or half, one or all, in place: the standing bytes and the area are lent.
+ghost use mathlib.Core.Logic.{_⊎_};
+ghost use mathlib.Core.Path.{_≡_};
+ghost use Prim.Native.Nat.{_+_, _*_, _≤_, _<_};
+ghost use lib.ListN.{length};
+ghost use Rattle.network.specs.Lookups.{xorArea, zeroArea};
+ghost use Rattle.network.specs.Order.{xors, layerLookups};
+ghost use Rattle.network.specs.Sizes.{layerBytes};
+ghost use Rattle.network.specs.Stages.{widthOf, shapeAt, shifted};
+ghost use Rattle.lookups.specs.InPlace.{Fits, XorIn, LookedUp, spreadsIn, xorsIn, sumsIn};
+use crate::area;
+use network::stage::Stage;
+use network::stage::source_of;
+use network::stage::width_of;
+
+// All lookups of a stage or half.
+pub fn lookups_of(width: usize) -> usize
+    requires { ⌜ ((width ≡ 4) ⊎ (width ≡ 16)) ⌝ }
+    ensures { λ r. ⌜ r ≡ layerLookups width ⌝ }
+{
+    if width == 16 { 496 } else { 112 }
+}
+
+// XOR lookup x of a stage or half. Entry and exit have one group of 16 words, a half has four of 4 words.
+fn xor_in(area: &mut [u8; 256], table: &[u8], width: usize, x: usize)
+    requires { ⌜ XorIn width x × (length (now table) ≡ 128) ⌝ }
+    ensures { λ _. ⌜ now (area .exit) ≡ xorArea width x (now (table .entry)) (now (area .entry)) ⌝ }
+{
+    if width == 16 {
+        area::xor(area, table, x % 32, x + 32);
+    } else {
+        let group = x / 24 * 32;
+        area::xor(area, table, group + x % 8, group + 8 + x % 24);
+    }
+}
+
+// Lookup j of a stage or half. "The last XOR of a stage or half copies the sums to the standing bytes and zeroes the area."
+pub fn lookup_in(
+    standing: &mut [u8; 16],
+    area: &mut [u8; 256],
+    table: &[u8],
+    stage: Stage,
+    j: usize,
+)
+    requires { ⌜ Fits stage j (length (now table)) × (length (now area) ≡ 256) × (length (now standing) ≡ 16) ⌝ }
+    ensures { λ _. ⌜ LookedUp (shapeAt shifted stage) j (now (table .entry)) (now (standing .entry)) (now (area .entry)) (now (standing .exit)) (now (area .exit)) ⌝ }
+{
+    let width = width_of(stage);
+    if j < 16 {
+        let i = source_of(stage, j);
+        area::spread(area, table, width, j, standing[i]);
+        return;
+    }
+    xor_in(area, table, width, j - 16);
+    if j + 1 != lookups_of(width) {
+        return;
+    }
+    area::take_sums(standing, area, width);
+    area::clear(area);
+}
+
+// XOR lookups 2y and 2y + 1 of a stage or half, those of one byte.
+fn xor_pair_in(area: &mut [u8; 256], high: &[u8], low: &[u8], width: usize, y: usize)
+    requires { ⌜ XorIn width (2 * y + 1) × (length (now high) ≡ 128) × (length (now low) ≡ 128) × (length (now area) ≡ 256) ⌝ }
+    ensures { λ _. ⌜ now (area .exit) ≡ xorArea width (2 * y + 1) (now (low .entry)) (xorArea width (2 * y) (now (high .entry)) (now (area .entry))) ⌝ }
+{
+    if width == 16 {
+        area::xor_byte(area, high, low, y % 16, y + 16);
+    } else {
+        let group = y / 12 * 16;
+        area::xor_byte(area, high, low, group + y % 4, group + 4 + y % 12);
+    }
+}
+
+// All spread lookups of a stage or half, whose tables begin at byte `from` of the set.
+fn spread_all(standing: &[u8; 16], area: &mut [u8; 256], set: &[u8], from: usize, stage: Stage)
+    requires { ⌜ (length (now set) ≡ 770048) × (from + layerBytes (widthOf stage) ≤ 770048) × (length (now area) ≡ 256) × (length (now standing) ≡ 16) ⌝ }
+    ensures { λ _. ⌜ now (area .exit) ≡ spreadsIn (shapeAt shifted stage) (now (set .entry)) from (now (standing .entry)) 16 (now (area .entry)) ⌝ }
+    ensures { λ _. ⌜ length (now (area .exit)) ≡ 256 ⌝ }
+{
+    let width = width_of(stage);
+    let size = 256 * width;
+    let mut p = 0;
+    while p < 16 {
+        let i = source_of(stage, p);
+        let start = from + p * size;
+        let end = start + size;
+        area::spread(area, &set[start..end], width, p, standing[i]);
+        p += 1;
+    }
+}
+
+// All XOR lookups of a stage or half, whose tables begin at byte `from` of the set, behind those of the spread lookups.
+fn xor_all(area: &mut [u8; 256], set: &[u8], from: usize, width: usize)
+    requires { ⌜ (length (now set) ≡ 770048) × (from + layerBytes width ≤ 770048) × (length (now area) ≡ 256) × ((width ≡ 4) ⊎ (width ≡ 16)) ⌝ }
+    ensures { λ _. ⌜ now (area .exit) ≡ xorsIn width (now (set .entry)) from (xors width) (now (area .entry)) ⌝ }
+    ensures { λ _. ⌜ length (now (area .exit)) ≡ 256 ⌝ }
+{
+    let start = from + 4096 * width;
+    let bytes = (lookups_of(width) - 16) / 2;
+    let mut y = 0;
+    while y < bytes {
+        let high = start + y * 256;
+        let low = high + 128;
+        let end = low + 128;
+        xor_pair_in(area, &set[high..low], &set[low..end], width, y);
+        y += 1;
+    }
+}
+
+// All lookups of a stage or half, whose tables begin at byte `from` of the set.
+pub fn layer_in(
+    standing: &mut [u8; 16],
+    area: &mut [u8; 256],
+    set: &[u8],
+    from: usize,
+    stage: Stage,
+)
+    requires { ⌜ (length (now set) ≡ 770048) × (from + layerBytes (widthOf stage) ≤ 770048) × ((widthOf stage ≡ 4) ⊎ (widthOf stage ≡ 16)) × (length (now area) ≡ 256) × (length (now standing) ≡ 16) ⌝ }
+    ensures { λ _. ⌜ now (standing .exit) ≡ sumsIn (shapeAt shifted stage) (now (set .entry)) from (now (standing .entry)) (now (area .entry)) ⌝ }
+    ensures { λ _. ⌜ now (area .exit) ≡ zeroArea ⌝ }
+{
+    let width = width_of(stage);
+    spread_all(standing, area, set, from, stage);
+    xor_all(area, set, from, width);
+    area::take_sums(standing, area, width);
+    area::clear(area);
+}
