@@ -1,6 +1,2 @@
-pub mod Encodings
-pub mod Spread
-pub mod Words
-pub mod Xors
 pub mod Set
 pub mod Calls

@@ -1,4 +1,3 @@
 // The maker: one table, and the whole set.
 pub mod calls;
 mod set;
-mod table;

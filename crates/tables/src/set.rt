@@ -10,7 +10,7 @@ ghost use Rattle.network.specs.Stages.{stageOf, indexOf, tableSize};
 ghost use Rattle.whitebox.specs.Bundles.{codingsOf};
 ghost use Rattle.whitebox.specs.Parts.{forward};
 ghost use Rattle.whitebox.specs.Tables.{tableOf};
-use crate::table;
+use stages::table;
 use layers::inverses;
 use network::stage;
 

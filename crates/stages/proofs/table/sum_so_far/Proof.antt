@@ -1,8 +1,8 @@
 -- `tables::table::sum_so_far` meets its contract. Assumes nothing.
 use mathlib.Core.Path.{refl}
 use borrow.Author.Tests.{eq-eqb, ne-eqb}
-use Rattle.tables.proofs.table.sum_so_far.Statement.{statement}
-use Rattle.tables.proofs.table.sum_so_far.Tie as tie
+use Rattle.stages.proofs.table.sum_so_far.Statement.{statement}
+use Rattle.stages.proofs.table.sum_so_far.Tie as tie
 
 returns : tie.Need-returns
 returns c = rw (eq-eqb _ _ (c .if1 .taken)) refl

@@ -10,13 +10,13 @@ use Rattle.bits.proofs.laws.Words.{row-stored}
 use Rattle.bundle.specs.Format.{encodingOf}
 use Rattle.bundle.proofs.laws.Code.{product-le}
 use Rattle.entries.specs.Spread.{combined, encodedWord}
-use Rattle.tables.proofs.laws.Encodings.{whole-encodings, encodings-in}
-use Rattle.tables.proofs.laws.Spread.{spread-is}
-use Rattle.tables.proofs.laws.Words.{images-lt}
+use Rattle.stages.proofs.laws.Encodings.{whole-encodings, encodings-in}
+use Rattle.stages.proofs.laws.Spread.{spread-is}
+use Rattle.stages.proofs.laws.Words.{images-lt}
 use native.Mathlib.Omega.{arith}
 use borrow.Author.Needs.{needs}
-use Rattle.tables.proofs.table.spread_table.Statement.{statement}
-use Rattle.tables.proofs.table.spread_table.Tie as tie
+use Rattle.stages.proofs.table.spread_table.Statement.{statement}
+use Rattle.stages.proofs.table.spread_table.Tie as tie
 
 width-of-requires : tie.Need-width-of-requires
 width-of-requires c κs = search needs

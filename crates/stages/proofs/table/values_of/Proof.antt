@@ -7,14 +7,14 @@ use Rattle.bits.proofs.laws.Lists.{length-tabulate}
 use Rattle.layers.specs.Layers.{roundOf, acted, readByte}
 use Rattle.network.specs.declared.stage.Stage.{Stage}
 use Rattle.network.specs.declared.stage.Stage.the-variants.{First}
-use Rattle.tables.proofs.laws.Spread.{composed}
+use Rattle.stages.proofs.laws.Spread.{composed}
 use Rattle.whitebox.specs.Bundles.{codingsOf}
 use Rattle.whitebox.specs.Parts.{forward}
 use Rattle.whitebox.specs.Words.{substituted}
 use native.Mathlib.Omega.{arith}
 use borrow.Author.Needs.{needs}
-use Rattle.tables.proofs.table.values_of.Statement.{statement}
-use Rattle.tables.proofs.table.values_of.Tie as tie
+use Rattle.stages.proofs.table.values_of.Statement.{statement}
+use Rattle.stages.proofs.table.values_of.Tie as tie
 
 enum-known-s : tie.Need-enum-known-s
 enum-known-s c = search needs

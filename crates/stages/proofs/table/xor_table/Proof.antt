@@ -1,12 +1,12 @@
 -- `tables::table::xor_table` meets its contract. Assumes nothing.
 use mathlib.Core.Path.{_∙_}
 use Rattle.entries.specs.Encodings.{encodingIn}
-use Rattle.tables.proofs.laws.Encodings.{whole-encodings, encodings-in}
-use Rattle.tables.proofs.laws.Xors.{bounds, so-far-is, added-is, result-is, xor-is}
+use Rattle.stages.proofs.laws.Encodings.{whole-encodings, encodings-in}
+use Rattle.stages.proofs.laws.Xors.{bounds, so-far-is, added-is, result-is, xor-is}
 use native.Mathlib.Omega.{arith}
 use borrow.Author.Needs.{needs}
-use Rattle.tables.proofs.table.xor_table.Statement.{statement}
-use Rattle.tables.proofs.table.xor_table.Tie as tie
+use Rattle.stages.proofs.table.xor_table.Statement.{statement}
+use Rattle.stages.proofs.table.xor_table.Tie as tie
 
 mul-d : tie.Need-mul-d
 mul-d c = search needs

@@ -22,7 +22,7 @@ use Rattle.field.specs.Field.{mul}
 use Rattle.layers.specs.Layers.{wordNumber}
 use Rattle.layers.proofs.laws.Code.{byte-is, column-is}
 use Rattle.network.specs.declared.stage.Stage.the-variants.{Entry, First, Second, Exit}
-use Rattle.tables.proofs.laws.Spread.{entry-form, first-form, second-form, exit-form}
+use Rattle.stages.proofs.laws.Spread.{entry-form, first-form, second-form, exit-form}
 use Rattle.whitebox.specs.Bundles.{codingsOf}
 use Rattle.whitebox.specs.Parts.{forward}
 

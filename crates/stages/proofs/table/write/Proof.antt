@@ -7,11 +7,11 @@ use Rattle.network.specs.Order.{GoodWidth, xors}
 use Rattle.network.specs.Stages.{widthOf, numbersOf}
 use Rattle.network.specs.Tables.{xorTable, tableIn}
 use Rattle.network.proofs.laws.Order.{xor-in}
-use Rattle.tables.proofs.laws.Xors.{good-width, results-fit}
+use Rattle.stages.proofs.laws.Xors.{good-width, results-fit}
 use Rattle.whitebox.specs.Bundles.{codingsOf}
 use borrow.Author.Needs.{needs}
-use Rattle.tables.proofs.table.write.Statement.{statement}
-use Rattle.tables.proofs.table.write.Tie as tie
+use Rattle.stages.proofs.table.write.Statement.{statement}
+use Rattle.stages.proofs.table.write.Tie as tie
 
 spread-table-requires : tie.Need-spread-table-requires
 spread-table-requires c κs =

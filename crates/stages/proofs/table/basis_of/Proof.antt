@@ -5,13 +5,13 @@ use Rattle.bits.proofs.laws.Words.{stored-same}
 use Rattle.layers.specs.Layers.{roundOf, InverseFor, wordNumber}
 use Rattle.layers.proofs.laws.Code.{frame-of, column-part-long, output-part-long}
 use Rattle.network.specs.declared.stage.Stage.{Stage}
-use Rattle.tables.proofs.laws.Words.{entry-code, first-code, second-code, exit-code}
+use Rattle.stages.proofs.laws.Words.{entry-code, first-code, second-code, exit-code}
 use Rattle.whitebox.specs.Bundles.{codingsOf}
 use Rattle.whitebox.specs.Parts.{forward}
 use native.Mathlib.Omega.{arith}
 use borrow.Author.Needs.{needs}
-use Rattle.tables.proofs.table.basis_of.Statement.{statement}
-use Rattle.tables.proofs.table.basis_of.Tie as tie
+use Rattle.stages.proofs.table.basis_of.Statement.{statement}
+use Rattle.stages.proofs.table.basis_of.Tie as tie
 
 enum-told : tie.Need-enum-told
 enum-told c = search needs

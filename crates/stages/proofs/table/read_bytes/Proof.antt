@@ -10,10 +10,10 @@ use Rattle.bundle.specs.Format.{encodings, encodingOf}
 use Rattle.bundle.proofs.laws.Judgements.{accepted-sound}
 use Rattle.layers.specs.Layers.{readByte}
 use Rattle.network.specs.Stages.{standingNumber}
-use Rattle.tables.proofs.laws.Encodings.{whole-encodings, encodings-in}
+use Rattle.stages.proofs.laws.Encodings.{whole-encodings, encodings-in}
 use borrow.Author.Needs.{needs}
-use Rattle.tables.proofs.table.read_bytes.Statement.{statement}
-use Rattle.tables.proofs.table.read_bytes.Tie as tie
+use Rattle.stages.proofs.table.read_bytes.Statement.{statement}
+use Rattle.stages.proofs.table.read_bytes.Tie as tie
 
 source-of-requires : tie.Need-source-of-requires
 source-of-requires c κs = search needs
