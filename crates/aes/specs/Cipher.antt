@@ -1,8 +1,8 @@
 -- FIPS 197, sections 5.1 and 5.3: the cipher and the inverse cipher, of nr rounds over the round keys w. Definitions only.
 use Prim.Native.Nat.{ℕ, zero, suc, _-_}
 use mathlib.Core.List.{List}
-use Rattle.aes.specs.State.{SubBytes, ShiftRows, MixColumns, AddRoundKey, InvSubBytes, InvShiftRows, InvMixColumns}
-use Rattle.aes.specs.Key.{keyOf, KeyExpansion, roundsOf}
+use Rattle.round.specs.State.{SubBytes, ShiftRows, MixColumns, AddRoundKey, InvSubBytes, InvShiftRows, InvMixColumns}
+use Rattle.round.specs.Key.{keyOf, KeyExpansion, roundsOf}
 
 -- Rounds 1 to r, none of them the last one.
 unfoldable pub rounds : List ℕ → ℕ → List ℕ → List ℕ

@@ -1,20 +1,12 @@
 -- What is proved of the cipher, as statements. The proofs are in proofs/laws.
 use mathlib.Core.Path.{_≡_}
 use mathlib.Core.List.{List}
-use Prim.Native.Nat.{ℕ, _+_, _*_}
+use Prim.Native.Nat.{ℕ}
 use lib.ListN.{length}
 use Rattle.bits.specs.Bytes.{Bytes, Block}
-use Rattle.aes.specs.Key.{KeyExpansion, roundsOf}
 use Rattle.aes.specs.Cipher.{Cipher, InvCipher, encipherOf, decipherOf}
 use Rattle.aes.specs.Answers.{answerOf, enciphered, deciphered}
 use Rattle.aes.specs.declared.Answer.the-variants.{Done}
-
--- The round keys are bytes, and there are 4 (Nr + 1) words of them.
-abbrev pub RoundKeyBytes : Type 0
-RoundKeyBytes = (nk : ℕ) (key : List ℕ) → Bytes key → Bytes (KeyExpansion nk key)
-
-abbrev pub RoundKeyLength : Type 0
-RoundKeyLength = (nk : ℕ) (key : List ℕ) → length key ≡ 4 * nk → length (KeyExpansion nk key) ≡ 16 * (roundsOf nk + 1)
 
 -- Of any number of rounds, over any round keys that are bytes: the cipher and the inverse cipher of a block are blocks, and each
 -- undoes the other.

@@ -1,12 +1,10 @@
 // AES with a key of 128 bits, FIPS 197: the calls on slices of any length.
 mod block;
-mod key;
 mod rounds;
-mod state;
 
 use block::load;
 use block::store;
-pub use key::expand_key;
+use round::key::expand_key;
 pub use rounds::cipher;
 pub use rounds::inv_cipher;
 ghost use mathlib.Core.Path.{_≡_};

@@ -1,11 +1,11 @@
 // The cipher and the inverse cipher of ten rounds: FIPS 197, sections 5.1 and 5.3.
-use crate::state::add_round_key;
-use crate::state::inv_mix_columns;
-use crate::state::inv_shift_rows;
-use crate::state::inv_sub_bytes;
-use crate::state::mix_columns;
-use crate::state::shift_rows;
-use crate::state::sub_bytes;
+use round::state::add_round_key;
+use round::state::inv_mix_columns;
+use round::state::inv_shift_rows;
+use round::state::inv_sub_bytes;
+use round::state::mix_columns;
+use round::state::shift_rows;
+use round::state::sub_bytes;
 ghost use mathlib.Core.Path.{_≡_};
 ghost use Rattle.aes.specs.Cipher.{Cipher, InvCipher};
 

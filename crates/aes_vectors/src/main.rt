@@ -41,7 +41,7 @@ fn tell(a: Answer) {
 
 // The lines of one record.
 fn vector(key: [u8; 16], block: [u8; 16]) {
-    let w = aes::expand_key(key);
+    let w = round::key::expand_key(key);
     show(&w);
     let mut enciphered = [0u8; 16];
     aes::encipher(&key, &block, &mut enciphered);

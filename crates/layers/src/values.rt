@@ -5,7 +5,7 @@ ghost use Prim.Native.Nat.{ℕ, _+_, _*_, _/_, _%_, _<_, _≤_};
 ghost use lib.Bits.{bitXor};
 ghost use lib.Dec.{eqb};
 ghost use lib.ListN.{length};
-ghost use Rattle.aes.specs.Key.{keyOf};
+ghost use Rattle.round.specs.Key.{keyOf};
 ghost use Rattle.bits.specs.Lists.{at, tabulate};
 ghost use Rattle.bits.specs.Matrices.{product};
 ghost use Rattle.bits.specs.Words.{rowsOf};

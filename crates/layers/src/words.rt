@@ -2,7 +2,7 @@
 ghost use mathlib.Core.Path.{_≡_};
 ghost use Prim.Native.Nat.{_+_, _*_, _^_, _<_, _≤_};
 ghost use lib.ListN.{length};
-ghost use Rattle.aes.specs.State.{mixRows, entry};
+ghost use Rattle.round.specs.State.{mixRows, entry};
 ghost use Rattle.bits.specs.Bytes.{number, byte, placed};
 ghost use Rattle.bits.specs.Matrices.{product, matrixOf};
 ghost use Rattle.bits.specs.Words.{value, rowsOf, stored};

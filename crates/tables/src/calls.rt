@@ -69,7 +69,7 @@ fn fill_set(key: &[u8], bundle: &[u8], memory: &mut [u8])
     requires { ⌜ (length (now key) ≡ 16) × (judge 10 (now bundle) ≡ Accepted) × (length (now memory) ≡ 770048) ⌝ }
     ensures { λ _. ⌜ now (memory .exit) ≡ madeSet 4 (now (key .entry)) (now (bundle .entry)) ⌝ }
 {
-    let keys = aes::expand_key(key_of(key));
+    let keys = round::key::expand_key(key_of(key));
     let mut columns = [0u64; 2304];
     let mut input = [0u64; 256];
     inverses::of_columns(bundle, &mut columns);
@@ -82,7 +82,7 @@ fn fill_table(key: &[u8], bundle: &[u8], n: usize, memory: &mut [u8])
     requires { ⌜ (length (now key) ≡ 16) × (judge 10 (now bundle) ≡ Accepted) × (n < 3008) × (length (now memory) ≡ tableSize 10 n) ⌝ }
     ensures { λ _. ⌜ now (memory .exit) ≡ madeTable 4 (now (key .entry)) (now (bundle .entry)) n ⌝ }
 {
-    let keys = aes::expand_key(key_of(key));
+    let keys = round::key::expand_key(key_of(key));
     let place = stage::place_of(n);
     let s = place.stage;
     let j = place.index;

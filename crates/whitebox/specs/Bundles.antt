@@ -4,7 +4,7 @@ use mathlib.Core.Bool.{cond}
 use mathlib.Core.List.{List}
 use Prim.Native.Nat.{ℕ}
 use lib.Dec.{ltb}
-use Rattle.aes.specs.Key.{KeyExpansion, roundsOf}
+use Rattle.round.specs.Key.{KeyExpansion, roundsOf}
 use Rattle.bits.specs.Lists.{tabulate}
 use Rattle.bits.specs.Matrices.{identity}
 use Rattle.bundle.specs.Format.{encodings, byteMatrices, columnMatrices, encodingOf, byteMatrix, columnMatrix, inputMatrix, outputMatrix}

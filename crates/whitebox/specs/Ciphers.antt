@@ -3,8 +3,8 @@ use mathlib.Core.List.{List}
 use mathlib.Core.Path.{_≡_}
 use Prim.Native.Nat.{ℕ, _≤_, _<_}
 use Rattle.aes.specs.Cipher.{rounds, Cipher}
-use Rattle.aes.specs.Key.{keyOf}
-use Rattle.aes.specs.State.{AddRoundKey}
+use Rattle.round.specs.Key.{keyOf}
+use Rattle.round.specs.State.{AddRoundKey}
 use Rattle.bits.specs.Bytes.{Bytes}
 use Rattle.whitebox.specs.Parts.{Fine, forward}
 use Rattle.whitebox.specs.States.{stateAfter, result}

@@ -5,7 +5,7 @@ use mathlib.Core.Path.{_≡_}
 use Prim.Native.Nat.{ℕ, _*_}
 use lib.ListN.{length}
 use Rattle.aes.specs.Cipher.{encipherOf, decipherOf}
-use Rattle.aes.specs.Key.{roundsOf}
+use Rattle.round.specs.Key.{roundsOf}
 use Rattle.bits.specs.Bytes.{Bytes, Block}
 use Rattle.bundle.specs.Judge.{judge}
 use Rattle.bundle.specs.declared.answer.Judgement.the-variants.{Accepted}

@@ -5,7 +5,7 @@ use mathlib.Core.Path.{_≡_}
 use Prim.Native.Nat.{ℕ, _*_, _≤_, _<_}
 use lib.ListN.{length}
 use Rattle.aes.specs.Cipher.{encipherOf}
-use Rattle.aes.specs.Key.{roundsOf}
+use Rattle.round.specs.Key.{roundsOf}
 use Rattle.bits.specs.Bytes.{Bytes}
 use Rattle.bits.specs.Nibbles.{nibble}
 use Rattle.bundle.specs.Judge.{judge}

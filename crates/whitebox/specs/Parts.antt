@@ -3,8 +3,8 @@ use mathlib.Core.Bool.{cond}
 use mathlib.Core.List.{List}
 use Prim.Native.Nat.{ℕ, _-_, _<_}
 use lib.Dec.{eqb}
-use Rattle.aes.specs.Key.{keyOf}
-use Rattle.aes.specs.State.{entry, mixRows}
+use Rattle.round.specs.Key.{keyOf}
+use Rattle.round.specs.State.{entry, mixRows}
 use Rattle.bits.specs.Lists.{at}
 use Rattle.field.specs.Sbox.{sboxOf}
 use Rattle.network.specs.Stages.{shifted}

@@ -12,7 +12,7 @@ use denote.Enum.Declared.{tagOf}
 use types.Run.{OneOf}
 use borrow.Author.Tests.{eq-eqb, ne-eqb, eqb-true}
 use Rattle.bits.specs.Bytes.{Bytes, Block}
-use Rattle.aes.specs.Key.{KeyExpansion}
+use Rattle.round.specs.Key.{KeyExpansion}
 use Rattle.aes.specs.Cipher.{encipherOf, decipherOf}
 use Rattle.aes.specs.Answers.{unless, outcome, answerOf, enciphered, deciphered}
 use Rattle.aes.specs.Theorems.{ThereAndBack, BackAndThere}

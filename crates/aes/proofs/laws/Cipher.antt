@@ -4,13 +4,13 @@ use mathlib.Core.Path.{_≡_, refl, ap, _∙_}
 use mathlib.Core.List.{List}
 use Prim.Native.Nat.{ℕ, zero, suc, _-_}
 use Rattle.bits.specs.Bytes.{Bytes, Block}
-use Rattle.aes.specs.State.{SubBytes, ShiftRows, MixColumns, AddRoundKey, InvSubBytes, InvShiftRows, InvMixColumns}
-use Rattle.aes.specs.Key.{keyOf, KeyExpansion, roundsOf}
+use Rattle.round.specs.State.{SubBytes, ShiftRows, MixColumns, AddRoundKey, InvSubBytes, InvShiftRows, InvMixColumns}
+use Rattle.round.specs.Key.{keyOf, KeyExpansion, roundsOf}
 use Rattle.aes.specs.Cipher.{rounds, Cipher, invRounds, InvCipher, encipherOf, decipherOf}
 use Rattle.aes.specs.Theorems.{CipherBlock, InvCipherBlock, InvCipherCipher, CipherInvCipher, DecipherEncipher, EncipherDecipher}
-use Rattle.aes.proofs.laws.State.{sub-block, inv-sub-block, inv-sub, sub-inv, shift-block, inv-shift-block, inv-shift, shift-inv, add-block, add-back}
-use Rattle.aes.proofs.laws.Mix.{mix-block, inv-mix-block, inv-mix, mix-inv}
-use Rattle.aes.proofs.laws.Key.{key-bytes, round-key-bytes}
+use Rattle.round.proofs.laws.State.{sub-block, inv-sub-block, inv-sub, sub-inv, shift-block, inv-shift-block, inv-shift, shift-inv, add-block, add-back}
+use Rattle.round.proofs.laws.Mix.{mix-block, inv-mix-block, inv-mix, mix-inv}
+use Rattle.round.proofs.laws.Key.{key-bytes, round-key-bytes}
 
 -- The first two steps of a round, and what undoes them.
 first : List ℕ → List ℕ

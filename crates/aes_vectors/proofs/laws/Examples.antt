@@ -5,8 +5,8 @@ use Rattle.bits.specs.Lists.{tabulate}
 use Rattle.bits.specs.Groups.{xorAll}
 use Rattle.field.specs.Field.{xtime, times, mul, squares, inverse}
 use Rattle.field.specs.Sbox.{turn, affine, sboxOf}
-use Rattle.aes.specs.State.{state, SubBytes, ShiftRows, MixColumns, mixBy, mixRows, AddRoundKey}
-use Rattle.aes.specs.Key.{rcon, wordAt, RotWord, SubWord, xorWord, Rcon, temp, nextWord, expand, KeyExpansion, keyOf}
+use Rattle.round.specs.State.{state, SubBytes, ShiftRows, MixColumns, mixBy, mixRows, AddRoundKey}
+use Rattle.round.specs.Key.{rcon, wordAt, RotWord, SubWord, xorWord, Rcon, temp, nextWord, expand, KeyExpansion, keyOf}
 use Rattle.aes.specs.Cipher.{rounds, Cipher, encipherOf}
 use Rattle.aes_vectors.specs.Examples.{block, key, Examples}
 

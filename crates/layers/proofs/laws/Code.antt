@@ -14,7 +14,7 @@ use lib.Dec.{eqb}
 use lib.ListN.{length, take, drop, set, replicate, length-append, length-replicate, getD-replicate}
 use lib.Pow.{pow-lt}
 use lib.Seq.{getD-take, getD-drop, getD-set-same, getD-set-other, take-at, drop-at, length-take-le}
-use Rattle.aes.specs.Key.{keyOf}
+use Rattle.round.specs.Key.{keyOf}
 use Rattle.bits.specs.Bytes.{Bytes, number, placed}
 use Rattle.bits.specs.Elimination.{Inversion, inverse, singular, invert, rowsIn, inverseOf}
 use Rattle.bits.specs.Groups.{joined}

@@ -8,7 +8,7 @@ use native.Mathlib.Nat.{zero-mul, one-mul}
 use native.Mathlib.Omega.{arith}
 use lib.Bits.{bitXor, xor-self, xor-zero-l, xor-zero-r}
 use lib.Dec.{eqb, eqb→eq}
-use Rattle.aes.specs.State.{mixRows, entry}
+use Rattle.round.specs.State.{mixRows, entry}
 use Rattle.bits.specs.Bytes.{number, byte, placed}
 use Rattle.bits.specs.Groups.{joined, group, xorAll}
 use Rattle.bits.specs.Lists.{at}

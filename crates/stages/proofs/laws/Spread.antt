@@ -8,7 +8,7 @@ use native.Mathlib.Nat.{div-add-mod', div-lt-iff-lt-mul, mod-lt}
 use native.Mathlib.Omega.{arith}
 use lib.ListN.{length, take}
 use lib.Seq.{getD-take}
-use Rattle.aes.specs.State.{mixRows, entry}
+use Rattle.round.specs.State.{mixRows, entry}
 use Rattle.bits.specs.Bytes.{Bytes, number, numberOf, byte, bytesOf, placed}
 use Rattle.bits.specs.Elimination.{inverseOf}
 use Rattle.bits.specs.Encodings.{encode, decode, imagesOf}

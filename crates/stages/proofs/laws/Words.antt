@@ -6,7 +6,7 @@ use Prim.Native.Nat.{ℕ, suc, _+_, _-_, _*_, _/_, _%_, _≤_, _<_}
 use native.Mathlib.Omega.{arith}
 use lib.ListN.{length, take}
 use lib.Seq.{getD-take}
-use Rattle.aes.specs.State.{mixRows, entry}
+use Rattle.round.specs.State.{mixRows, entry}
 use Rattle.bits.specs.Bytes.{Bytes, number, byte, placed}
 use Rattle.bits.specs.Elimination.{inverseOf}
 use Rattle.bits.specs.Lists.{at, concat}

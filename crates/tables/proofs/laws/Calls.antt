@@ -10,7 +10,7 @@ use denote.Enum.Declared.{tagOf}
 use types.Run.{OneOf}
 use borrow.Author.Tests.{eq-eqb, ne-eqb, eqb-true, lt-ltb, le-ltb}
 use lib.Dec.{eqb}
-use Rattle.aes.specs.Key.{KeyExpansion}
+use Rattle.round.specs.Key.{KeyExpansion}
 use Rattle.bits.specs.Lists.{concat}
 use Rattle.bundle.specs.Judge.{judge}
 use Rattle.bundle.specs.declared.answer.Judgement.{Judgement}

@@ -10,9 +10,9 @@ use borrow.Author.Tests.{lt-ltb, le-ltb}
 use lib.Bits.{bitXor, xor-zero-r}
 use lib.Dec.{ltb, lit<}
 use lib.ListN.{length, replicate, length-append, List·getD-append}
-use Rattle.aes.specs.Key.{KeyExpansion, expand, nextWord}
-use Rattle.aes.specs.State.{mixRows}
-use Rattle.aes.proofs.laws.Key.{key-at}
+use Rattle.round.specs.Key.{KeyExpansion, expand, nextWord}
+use Rattle.round.specs.State.{mixRows}
+use Rattle.round.proofs.laws.Key.{key-at}
 use Rattle.bits.specs.Bytes.{bytesOf}
 use Rattle.bits.specs.Encodings.{encode, decode}
 use Rattle.bits.specs.Groups.{joined, group}

@@ -9,9 +9,9 @@ use native.Mathlib.Omega.{arith}
 use borrow.Author.Tests.{eq-eqb, ne-eqb}
 use lib.ListN.{length, take, drop, replicate}
 use Rattle.aes.specs.Cipher.{encipherOf, decipherOf}
-use Rattle.aes.specs.Key.{KeyExpansion, roundsOf}
+use Rattle.round.specs.Key.{KeyExpansion, roundsOf}
 use Rattle.aes.proofs.laws.Cipher.{encipher-block, decipher-encipher}
-use Rattle.aes.proofs.laws.Key.{round-key-bytes}
+use Rattle.round.proofs.laws.Key.{round-key-bytes}
 use Rattle.bits.specs.Bytes.{Bytes, Block}
 use Rattle.bits.specs.Elimination.{inverseOf}
 use Rattle.bits.specs.Encodings.{encode, decode}

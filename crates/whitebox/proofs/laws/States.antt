@@ -11,10 +11,10 @@ use lib.Bits.{bitXor, xor-lt, xor-zero-r}
 use lib.Dec.{T, eqb, ltb, ltb→lt, lit<}
 use lib.ListN.{length}
 use Rattle.aes.specs.Cipher.{rounds, Cipher}
-use Rattle.aes.specs.Key.{keyOf}
-use Rattle.aes.specs.State.{cell, state, entry, mixRows, mixBy, SubBytes, ShiftRows, MixColumns, AddRoundKey}
-use Rattle.aes.proofs.laws.Key.{key-bytes}
-use Rattle.aes.proofs.laws.State.{place}
+use Rattle.round.specs.Key.{keyOf}
+use Rattle.round.specs.State.{cell, state, entry, mixRows, mixBy, SubBytes, ShiftRows, MixColumns, AddRoundKey}
+use Rattle.round.proofs.laws.Key.{key-bytes}
+use Rattle.round.proofs.laws.State.{place}
 use Rattle.bits.specs.Bytes.{Bytes, Block}
 use Rattle.bits.specs.Groups.{xorAll}
 use Rattle.bits.specs.Lists.{at, tabulate}

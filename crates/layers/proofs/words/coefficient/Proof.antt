@@ -1,6 +1,6 @@
 -- `layers::words::coefficient` meets its contract. Assumes nothing.
 use mathlib.Core.Path.{refl}
-use Rattle.aes.specs.State.{mixRows}
+use Rattle.round.specs.State.{mixRows}
 use borrow.Author.Needs.{needs}
 use Rattle.layers.proofs.words.coefficient.Statement.{statement}
 use Rattle.layers.proofs.words.coefficient.Tie as tie

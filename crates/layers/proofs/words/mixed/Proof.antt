@@ -2,7 +2,7 @@
 use mathlib.Core.Path.{_≡_, refl, ap, _∙_}
 use Prim.Native.Nat.{ℕ, _-_, _≤_}
 use lib.ListN.{length, take, length-set}
-use Rattle.aes.specs.State.{mixRows, entry}
+use Rattle.round.specs.State.{mixRows, entry}
 use Rattle.bits.specs.Lists.{tabulate}
 use Rattle.bits.proofs.laws.Lists.{fill-more}
 use Rattle.field.specs.Field.{mul}

@@ -3,7 +3,7 @@ use mathlib.Core.List.{List}
 use mathlib.Core.Path.{_≡_, refl, sym, ap, ap₂, _∙_}
 use Prim.Native.Nat.{ℕ, _+_, _-_, _*_, _^_, _≤_}
 use lib.ListN.{length}
-use Rattle.aes.specs.State.{mixRows, entry}
+use Rattle.round.specs.State.{mixRows, entry}
 use Rattle.bits.specs.Bytes.{number}
 use Rattle.bits.specs.Matrices.{product, matrixOf}
 use Rattle.bits.specs.Words.{setRow, stored}

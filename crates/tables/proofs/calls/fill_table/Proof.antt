@@ -1,7 +1,7 @@
 -- `tables::calls::fill_table` meets its contract. Assumes nothing.
 use mathlib.Core.Path.{sym, ap, _∙_, subst}
 use Prim.Native.Nat.{_≤_, _<_}
-use Rattle.aes.specs.Key.{KeyExpansion}
+use Rattle.round.specs.Key.{KeyExpansion}
 use Rattle.layers.specs.Layers.{roundOf, InverseFor}
 use Rattle.network.specs.declared.stage.Place.{Place}
 use Rattle.tables.proofs.laws.Calls.{one-is}

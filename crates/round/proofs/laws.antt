@@ -1,0 +1,4 @@
+pub mod State
+pub mod Mix
+pub mod Key
+pub mod Expansion

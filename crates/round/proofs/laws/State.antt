@@ -1,0 +1,134 @@
+-- Laws, not definitions: of states by their cells, and of SubBytes, ShiftRows and AddRoundKey and what undoes them.
+-- Assumes nothing.
+use mathlib.Core.Path.{_≡_, ap, ap₂, _∙_}
+use mathlib.Core.List.{List}
+use Prim.Native.Nat.{ℕ, _+_, _-_, _*_, _/_, _%_, _<_}
+use native.Mathlib.Omega.{arith}
+use lib.Dec.{lit<}
+use lib.Bits.{bitXor, xor-lt}
+use lib.ListN.{length, set}
+use native.Mathlib.Nat.{le-of-lt, lt-of-le-of-lt, mul-le-mul-left}
+use Rattle.bits.specs.Lists.{at}
+use Rattle.bits.specs.Bytes.{Bytes, Block}
+use Rattle.bits.proofs.laws.Lists.{length-tabulate, at-tabulate, tabulate-ext, tabulate-at, tabulate-below}
+use Rattle.bits.proofs.laws.Xor.{xor-back}
+use Rattle.field.specs.Sbox.{sboxOf, invSboxOf}
+use Rattle.bits.proofs.laws.Filled.{Filled, filled-more}
+use Rattle.field.proofs.laws.Sbox.{sbox-lt, inv-sbox-lt, inv-sbox-sbox, sbox-inv-sbox}
+use Rattle.round.specs.State.{cell, state, SubBytes, ShiftRows, AddRoundKey, InvSubBytes, InvShiftRows}
+
+-- ---- The cells of a state.
+pub cell-state : (f : ℕ → ℕ → ℕ) (r c : ℕ) → r < 4 → c < 4 → cell (state f) r c ≡ f r c
+unfolding state
+cell-state f r c hr hc =
+    let p : (r + 4 * c) % 4 ≡ r = omega arith in
+    let q : (r + 4 * c) / 4 ≡ c = omega arith in
+    at-tabulate 16 (λ i. f (i % 4) (i / 4)) (r + 4 * c) (omega arith) ∙ ap₂ f p q
+
+pub state-ext : (f g : ℕ → ℕ → ℕ) → ((r c : ℕ) → r < 4 → c < 4 → f r c ≡ g r c) → state f ≡ state g
+unfolding state
+state-ext f g h =
+    tabulate-ext 16 (λ i. f (i % 4) (i / 4)) (λ i. g (i % 4) (i / 4)) (λ i l. h (i % 4) (i / 4) (omega arith) (omega arith))
+
+-- The place of byte i.
+pub place : (i : ℕ) → i ≡ i % 4 + 4 * (i / 4)
+place i = omega arith
+
+pub state-cells : (s : List ℕ) → length s ≡ 16 → state (cell s) ≡ s
+unfolding state
+state-cells s e =
+    tabulate-ext 16 (λ i. cell s (i % 4) (i / 4)) (at s) (λ i l. let p : i % 4 + 4 * (i / 4) ≡ i = omega arith in ap (at s) p)
+    ∙ tabulate-at 16 s e
+
+-- A state that is s cell by cell.
+pub is-block : (f : ℕ → ℕ → ℕ) (s : List ℕ) → length s ≡ 16 → ((r c : ℕ) → r < 4 → c < 4 → f r c ≡ cell s r c) → state f ≡ s
+is-block f s e h = state-ext f (cell s) h ∙ state-cells s e
+
+-- A state of bytes.
+pub block : (f : ℕ → ℕ → ℕ) → ((r c : ℕ) → r < 4 → c < 4 → f r c < 256) → Block (state f)
+unfolding state
+block f h =
+    record {
+      long = length-tabulate 16 _;
+      bytes = tabulate-below 256 16 _ (lit< tt) (λ i l. h (i % 4) (i / 4) (omega arith) (omega arith));
+    }
+
+-- ---- A function of each byte.
+each-block : (f : ℕ → ℕ) → ((x : ℕ) → x < 256 → f x < 256) → (s : List ℕ) → Block s → Block (state (λ r c. f (cell s r c)))
+each-block f h s b = block _ (λ r c p q. h (cell s r c) (b .bytes (r + 4 * c)))
+
+each-back : (f g : ℕ → ℕ) → ((x : ℕ) → x < 256 → g (f x) ≡ x) → (s : List ℕ) → Block s
+    → state (λ r c. g (cell (state (λ i j. f (cell s i j))) r c)) ≡ s
+each-back f g h s b =
+    is-block _ s (b .long) (λ r c p q. ap g (cell-state (λ i j. f (cell s i j)) r c p q) ∙ h (cell s r c) (b .bytes (r + 4 * c)))
+
+-- A loop that fills a state so.
+pub each-more : (f : ℕ → ℕ) (s : List ℕ) {t : List ℕ} {i v : ℕ} → Filled 16 (λ k. f (cell s (k % 4) (k / 4))) t i → i < 16 → v ≡ f (at s i)
+    → Filled 16 (λ k. f (cell s (k % 4) (k / 4))) (set t i v) (i + 1)
+each-more f s {i = i} g h e =
+    let p : i ≡ i % 4 + 4 * (i / 4) = omega arith in
+    filled-more g h (e ∙ ap (λ (k : ℕ). f (at s k)) p)
+
+pub sub-block : (s : List ℕ) → Block s → Block (SubBytes s)
+unfolding SubBytes
+sub-block = each-block sboxOf sbox-lt
+
+pub inv-sub-block : (s : List ℕ) → Block s → Block (InvSubBytes s)
+unfolding InvSubBytes
+inv-sub-block = each-block invSboxOf inv-sbox-lt
+
+pub inv-sub : (s : List ℕ) → Block s → InvSubBytes (SubBytes s) ≡ s
+unfolding SubBytes InvSubBytes
+inv-sub = each-back sboxOf invSboxOf inv-sbox-sbox
+
+pub sub-inv : (s : List ℕ) → Block s → SubBytes (InvSubBytes s) ≡ s
+unfolding SubBytes InvSubBytes
+sub-inv = each-back invSboxOf sboxOf sbox-inv-sbox
+
+-- ---- Bytes that change their columns.
+turned-back : (f g : ℕ → ℕ → ℕ) → ((r c : ℕ) → r < 4 → c < 4 → (g r c < 4) × (f r (g r c) ≡ c)) → (s : List ℕ) → length s ≡ 16
+    → state (λ r c. cell (state (λ i j. cell s i (f i j))) r (g r c)) ≡ s
+turned-back f g h s e =
+    is-block _ s e
+    (λ r c p q. cell-state (λ i j. cell s i (f i j)) r (g r c) p (h r c p q .0) ∙ ap (cell s r) (h r c p q .1))
+
+-- A number of places as the code has it.
+pub turn-lt : (by r : ℕ) → by < 4 → r < 4 → by * r < 16
+turn-lt by r h l = lt-of-le-of-lt (mul-le-mul-left by (le-of-lt l)) (omega arith)
+
+pub turn-left : (s : List ℕ) → state (λ r c. cell s r ((c + 1 * r) % 4)) ≡ ShiftRows s
+unfolding ShiftRows
+turn-left s = state-ext _ _ (λ r c p q. ap (cell s r) (omega arith))
+
+pub turn-right : (s : List ℕ) → state (λ r c. cell s r ((c + 3 * r) % 4)) ≡ InvShiftRows s
+unfolding InvShiftRows
+turn-right s = state-ext _ _ (λ r c p q. ap (cell s r) (omega arith))
+
+pub shift-block : (s : List ℕ) → Block s → Block (ShiftRows s)
+unfolding ShiftRows
+shift-block s b = block _ (λ r c p q. b .bytes (r + 4 * ((c + r) % 4)))
+
+pub inv-shift-block : (s : List ℕ) → Block s → Block (InvShiftRows s)
+unfolding InvShiftRows
+inv-shift-block s b = block _ (λ r c p q. b .bytes (r + 4 * ((c + (4 - r)) % 4)))
+
+pub inv-shift : (s : List ℕ) → length s ≡ 16 → InvShiftRows (ShiftRows s) ≡ s
+unfolding ShiftRows InvShiftRows
+inv-shift = turned-back (λ r c. (c + r) % 4) (λ r c. (c + (4 - r)) % 4) (λ r c p q. (omega arith, omega arith))
+
+pub shift-inv : (s : List ℕ) → length s ≡ 16 → ShiftRows (InvShiftRows s) ≡ s
+unfolding ShiftRows InvShiftRows
+shift-inv = turned-back (λ r c. (c + (4 - r)) % 4) (λ r c. (c + r) % 4) (λ r c p q. (omega arith, omega arith))
+
+-- ---- AddRoundKey.
+pub add-block : (s k : List ℕ) → Block s → Bytes k → Block (AddRoundKey s k)
+unfolding AddRoundKey
+add-block s k b l = block _ (λ r c p q. xor-lt 8 (cell s r c) (cell k r c) (b .bytes (r + 4 * c)) (l (r + 4 * c)))
+
+pub add-back : (s k : List ℕ) → length s ≡ 16 → AddRoundKey (AddRoundKey s k) k ≡ s
+unfolding AddRoundKey
+add-back s k e =
+    is-block _ s e
+    (λ r c p q.
+    ap (λ (z : ℕ). bitXor z (cell k r c)) (cell-state (λ i j. bitXor (cell s i j) (cell k i j)) r c p q)
+    ∙ xor-back (cell s r c) (cell k r c))

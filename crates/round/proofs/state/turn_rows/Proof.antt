@@ -1,0 +1,67 @@
+-- `aes::state::turn_rows` meets its contract: byte after byte, from the column that the row is turned by. Assumes nothing.
+use mathlib.Core.Path.{refl}
+use Prim.Native.Nat.{_+_, _-_, _*_, _/_, _%_}
+use Rattle.bits.proofs.laws.Filled.{Filled, filled-none, filled-more, filled-all}
+use Rattle.round.specs.State.{cell, state}
+use Rattle.round.proofs.laws.State.{turn-lt}
+use native.Mathlib.Omega.{arith}
+use Rattle.round.proofs.state.turn_rows.Statement.{statement}
+use Rattle.round.proofs.state.turn_rows.Tie as tie
+
+abbrev Inv-loop : tie.InvT-loop
+Inv-loop by s t₀ i₀ t i = Filled 16 (λ k. cell s (k % 4) ((k / 4 + by * (k % 4)) % 4)) t i
+
+abbrev μ-loop : tie.MeasureT-loop
+μ-loop by s t₀ i₀ t i = 16 - i
+
+loop-holds : tie.Need-loop-holds Inv-loop μ-loop
+loop-holds c = filled-none 16 _ _ refl
+
+mul-t : tie.Need-mul-t Inv-loop μ-loop
+mul-t c = omega (arith, turn-lt (c .before .before .args .by) (c .before .loop .i % 4) (c .before .before .pre) (omega arith))
+
+add-t : tie.Need-add-t Inv-loop μ-loop
+add-t c = omega (arith, turn-lt (c .before .before .args .by) (c .before .loop .i % 4) (c .before .before .pre) (omega arith))
+
+mul-t-2 : tie.Need-mul-t-2 Inv-loop μ-loop
+mul-t-2 c = omega arith
+
+add-t-2 : tie.Need-add-t-2 Inv-loop μ-loop
+add-t-2 c = omega arith
+
+array-read-t : tie.Need-array-read-t Inv-loop μ-loop
+array-read-t c = omega arith
+
+array-write-t : tie.Need-array-write-t Inv-loop μ-loop
+array-write-t c = omega arith
+
+add-i : tie.Need-add-i Inv-loop μ-loop
+add-i c = omega arith
+
+loop-less : tie.Need-loop-less Inv-loop μ-loop
+loop-less c = omega arith
+
+loop-again : tie.Need-loop-again Inv-loop μ-loop
+loop-again c = filled-more (c .before .loop .inv) (omega arith) refl
+
+returns : tie.Need-returns Inv-loop μ-loop
+unfolding state
+returns c = filled-all (c .before .loop .inv) (omega arith)
+
+pub turn-rows-spec : {M : Type 1} → statement M
+turn-rows-spec =
+    tie.close
+    (tie.spec
+    Inv-loop
+    μ-loop
+    loop-holds
+    mul-t
+    add-t
+    mul-t-2
+    add-t-2
+    array-read-t
+    array-write-t
+    add-i
+    loop-less
+    loop-again
+    returns)
