@@ -5,13 +5,7 @@ pub mod Checked
 pub mod XorAll
 pub mod Groups
 pub mod Vectors
-pub mod Matrices
-pub mod Elimination
-pub mod Inverses
 pub mod Words
-pub mod Work
 pub mod Bytes
 pub mod Nibbles
 pub mod Encodings
-pub mod Products
-pub mod Cases

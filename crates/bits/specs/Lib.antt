@@ -2,12 +2,6 @@ pub mod Lists
 pub mod Groups
 pub mod Vectors
 pub mod Bytes
-pub mod Matrices
-pub mod Products
-pub mod Elimination
-pub mod Inverses
 pub mod Nibbles
 pub mod Encodings
 pub mod Words
-pub mod Work
-pub mod Cases

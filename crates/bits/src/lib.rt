@@ -1,4 +1,2 @@
-// Bit vectors and bit matrices of up to 128 rows: one code for every width. The definitions are those of specs/.
-mod elimination;
-pub mod matrix;
+// Bit vectors of up to 128 bits: one code for every width. The definitions are those of specs/.
 pub mod vector;

@@ -9,7 +9,7 @@ use lib.ListN.{length, take, drop}
 use Rattle.bits.specs.Bytes.{number}
 use Rattle.bits.specs.Encodings.{imagesOf}
 use Rattle.bits.specs.Lists.{at}
-use Rattle.bits.specs.Matrices.{matrixOf}
+use Rattle.matrices.specs.Matrices.{matrixOf}
 use Rattle.bundle.specs.Refusals.{unless, unlessAt}
 use Rattle.bundle.specs.Search.{first}
 use Rattle.bundle.specs.declared.answer.Judgement.{Judgement}

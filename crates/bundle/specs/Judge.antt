@@ -4,11 +4,11 @@ use mathlib.Core.Bool.{Bool, false, not, _||_}
 use mathlib.Core.List.{List}
 use Prim.Native.Nat.{ℕ, zero, suc, _*_}
 use lib.Dec.{eqb}
-use Rattle.bits.specs.Elimination.{invert}
+use Rattle.matrices.specs.Elimination.{invert}
 use Rattle.bits.specs.Encodings.{imagesOf}
 use Rattle.bits.specs.Lists.{at}
-use Rattle.bits.specs.Matrices.{matrixOf}
-use Rattle.bits.specs.Words.{hasInverse}
+use Rattle.matrices.specs.Matrices.{matrixOf}
+use Rattle.matrices.specs.Rows.{hasInverse}
 use Rattle.bundle.specs.Format.{encodings, byteMatrices, columnMatrices, frame, encodingPart, byteMatrixPart, columnMatrixPart, inputMatrixPart, outputMatrixPart}
 use Rattle.bundle.specs.Refusals.{unless, unlessAt, andThen}
 use Rattle.bundle.specs.Search.{first}

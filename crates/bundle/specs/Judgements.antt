@@ -5,7 +5,7 @@ use Prim.Native.Nat.{ℕ, _+_, _*_, _≤_, _<_}
 use lib.ListN.{length, take, drop}
 use Rattle.bits.specs.Bytes.{Bytes}
 use Rattle.bits.specs.Encodings.{Permutation}
-use Rattle.bits.specs.Matrices.{Invertible}
+use Rattle.matrices.specs.Matrices.{Invertible}
 use Rattle.bundle.specs.Format.{encodings, byteMatrices, columnMatrices, partCount, partSize, sectionLength, shortest, longest, offset, PairRight, partAt, encodingOf, byteMatrix, columnMatrix, inputMatrix, outputMatrix}
 use Rattle.bundle.specs.Judge.{judge}
 use Rattle.bundle.specs.Refusals.{causeOf}

@@ -10,7 +10,7 @@ ghost use Rattle.bundle.specs.Format.{partOf};
 ghost use Rattle.bundle.specs.Judge.{noPermutation, noInverse};
 ghost use Rattle.bundle.specs.Search.{first};
 use crate::answer::Found;
-use bits::matrix;
+use matrices::matrix;
 
 // Image x is marked in `seen`, whose bit x says so.
 fn marked(seen: u64, x: u8) -> bool

@@ -7,10 +7,11 @@ ghost use lib.Bits.{bitXor};
 ghost use Rattle.bits.specs.Bytes.{bytesOf};
 ghost use Rattle.bits.specs.Lists.{at, tabulate, concat};
 ghost use Rattle.bits.specs.Nibbles.{pack};
-ghost use Rattle.bits.specs.Words.{value, rowAt};
+ghost use Rattle.bits.specs.Words.{value};
+ghost use Rattle.matrices.specs.Rows.{rowAt};
 ghost use Rattle.entries.specs.Spread.{combined, encodedBytes, encodedWord, nibbleByte, summed};
 use crate::lists;
-use bits::matrix;
+use matrices::matrix;
 use bits::vector;
 use bits::vector::Vector;
 

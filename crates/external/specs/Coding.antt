@@ -4,9 +4,9 @@ use mathlib.Core.List.{List}
 use mathlib.Core.Path.{_≡_}
 use Prim.Native.Nat.{ℕ, _+_, _-_}
 use Rattle.bits.specs.Bytes.{Block, numberOf, bytesOf}
-use Rattle.bits.specs.Elimination.{inverseOf}
+use Rattle.matrices.specs.Elimination.{inverseOf}
 use Rattle.bits.specs.Encodings.{encode, decode}
-use Rattle.bits.specs.Matrices.{product}
+use Rattle.matrices.specs.Matrices.{product}
 use Rattle.bits.specs.Nibbles.{nibble, packed}
 use Rattle.bundle.specs.Format.{encodings, encodingOf, inputMatrix, outputMatrix}
 

@@ -2,7 +2,7 @@
 -- it added. Definitions, and the statement that both numbers can be read off again.
 use mathlib.Core.List.{List}
 use mathlib.Core.Path.{_≡_}
-use Prim.Native.Nat.{ℕ, _+_, _*_, _/_, _%_, _<_}
+use Prim.Native.Nat.{ℕ, _+_, _*_, _/_, _%_}
 use Rattle.aes.specs.Answers as aes
 use Rattle.aes.specs.declared.Answer.{Answer}
 use Rattle.bundle.specs.Judge.{judge}

@@ -1,7 +1,7 @@
 // The number that a call for C returns.
 ghost use mathlib.Core.Path.{_≡_};
 ghost use Prim.Native.Nat.{_<_};
-ghost use Rattle.host.specs.Numbers.{returned, causeOf, secondOf, ofJudgement, ofCoded, ofMade, ofAnswer};
+ghost use Rattle.host.specs.Numbers.{returned, secondOf, ofJudgement, ofCoded, ofMade, ofAnswer};
 ghost use Rattle.external.specs.Calls as external;
 ghost use Rattle.tables.specs.Calls as tables;
 use aes::Answer;

@@ -4,14 +4,14 @@ ghost use mathlib.Core.List.{List};
 ghost use mathlib.Core.Path.{_≡_};
 ghost use Prim.Native.Nat.{ℕ, _*_, _<_, _≤_};
 ghost use lib.ListN.{length};
-ghost use Rattle.bits.specs.Elimination.{inverseOf};
-ghost use Rattle.bits.specs.Matrices.{matrixOf, Invertible};
-ghost use Rattle.bits.specs.Words.{rowsOf};
+ghost use Rattle.matrices.specs.Elimination.{inverseOf};
+ghost use Rattle.matrices.specs.Matrices.{matrixOf, Invertible};
+ghost use Rattle.matrices.specs.Rows.{rowsOf};
 ghost use Rattle.bundle.specs.Format.{columnMatrix, inputMatrix};
 ghost use Rattle.bundle.specs.Judge.{judge};
 ghost use Rattle.bundle.specs.declared.answer.Judgement.the-variants.{Accepted};
 ghost use Rattle.layers.specs.Layers.{roundOf, ColumnInverses, Ready, InverseFor};
-use bits::matrix;
+use matrices::matrix;
 use bundle::parts;
 use network::stage::Stage;
 

@@ -1,14 +1,14 @@
 // The byte behind the S-box, for each byte that a first half or the exit reads.
 ghost use mathlib.Core.Bool.{cond};
 ghost use mathlib.Core.Path.{_≡_};
-ghost use Prim.Native.Nat.{ℕ, _+_, _*_, _/_, _%_, _<_, _≤_};
+ghost use Prim.Native.Nat.{_+_, _*_, _/_, _%_, _<_, _≤_};
 ghost use lib.Bits.{bitXor};
 ghost use lib.Dec.{eqb};
 ghost use lib.ListN.{length};
 ghost use Rattle.round.specs.Key.{keyOf};
 ghost use Rattle.bits.specs.Lists.{at, tabulate};
-ghost use Rattle.bits.specs.Matrices.{product};
-ghost use Rattle.bits.specs.Words.{rowsOf};
+ghost use Rattle.matrices.specs.Matrices.{product};
+ghost use Rattle.matrices.specs.Rows.{rowsOf};
 ghost use Rattle.bundle.specs.Judge.{judge};
 ghost use Rattle.bundle.specs.declared.answer.Judgement.the-variants.{Accepted};
 ghost use Rattle.entries.specs.Spread.{nibbleByte};

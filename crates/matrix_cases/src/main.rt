@@ -3,7 +3,7 @@
 ghost use mathlib.Core.Path.{_≡_};
 ghost use Prim.Native.Nat.{_*_, _≤_};
 ghost use lib.ListN.{length};
-use bits::matrix;
+use matrices::matrix;
 use bits::vector;
 use libc::STDOUT_FILENO;
 

@@ -1,5 +1,5 @@
 -- What the maker's calls answer, document 01's two numbers for each answer, and the lent memory that they leave. Definitions only.
-use mathlib.Core.Bool.{Bool, true, false, cond}
+use mathlib.Core.Bool.{cond}
 use mathlib.Core.List.{List}
 use Prim.Native.Nat.{ℕ}
 use lib.Dec.{eqb, ltb}

@@ -6,7 +6,7 @@ use Prim.Native.Nat.{ℕ}
 use lib.Dec.{ltb}
 use Rattle.round.specs.Key.{KeyExpansion, roundsOf}
 use Rattle.bits.specs.Lists.{tabulate}
-use Rattle.bits.specs.Matrices.{identity}
+use Rattle.matrices.specs.Matrices.{identity}
 use Rattle.bundle.specs.Format.{encodings, byteMatrices, columnMatrices, encodingOf, byteMatrix, columnMatrix, inputMatrix, outputMatrix}
 use Rattle.network.specs.Lookups.{Walk}
 use Rattle.whitebox.specs.Codings.{Codings}

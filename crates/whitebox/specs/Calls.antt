@@ -1,7 +1,7 @@
 -- The calls over a held walk: start, move to a stop, move of one lookup, fetch. Each is total: on any walk, any lent memory and any number.
 -- What is turned down is read off document 01's table "Turned down"; the plain count is written apart, in PlainCount.antt, and they are
 -- proved to agree. Definitions only.
-use mathlib.Core.Bool.{Bool, true, false, not, cond, _||_}
+use mathlib.Core.Bool.{Bool, not, cond, _||_}
 use mathlib.Core.List.{List, [], _∷_}
 use Prim.Native.Nat.{ℕ, zero, suc, _-_}
 use lib.Dec.{eqb, ltb}

@@ -4,7 +4,7 @@ use mathlib.Core.Path.{_≡_}
 use Prim.Native.Nat.{ℕ, _≤_, _<_}
 use lib.ListN.{replicate}
 use Rattle.bits.specs.Lists.{at}
-use Rattle.bits.specs.Matrices.{product, identity}
+use Rattle.matrices.specs.Matrices.{product, identity}
 use Rattle.bundle.specs.Cases.{List0, Byte159}
 use Rattle.bundle.specs.Format.{encodings, byteMatrices, columnMatrices, encodingOf, byteMatrix, columnMatrix, inputMatrix, outputMatrix}
 use Rattle.field.specs.Field.{mul}

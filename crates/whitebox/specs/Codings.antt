@@ -4,7 +4,7 @@ use mathlib.Core.List.{List}
 use Prim.Native.Nat.{ℕ, _+_, _-_, _*_}
 use Rattle.bits.specs.Encodings.{Permutation}
 use Rattle.bits.specs.Lists.{at}
-use Rattle.bits.specs.Matrices.{RowsFit, Invertible}
+use Rattle.matrices.specs.Matrices.{RowsFit, Invertible}
 
 pub record Codings : Type 0 where
   pub encoding : ℕ → List ℕ

@@ -1,5 +1,4 @@
 -- Which codings the tables of a set use: the statement. It is proved in proofs/laws/InRange.antt.
-use mathlib.Core.List.{List}
 use mathlib.Core.Path.{_≡_}
 use Prim.Native.Nat.{ℕ, _-_, _*_, _≤_, _<_}
 use Rattle.network.specs.Stages.{encodings}

@@ -1,10 +1,10 @@
 -- The values due, "each worked out from FIPS 197's state and the matrices" (document 01, "The 3,008 look-ups"). No inverse of a byte
 -- matrix stands in them. Definitions only.
 use mathlib.Core.List.{List, [], map}
-use Prim.Native.Nat.{ℕ, suc, _+_, _-_, _*_, _/_, _%_}
+use Prim.Native.Nat.{ℕ, _+_, _-_, _*_, _/_, _%_}
 use Rattle.bits.specs.Bytes.{number, byte}
 use Rattle.bits.specs.Lists.{at, tabulate}
-use Rattle.bits.specs.Matrices.{product}
+use Rattle.matrices.specs.Matrices.{product}
 use Rattle.external.specs.Coding.{multiply}
 use Rattle.network.specs.Due.{Due, Values, standingDue, areaDue, dueWalk}
 use Rattle.network.specs.Lookups.{Walk}

@@ -9,7 +9,7 @@ use native.Mathlib.Numerals.{add-one}
 use native.Mathlib.Omega.{arith}
 use borrow.Rule.Slice.PartMut.{putMid, postOf}
 use lib.Arith.{digits-lt}
-use lib.ListN.{getD, length, set, take, drop, length-append, List·getD-append, List·getD-eq-default}
+use lib.ListN.{getD, length, set, take, length-append, List·getD-append, List·getD-eq-default}
 use lib.Seq.{ext-getD, take-suc-set, take-all, take-at, length-take-le, getD-append-add}
 use Rattle.bits.specs.Lists.{at, tabulate, concat}
 

@@ -12,7 +12,7 @@ use lib.Dec.{eqb}
 use lib.ListN.{length, getD, set, take, drop, length-set, length-drop, List·getD-append}
 use lib.Seq.{ext-getD, getD-set-same, getD-set-other, getD-take, getD-drop, getD-append-add, paste, length-paste, length-take-le, length-paste-head}
 use Rattle.bits.specs.Bytes.{Bytes}
-use Rattle.bits.specs.Lists.{at, tabulate}
+use Rattle.bits.specs.Lists.{at}
 use Rattle.bits.specs.Nibbles.{pack, half, nibble, setNibble, packed}
 use Rattle.bits.proofs.laws.Lists.{length-tabulate, at-tabulate, tabulate-below}
 

@@ -3,15 +3,14 @@
 use mathlib.Core.Logic.{_≢_}
 use mathlib.Core.Path.{_≡_, refl, sym, ap, ap₂, _∙_, subst}
 use Prim.Native.Nat.{ℕ, zero, suc, _+_, _-_, _*_, _/_, _%_, _^_, _<_}
-use native.Mathlib.Nat.{zero-lt-suc, pow-suc, zero-mul, one-mul, add-zero, mul-mod-left, mul-div-cancel, zero-div, zero-mod, div-one}
+use native.Mathlib.Nat.{zero-lt-suc, pow-suc, zero-mul, one-mul, add-zero, mul-mod-left, mul-div-cancel, zero-div, div-one}
 use native.Mathlib.Omega.{arith}
 use lib.Bits.{bitAnd, bitXor, and-comm, and-high}
 use lib.Count.{ones, ones-cat}
 use lib.Pow.{pow-pos, pow-lt, shr-shr}
-use Rattle.bits.specs.Groups.{joined, group}
-use Rattle.bits.specs.Vectors.{bit, vector, unit, dot}
-use Rattle.bits.specs.Elimination.{delta}
-use Rattle.bits.proofs.laws.Xor.{two, odd-lt, xor-odd, and-xor, ones-xor}
+use Rattle.bits.specs.Groups.{group}
+use Rattle.bits.specs.Vectors.{bit, vector, unit, dot, delta}
+use Rattle.bits.proofs.laws.Xor.{two, odd-lt, and-xor, ones-xor}
 use Rattle.bits.proofs.laws.Groups.{group-lt, group-xor, group-ext, joined-lt, group-joined}
 
 -- ---- the dot product

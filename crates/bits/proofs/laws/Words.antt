@@ -1,23 +1,16 @@
--- Laws, not definitions: two words as one number, and matrices as rows of words.
+-- Laws, not definitions: two words as one number.
 -- Assumes nothing.
-use mathlib.Core.List.{List}
-use mathlib.Core.Logic.{_≢_}
-use mathlib.Core.Path.{_≡_, refl, sym, ap, ap₂, _∙_, subst}
-use Prim.Native.Nat.{ℕ, zero, suc, _+_, _-_, _*_, _/_, _%_, _^_, _≤_, _<_}
-use native.Mathlib.Decide.{ℕ-discrete}
-use native.Mathlib.Nat.{mul-assoc, mul-add, zero-mul, one-mul, mod-eq-of-lt, zero-add, add-zero, add-comm, add-mul-div-right, add-mul-mod-self-right, suc-mul, mul-le-mul-right}
-use native.Mathlib.Numerals.{add-one}
+use mathlib.Core.Path.{_≡_, sym, ap, _∙_, subst}
+use Prim.Native.Nat.{ℕ, _+_, _-_, _*_, _/_, _%_, _^_, _≤_, _<_}
+use native.Mathlib.Nat.{mul-assoc, mul-add, zero-mul, one-mul, mod-eq-of-lt, zero-add, add-zero, add-comm, add-mul-div-right, add-mul-mod-self-right}
 use native.Mathlib.Omega.{arith}
 use lib.Bits.{bitAnd, bitXor, and-block, xor-block, and-lt, and-zero-r, and-mask}
 use lib.Count.{ones, ones-cat}
-use lib.ListN.{length, set, length-set}
 use lib.Pow.{high, split, shr-shr, shr-lt, pow-pos, pow-lt, pow-add}
-use lib.Seq.{getD-set-same, getD-set-other}
-use Rattle.bits.specs.Lists.{at, tabulate}
+use Rattle.bits.specs.Lists.{at}
 use Rattle.bits.specs.Vectors.{dot}
-use Rattle.bits.specs.Words.{wide, rowAt, rowsOf, setRow, stored}
+use Rattle.bits.specs.Words.{wide}
 use Rattle.bits.proofs.laws.Xor.{two, ones-xor, sum-both}
-use Rattle.bits.proofs.laws.Lists.{tabulate-ext, length-tabulate, at-tabulate}
 
 -- ---- two words
 pub dot-wide : (hi lo vhi vlo : ℕ) → lo < 2 ^ 64 → vlo < 2 ^ 64
@@ -103,74 +96,3 @@ wide-high hi lo h = high hi 64 h
 pub wide-low : (hi lo : ℕ) → lo < 2 ^ 64 → wide hi lo % 2 ^ 64 ≡ lo
 unfolding wide
 wide-low hi lo h = lib.Pow.low hi 64 h
-
--- ---- rows of words
-pub row-set-same : (m : List ℕ) (i v : ℕ) → 2 * i + 1 < length m → rowAt (setRow m i v) i ≡ v
-unfolding rowAt setRow
-row-set-same m i v h =
-    let a = set m (2 * i) (v / 2 ^ 64) in
-    ap₂ wide
-    (getD-set-other a (2 * i + 1) (2 * i) (v % 2 ^ 64) 0 (omega arith) ∙ getD-set-same m (2 * i) (v / 2 ^ 64) 0 (omega arith))
-    (getD-set-same a (2 * i + 1) (v % 2 ^ 64) 0 (omega (arith, length-set m (2 * i) (v / 2 ^ 64))))
-    ∙ wide-split v
-
-pub row-set-other : (m : List ℕ) (i v j : ℕ) → j ≢ i → rowAt (setRow m i v) j ≡ rowAt m j
-unfolding rowAt setRow
-row-set-other m i v j e =
-    let a = set m (2 * i) (v / 2 ^ 64) in
-    ap₂ wide
-    (getD-set-other a (2 * i + 1) (2 * j) (v % 2 ^ 64) 0 (omega arith) ∙ getD-set-other m (2 * i) (2 * j) (v / 2 ^ 64) 0 (omega arith))
-    (getD-set-other a (2 * i + 1) (2 * j + 1) (v % 2 ^ 64) 0 (omega arith) ∙ getD-set-other m (2 * i) (2 * j + 1) (v / 2 ^ 64) 0 (omega arith))
-
-pub length-setRow : (m : List ℕ) (i v : ℕ) → length (setRow m i v) ≡ length m
-unfolding setRow
-length-setRow m i v = simp length-set
-
--- The words of a row, stored.
-pub set-words : (m : List ℕ) (i hi lo : ℕ) → lo < 2 ^ 64 → set (set m (2 * i) hi) (2 * i + 1) lo ≡ setRow m i (wide hi lo)
-unfolding setRow
-set-words m i hi lo h =
-    sym (ap₂ (λ (x y : ℕ). set (set m (2 * i) x) (2 * i + 1) y) (wide-high hi lo h) (wide-low hi lo h))
-
-pub stored-next : (n : ℕ) (f : ℕ → ℕ) (m : List ℕ) → stored (n + 1) f m ≡ setRow (stored n f m) n (f n)
-unfolding stored
-stored-next n f m = ap (λ (x : ℕ). stored x f m) (add-one n)
-
-pub length-stored : (n : ℕ) (f : ℕ → ℕ) (m : List ℕ) → length (stored n f m) ≡ length m
-unfolding stored
-length-stored zero f m = refl
-length-stored (suc n) f m = length-setRow (stored n f m) n (f n) ∙ length-stored n f m
-
-pub row-stored : (n : ℕ) (f : ℕ → ℕ) (m : List ℕ) → 2 * n ≤ length m → (i : ℕ) → i < n → rowAt (stored n f m) i ≡ f i
-unfolding stored
-row-stored zero f m h i l = absurd (omega arith)
-row-stored (suc n) f m h i l = elim (ℕ-discrete i n) [
-  | yes e ↦
-      ap (rowAt (setRow (stored n f m) n (f n))) e
-      ∙ row-set-same (stored n f m) n (f n) (omega (arith, length-stored n f m))
-      ∙ ap f (sym e)
-  | no e ↦ row-set-other (stored n f m) n (f n) i e ∙ row-stored n f m (omega arith) i (omega arith)
-]
-
--- Only the first n rows are read off again.
-pub rows-stored : (n : ℕ) (f : ℕ → ℕ) (m : List ℕ) → 2 * n ≤ length m → rowsOf n (stored n f m) ≡ tabulate n f
-unfolding rowsOf
-rows-stored n f m h = tabulate-ext n _ _ (row-stored n f m h)
-
-pub stored-same : (n : ℕ) (f g : ℕ → ℕ) (m : List ℕ) → ((i : ℕ) → i < n → f i ≡ g i) → stored n f m ≡ stored n g m
-unfolding stored
-stored-same zero f g m e = refl
-stored-same (suc n) f g m e =
-    ap₂ (λ (x : List ℕ) (y : ℕ). setRow x n y) (stored-same n f g m (λ i h. e i (omega arith))) (e n (omega arith))
-
-pub rowsOf-length : (n : ℕ) (m : List ℕ) → length (rowsOf n m) ≡ n
-unfolding rowsOf
-rowsOf-length n m = length-tabulate n (rowAt m)
-
-pub at-rowsOf : (n : ℕ) (m : List ℕ) (i : ℕ) → i < n → at (rowsOf n m) i ≡ rowAt m i
-unfolding rowsOf
-at-rowsOf n m i h = at-tabulate n (rowAt m) i h
-
--- Row i of n rows of w bytes lies within them.
-pub row-inside : (i w n : ℕ) → i < n → i * w + w ≤ n * w
-row-inside i w n h = subst (λ (x : ℕ). x ≤ n * w) (suc-mul i w) (mul-le-mul-right w h)

@@ -6,7 +6,7 @@ use native.Mathlib.Decide.{decLt}
 use native.Mathlib.Nat.{mod-lt, zero-lt-suc, pow-suc, mod-add-mod, add-mod-mod, add-assoc}
 use native.Mathlib.Omega.{arith}
 use lib.Arith.{bin-ind, lt-one}
-use lib.Bits.{bitAnd, bitXor, and-step, xor-add-and, xor-shr, and-shr, xor-self, xor-zero-r, xor-shifted, and-comm, xor-comm, and-le-l, and-le-r}
+use lib.Bits.{bitAnd, bitXor, and-step, xor-add-and, xor-shr, and-shr, xor-self, xor-zero-r, xor-shifted, xor-comm, and-le-l, and-le-r}
 use lib.Count.{ones, ones-step}
 
 -- A number below 2 is 0 or 1.

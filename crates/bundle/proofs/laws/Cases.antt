@@ -4,7 +4,7 @@ use mathlib.Core.List.{List}
 use mathlib.Core.Path.{_≡_, refl, sym, _∙_, subst}
 use Prim.Native.Nat.{ℕ, _≤_, _<_}
 use native.Mathlib.Omega.{arith}
-use Rattle.bits.proofs.laws.Bytes.{matrixOf-fits}
+use Rattle.matrices.proofs.laws.Stored.{matrixOf-fits}
 use Rattle.bundle.specs.Cases.{NoneBelow4, List0, Byte159}
 use Rattle.bundle.specs.Format.{encodings, byteMatrices, lengthBad, pairBad, frame, byteMatrix, byteMatrixPart}
 use Rattle.bundle.specs.Judge.{judge}

@@ -9,14 +9,15 @@ use native.Mathlib.Omega.{arith}
 use lib.ListN.{length, take, drop}
 use borrow.Author.Tests.{eq-eqb, ne-eqb, lt-ltb, le-ltb}
 use Rattle.bits.specs.Bytes.{Bytes, number}
-use Rattle.bits.specs.Elimination.{invert}
+use Rattle.matrices.specs.Elimination.{invert}
 use Rattle.bits.specs.Lists.{at}
-use Rattle.bits.specs.Matrices.{matrixOf}
-use Rattle.bits.specs.Words.{wide, rowsOf, stored, hasInverse}
-use Rattle.bits.proofs.laws.Bytes.{matrixOf-length}
+use Rattle.matrices.specs.Matrices.{matrixOf}
+use Rattle.bits.specs.Words.{wide}
+use Rattle.matrices.specs.Rows.{rowsOf, stored, hasInverse}
+use Rattle.matrices.proofs.laws.Stored.{matrixOf-length}
 use Rattle.bits.proofs.laws.Groups.{joined-lt}
 use Rattle.bits.proofs.laws.Lists.{tabulate-at}
-use Rattle.bits.proofs.laws.Words.{rows-stored}
+use Rattle.matrices.proofs.laws.Rows.{rows-stored}
 use Rattle.bundle.specs.Format.{encodings, byteMatrices, columnMatrices, partCount, partSize, sectionLength, shortest, longest, numberAt, offset, stated, endBefore, pairBad, lengthBad, frame, sectionOf, partOf, partAt, inputMatrixPart, outputMatrixPart}
 use Rattle.bundle.specs.Judge.{noPermutation, noInverse, byteMatrixBad, columnMatrixBad, judgeEncodings, judgeMatrices, judge}
 use Rattle.bundle.specs.Refusals.{unlessAt}

@@ -7,14 +7,14 @@ use mathlib.Core.Path.{_≡_, refl, sym, ap, _∙_}
 use Prim.Native.Nat.{ℕ, _*_, _<_}
 use native.Mathlib.Omega.{arith}
 use Rattle.bits.specs.Bytes.{Bytes}
-use Rattle.bits.specs.Elimination.{Inversion, inverse, singular, invert}
+use Rattle.matrices.specs.Elimination.{Inversion, inverse, singular, invert}
 use Rattle.bits.specs.Lists.{at}
-use Rattle.bits.specs.Matrices.{product, RowsFit, Invertible, matrixOf}
+use Rattle.matrices.specs.Matrices.{product, RowsFit, Invertible, matrixOf}
 use Rattle.bits.specs.Vectors.{bit, unit, dot}
-use Rattle.bits.specs.Words.{hasInverse}
-use Rattle.bits.proofs.laws.Bytes.{matrixOf-fits}
-use Rattle.bits.proofs.laws.Inverses.{answered, refused, exact}
-use Rattle.bits.proofs.laws.Matrices.{bit-product}
+use Rattle.matrices.specs.Rows.{hasInverse}
+use Rattle.matrices.proofs.laws.Stored.{matrixOf-fits}
+use Rattle.matrices.proofs.laws.Inverses.{answered, refused, exact}
+use Rattle.matrices.proofs.laws.Matrices.{bit-product}
 use Rattle.bits.proofs.laws.Vectors.{unit-lt, bit-unit-same, bit-unit-other}
 use Rattle.bundle.specs.Judge.{noInverse}
 

@@ -1,15 +1,13 @@
 -- Laws, not definitions: the word of a byte is linear in it, so it is the xor of the words of its nibbles.
 -- Assumes nothing.
-use mathlib.Core.Bool.{cond}
 use mathlib.Core.List.{List}
-use mathlib.Core.Path.{_≡_, refl, sym, ap, ap₂, _∙_}
-use Prim.Native.Nat.{ℕ, _+_, _-_, _*_, _/_, _%_, _^_, _≤_, _<_}
+use mathlib.Core.Path.{_≡_, sym, ap, ap₂, _∙_}
+use Prim.Native.Nat.{ℕ, _+_, _-_, _*_, _/_, _%_, _^_, _<_}
 use native.Mathlib.Nat.{zero-mul, one-mul}
 use native.Mathlib.Omega.{arith}
 use borrow.Author.Tests.{lt-ltb, le-ltb}
 use lib.Bits.{bitXor, xor-self, xor-zero-l, xor-zero-r, xor-comm, xor-disjoint, and-shifted}
-use lib.Dec.{ltb}
-use lib.ListN.{length, take, drop}
+use lib.ListN.{take, drop}
 use lib.Seq.{getD-take, getD-drop}
 use Rattle.bits.specs.Bytes.{byte, bytesOf}
 use Rattle.bits.specs.Lists.{at, tabulate, concat}
@@ -18,7 +16,7 @@ use Rattle.bits.proofs.laws.Bytes.{at-bytesOf, length-bytesOf}
 use Rattle.bits.proofs.laws.Groups.{group-xor}
 use Rattle.bits.proofs.laws.Lists.{at-concat, at-tabulate, length-tabulate, tabulate-ext, ext-at}
 use Rattle.bits.proofs.laws.Vectors.{dot-power, dot-xor, dot-lt}
-use Rattle.bits.proofs.laws.Words.{row-inside}
+use Rattle.matrices.proofs.laws.Rows.{row-inside}
 use Rattle.bits.proofs.laws.Xor.{Linear, two}
 use Rattle.bits.proofs.laws.XorAll.{linear-xorAll}
 use Rattle.entries.specs.Spread.{combined, nibbleByte, summed}

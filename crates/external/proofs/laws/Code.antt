@@ -10,18 +10,18 @@ use lib.Dec.{eqb}
 use lib.ListN.{length}
 use borrow.Author.Tests.{eq-eqb, ne-eqb, eqb-true}
 use Rattle.bits.specs.Bytes.{Bytes, number, bytesOf}
-use Rattle.bits.specs.Elimination.{Inversion, inverse, singular, invert, rowsIn, inverseOf}
+use Rattle.matrices.specs.Elimination.{Inversion, inverse, singular, invert, rowsIn, inverseOf}
 use Rattle.bits.specs.Encodings.{encode, decode}
 use Rattle.bits.specs.Lists.{at, tabulate}
-use Rattle.bits.specs.Matrices.{product, RowsFit, Invertible, matrixOf}
+use Rattle.matrices.specs.Matrices.{product, RowsFit, Invertible, matrixOf}
 use Rattle.bits.specs.Nibbles.{pack, nibble, packed}
-use Rattle.bits.specs.Words.{rowsOf, hasInverse, withInverse}
-use Rattle.bits.proofs.laws.Bytes.{matrixOf-fits}
+use Rattle.matrices.specs.Rows.{rowsOf, hasInverse, withInverse}
+use Rattle.matrices.proofs.laws.Stored.{matrixOf-fits}
 use Rattle.bits.proofs.laws.Groups.{joined-same}
-use Rattle.bits.proofs.laws.Inverses.{answered, exact}
+use Rattle.matrices.proofs.laws.Inverses.{answered, exact}
 use Rattle.bits.proofs.laws.Lists.{tabulate-at, tabulate-ext, length-tabulate}
 use Rattle.bits.proofs.laws.Nibbles.{nibble-even, nibble-odd}
-use Rattle.bits.proofs.laws.Words.{rows-stored}
+use Rattle.matrices.proofs.laws.Rows.{rows-stored}
 use Rattle.bundle.specs.Format.{encodings, frame, partAt, inputMatrixPart, outputMatrixPart}
 use Rattle.bundle.specs.Judge.{judge}
 use Rattle.bundle.specs.declared.answer.Judgement.{Judgement}

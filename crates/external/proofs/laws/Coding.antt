@@ -5,17 +5,18 @@ use mathlib.Core.Logic.{⊎-elim}
 use mathlib.Core.Path.{_≡_, sym, ap, _∙_}
 use Prim.Native.Nat.{ℕ, _+_, _*_, _/_, _≤_, _<_}
 use native.Mathlib.Omega.{arith}
-use Rattle.bits.specs.Elimination.{inverseOf}
+use Rattle.matrices.specs.Elimination.{inverseOf}
 use Rattle.bits.specs.Bytes.{Bytes, Block, numberOf, bytesOf}
 use Rattle.bits.specs.Encodings.{encode, decode, Permutation}
-use Rattle.bits.specs.Inverses.{UndoesBothWays}
+use Rattle.matrices.specs.Inverses.{UndoesBothWays}
 use Rattle.bits.specs.Lists.{at}
-use Rattle.bits.specs.Matrices.{product, Undoes, RowsFit, Invertible}
+use Rattle.matrices.specs.Matrices.{product, Undoes}
 use Rattle.bits.specs.Nibbles.{nibble, packed}
-use Rattle.bits.proofs.laws.Bytes.{numberOf-lt, bytesOf-block, numberOf-bytesOf, bytesOf-numberOf, matrixOf-fits}
+use Rattle.bits.proofs.laws.Bytes.{numberOf-lt, bytesOf-block, numberOf-bytesOf, bytesOf-numberOf}
+use Rattle.matrices.proofs.laws.Stored.{matrixOf-fits}
 use Rattle.bits.proofs.laws.Encodings as single
-use Rattle.bits.proofs.laws.Inverses.{inverse-undoes}
-use Rattle.bits.proofs.laws.Matrices.{product-lt}
+use Rattle.matrices.proofs.laws.Inverses.{inverse-undoes}
+use Rattle.matrices.proofs.laws.Matrices.{product-lt}
 use Rattle.bits.proofs.laws.Nibbles.{length-packed, at-packed, packed-ext, packed-nibbles, packed-bytes, nibble-lt, parity}
 use Rattle.bundle.specs.Format.{encodings, encodingOf, inputMatrix, outputMatrix, inputMatrixPart, outputMatrixPart}
 use Rattle.bundle.specs.Judge.{judge}

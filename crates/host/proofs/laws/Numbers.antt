@@ -2,8 +2,8 @@
 -- Assumes nothing.
 use mathlib.Core.Bool.{Bool, true, false, cond, _&&_}
 use mathlib.Core.List.{List}
-use mathlib.Core.Path.{_≡_, refl}
-use Prim.Native.Nat.{ℕ, _+_, _*_, _<_, _≤_}
+use mathlib.Core.Path.{_≡_}
+use Prim.Native.Nat.{ℕ, _<_, _≤_}
 use native.Mathlib.Omega.{arith}
 use lib.Dec.{eqb, ltb}
 use Rattle.aes.specs.Answers as aes
@@ -12,7 +12,7 @@ use Rattle.aes.specs.declared.Answer.the-variants as answers
 use Rattle.bundle.specs.Format.{encodings, byteMatrices, columnMatrices, frame, pairBad, lengthBad, inputMatrixPart, outputMatrixPart}
 use Rattle.bundle.specs.Judge.{noInverse, encodingBad, byteMatrixBad, columnMatrixBad, judgeEncodings, judgeMatrices, judge}
 use Rattle.bundle.specs.Refusals as refusals
-use Rattle.bundle.specs.Refusals.{unlessAt, andThen}
+use Rattle.bundle.specs.Refusals.{andThen}
 use Rattle.bundle.specs.Search.{first}
 use Rattle.bundle.specs.declared.answer.Found.the-variants.{At}
 use Rattle.bundle.specs.declared.answer.Judgement.{Judgement}
@@ -20,7 +20,7 @@ use Rattle.bundle.specs.declared.answer.Judgement.the-variants.{Accepted, Refus
 use Rattle.bundle.specs.declared.answer.Refusal.{Refusal}
 use Rattle.bundle.specs.declared.answer.Refusal.the-variants.{Length, Pair, Encoding, ByteMatrix, ColumnMatrix, InputMatrix, OutputMatrix}
 use Rattle.bundle.proofs.laws.Search.{at-bad}
-use Rattle.bundle.proofs.laws.Tests.{by-unless, by-unlessAt, by-andThen}
+use Rattle.bundle.proofs.laws.Tests.{by-unless, by-unlessAt}
 use Rattle.network.specs.Stages.{lookups, setBytes, tableSize}
 use Rattle.external.specs.Calls as external
 use Rattle.external.specs.Calls.{unlessRefused}
@@ -29,7 +29,7 @@ use Rattle.external.specs.declared.coding.Coded.the-variants.{Done, Bundle, Blo
 use Rattle.tables.specs.Calls as tables
 use Rattle.tables.specs.declared.calls.Made.{Made}
 use Rattle.tables.specs.declared.calls.Made.the-variants as made
-use Rattle.host.specs.Numbers.{returned, causeOf, secondOf, ofJudgement, ofCoded, ofAnswer, ReadOff, Readable}
+use Rattle.host.specs.Numbers.{returned, causeOf, secondOf, ReadOff, Readable}
 
 -- ---- causes
 pub cause-below : (r : Refusal) → refusals.causeOf r < 16

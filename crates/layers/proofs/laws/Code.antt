@@ -16,17 +16,17 @@ use lib.Pow.{pow-lt}
 use lib.Seq.{getD-take, getD-drop, getD-set-same, getD-set-other, take-at, drop-at, length-take-le}
 use Rattle.round.specs.Key.{keyOf}
 use Rattle.bits.specs.Bytes.{Bytes, number, placed}
-use Rattle.bits.specs.Elimination.{Inversion, inverse, singular, invert, rowsIn, inverseOf}
+use Rattle.matrices.specs.Elimination.{Inversion, inverse, singular, invert, rowsIn, inverseOf}
 use Rattle.bits.specs.Groups.{joined}
 use Rattle.bits.specs.Lists.{at, tabulate}
-use Rattle.bits.specs.Matrices.{product, productBy, matrixOf, RowsFit, Invertible}
-use Rattle.bits.specs.Words.{rowsOf, hasInverse, withInverse}
-use Rattle.bits.proofs.laws.Bytes.{matrixOf-at, matrixOf-fits}
+use Rattle.matrices.specs.Matrices.{product, productBy, matrixOf, RowsFit, Invertible}
+use Rattle.matrices.specs.Rows.{rowsOf, hasInverse, withInverse}
+use Rattle.matrices.proofs.laws.Stored.{matrixOf-at, matrixOf-fits}
 use Rattle.bits.proofs.laws.Groups.{joined-same}
-use Rattle.bits.proofs.laws.Inverses.{answered, exact}
+use Rattle.matrices.proofs.laws.Inverses.{answered, exact}
 use Rattle.bits.proofs.laws.Lists.{at-tabulate, tabulate-at, at-past}
-use Rattle.bits.proofs.laws.Matrices.{product-lt, product-rows, product-xor}
-use Rattle.bits.proofs.laws.Words.{rows-stored}
+use Rattle.matrices.proofs.laws.Matrices.{product-lt, product-rows, product-xor}
+use Rattle.matrices.proofs.laws.Rows.{rows-stored}
 use Rattle.bundle.specs.Format.{byteMatrices, columnMatrices, partCount, partSize, sectionLength, frame, sectionOf, partOf, partAt, byteMatrixPart, columnMatrixPart, inputMatrixPart, outputMatrixPart, byteMatrix, columnMatrix}
 use Rattle.bundle.specs.Judge.{judge}
 use Rattle.bundle.specs.declared.answer.Judgement.the-variants.{Accepted}

@@ -2,24 +2,19 @@
 -- Assumes nothing.
 use mathlib.Core.Bool.{Bool, true, false, cond}
 use mathlib.Core.List.{List}
-use mathlib.Core.Path.{_≡_, refl, sym, ap, ap₂, _∙_, subst}
-use Prim.Native.Nat.{ℕ, zero, suc, _+_, _-_, _*_, _/_, _%_, _^_, _≤_, _<_}
-use native.Mathlib.Nat.{zero-mul, one-mul}
+use mathlib.Core.Path.{_≡_, refl, ap, _∙_}
+use Prim.Native.Nat.{ℕ, _-_, _*_, _/_, _%_, _^_, _<_}
 use native.Mathlib.Omega.{arith}
-use lib.Bits.{bitXor, xor-self, xor-zero-l, xor-zero-r}
+use lib.Bits.{bitXor}
 use lib.Dec.{eqb, eqb→eq}
-use Rattle.round.specs.State.{mixRows, entry}
 use Rattle.bits.specs.Bytes.{number, byte, placed}
-use Rattle.bits.specs.Groups.{joined, group, xorAll}
 use Rattle.bits.specs.Lists.{at}
-use Rattle.bits.specs.Matrices.{product}
-use Rattle.bits.specs.Vectors.{dot}
+use Rattle.matrices.specs.Matrices.{product}
 use Rattle.bits.proofs.laws.Checked.{all, all-at}
 use Rattle.bits.proofs.laws.Groups.{joined-same, joined-xor, group-xor}
-use Rattle.bits.proofs.laws.Matrices.{product-lt, product-xor}
-use Rattle.bits.proofs.laws.Vectors.{dot-power, dot-xor, dot-lt}
-use Rattle.bits.proofs.laws.Xor.{Linear, two}
-use Rattle.bits.proofs.laws.XorAll.{xorAll-same, xorAll-one, linear-xorAll}
+use Rattle.matrices.proofs.laws.Matrices.{product-lt, product-xor}
+use Rattle.bits.proofs.laws.Xor.{Linear}
+use Rattle.bits.proofs.laws.XorAll.{xorAll-same, xorAll-one}
 use Rattle.entries.specs.Spread.{combined}
 use Rattle.entries.proofs.laws.Combined.{combined-linear}
 use Rattle.field.specs.Field.{mul}

@@ -1,5 +1,4 @@
 -- `matrix_cases::main` meets its contract. Assumes nothing.
-use Prim.Native.Nat.{_≤_}
 use lib.ListN.{length}
 use mathlib.Core.Path.{_≡_, refl}
 use native.Mathlib.Omega.{arith}

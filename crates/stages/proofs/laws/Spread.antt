@@ -1,25 +1,23 @@
 -- Laws, not definitions: a spread table from the bytes, the words and the images that the code gathers.
 -- Assumes nothing.
-use mathlib.Core.Bool.{Bool, cond}
 use mathlib.Core.List.{List}
 use mathlib.Core.Path.{_≡_, refl, sym, ap, ap₂, _∙_, subst}
 use Prim.Native.Nat.{ℕ, zero, suc, _+_, _-_, _*_, _/_, _%_, _^_, _≤_, _<_}
 use native.Mathlib.Nat.{div-add-mod', div-lt-iff-lt-mul, mod-lt}
 use native.Mathlib.Omega.{arith}
-use lib.ListN.{length, take}
+use lib.ListN.{take}
 use lib.Seq.{getD-take}
-use Rattle.round.specs.State.{mixRows, entry}
-use Rattle.bits.specs.Bytes.{Bytes, number, numberOf, byte, bytesOf, placed}
-use Rattle.bits.specs.Elimination.{inverseOf}
-use Rattle.bits.specs.Encodings.{encode, decode, imagesOf}
+use Rattle.bits.specs.Bytes.{Bytes, number, byte, bytesOf, placed}
+use Rattle.matrices.specs.Elimination.{inverseOf}
+use Rattle.bits.specs.Encodings.{decode}
 use Rattle.bits.specs.Lists.{at, tabulate, concat}
-use Rattle.bits.specs.Matrices.{product}
+use Rattle.matrices.specs.Matrices.{product}
 use Rattle.bits.specs.Nibbles.{pack, nibble, packed}
 use Rattle.bits.proofs.laws.Bytes.{bytesOf-numberOf, numberOf-bytesOf, length-bytesOf}
 use Rattle.bits.proofs.laws.Encodings.{decode-lt}
 use Rattle.bits.proofs.laws.Groups.{joined-same}
 use Rattle.bits.proofs.laws.Lists.{at-tabulate, length-tabulate, ext-at, length-concat, at-concat, concat-same, tabulate-ext}
-use Rattle.bits.proofs.laws.Matrices.{product-lt}
+use Rattle.matrices.proofs.laws.Matrices.{product-lt}
 use Rattle.bits.proofs.laws.Nibbles.{length-packed, at-packed, packed-ext, nibble-lt}
 use Rattle.bundle.specs.Format.{encodings, encodingOf}
 use Rattle.bundle.specs.Judge.{judge}
@@ -30,15 +28,13 @@ use Rattle.entries.specs.Spread.{combined, encodedBytes, encodedWord}
 use Rattle.field.specs.Field.{mul}
 use Rattle.field.proofs.laws.OnBytes.{OnBytes}
 use Rattle.layers.specs.Layers.{roundOf, acted, linearWord, wordNumber, readByte}
-use Rattle.layers.proofs.laws.Code.{front-at, sum-is}
 use Rattle.layers.proofs.laws.Linear.{by-powers, spread-xor, mixed-xor, exit-xor}
-use Rattle.network.specs.Numbers.{encodingNumber, sumNumber}
+use Rattle.network.specs.Numbers.{encodingNumber}
 use Rattle.network.specs.Stages.{widthOf, shifted, sourceOf, firstNumber, afterRound, standingNumber, numbersOf}
-use Rattle.network.specs.Tables.{Layer, spreadEntry, spreadTable}
+use Rattle.network.specs.Tables.{spreadEntry, spreadTable}
 use Rattle.network.specs.declared.stage.Stage.{Stage}
 use Rattle.network.specs.declared.stage.Stage.the-variants.{Entry, First, Second, Exit, Beyond}
 use Rattle.network.proofs.laws.Order.{at-div, at-mod}
-use Rattle.network.proofs.laws.Stages.{sums-16}
 use Rattle.whitebox.specs.Bundles.{codingsOf}
 use Rattle.whitebox.specs.Codings.{Codings, byteMatrixAt, columnMatrixAt}
 use Rattle.whitebox.specs.Parts.{Parts, Fine, forward}

@@ -1,17 +1,16 @@
 -- Laws, not definitions: the words by stage from the matrices that the code has, and the images in their array.
 -- Assumes nothing.
 use mathlib.Core.List.{List}
-use mathlib.Core.Path.{_≡_, refl, sym, ap, ap₂, _∙_, subst}
+use mathlib.Core.Path.{_≡_, sym, ap, ap₂, _∙_, subst}
 use Prim.Native.Nat.{ℕ, suc, _+_, _-_, _*_, _/_, _%_, _≤_, _<_}
 use native.Mathlib.Omega.{arith}
-use lib.ListN.{length, take}
+use lib.ListN.{take}
 use lib.Seq.{getD-take}
 use Rattle.round.specs.State.{mixRows, entry}
 use Rattle.bits.specs.Bytes.{Bytes, number, byte, placed}
-use Rattle.bits.specs.Elimination.{inverseOf}
+use Rattle.matrices.specs.Elimination.{inverseOf}
 use Rattle.bits.specs.Lists.{at, concat}
-use Rattle.bits.specs.Matrices.{product, matrixOf}
-use Rattle.bits.specs.Words.{rowsOf}
+use Rattle.matrices.specs.Matrices.{product, matrixOf}
 use Rattle.bits.proofs.laws.Groups.{joined-same}
 use Rattle.bits.proofs.laws.Lists.{at-concat}
 use Rattle.bundle.specs.Format.{encodingPart, encodingOf, byteMatrix, columnMatrix, columnMatrixPart, inputMatrix, outputMatrixPart}

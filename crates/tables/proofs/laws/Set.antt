@@ -1,19 +1,16 @@
 -- Laws, not definitions: a table by its number, and where it stands in the set.
 -- Assumes nothing.
-use mathlib.Core.List.{List}
-use mathlib.Core.Path.{_≡_, refl, sym, ap, ap₂, _∙_, subst}
-use Prim.Native.Nat.{ℕ, suc, _+_, _-_, _*_, _/_, _%_, _≤_, _<_}
+use mathlib.Core.Path.{_≡_, refl, sym, subst}
+use Prim.Native.Nat.{ℕ, suc, _+_, _-_, _%_, _≤_, _<_}
 use native.Mathlib.Decide.{decLt}
 use native.Mathlib.Omega.{arith}
-use lib.ListN.{length}
 use Rattle.layers.specs.Layers.{roundOf}
 use Rattle.network.specs.Order.{layerLookups}
 use Rattle.network.specs.Sizes.{sizeOf}
-use Rattle.network.specs.Stages.{stageOf, indexOf, widthOf, firstLookup, lookups, setBytes, tableSize, tableOffset, numbersOf}
+use Rattle.network.specs.Stages.{stageOf, indexOf, widthOf, firstLookup, lookups, tableSize, tableOffset, numbersOf}
 use Rattle.network.specs.Tables.{tableIn}
 use Rattle.network.specs.declared.stage.Stage.{Stage}
-use Rattle.network.specs.declared.stage.Stage.the-variants.{Entry, First, Second, Exit}
-use Rattle.network.proofs.laws.Instance.{first-offset, next-offset, offset-within}
+use Rattle.network.proofs.laws.Instance.{next-offset, offset-within}
 use Rattle.network.proofs.laws.Ranges.{stage-entry, stage-first, stage-second, stage-exit, lookups-are, by-stage}
 use Rattle.network.proofs.laws.Stages.{lookups-16, lookups-4}
 use Rattle.whitebox.specs.Codings.{Codings}

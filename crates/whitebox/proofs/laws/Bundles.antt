@@ -2,21 +2,21 @@
 -- Assumes nothing.
 use mathlib.Core.Bool.{cond}
 use mathlib.Core.List.{List}
-use mathlib.Core.Path.{_≡_, refl, sym, ap, _∙_, subst}
-use Prim.Native.Nat.{ℕ, _+_, _-_, _*_, _≤_, _<_}
+use mathlib.Core.Path.{_≡_, sym, subst}
+use Prim.Native.Nat.{ℕ, _-_, _≤_, _<_}
 use native.Mathlib.Decide.{decLt}
 use native.Mathlib.Omega.{arith}
 use borrow.Author.Tests.{lt-ltb, le-ltb}
 use lib.Dec.{ltb}
 use Rattle.bits.specs.Bytes.{Bytes}
 use Rattle.bits.specs.Encodings.{decode, Permutation}
-use Rattle.bits.specs.Lists.{at, tabulate}
-use Rattle.bits.specs.Matrices.{identity}
+use Rattle.bits.specs.Lists.{tabulate}
+use Rattle.matrices.specs.Matrices.{identity}
 use Rattle.bits.specs.Vectors.{unit}
-use Rattle.bits.proofs.laws.Bytes.{matrixOf-fits}
+use Rattle.matrices.proofs.laws.Stored.{matrixOf-fits}
 use Rattle.bits.proofs.laws.Encodings.{permutation-by-test}
 use Rattle.bits.proofs.laws.Lists.{at-tabulate}
-use Rattle.bits.proofs.laws.Matrices.{product-identity}
+use Rattle.matrices.proofs.laws.Matrices.{product-identity}
 use Rattle.bits.proofs.laws.Vectors.{unit-lt}
 use Rattle.bundle.specs.Format.{encodings, byteMatrices, columnMatrices, encodingOf, byteMatrix, columnMatrix, byteMatrixPart, columnMatrixPart, inputMatrixPart, outputMatrixPart}
 use Rattle.bundle.specs.Judge.{judge}
@@ -27,7 +27,7 @@ use Rattle.bundle.proofs.laws.Parts.{at-bytes}
 use Rattle.network.specs.Stages as stages
 use Rattle.network.proofs.laws.Ranges.{by-stage}
 use Rattle.whitebox.specs.Bundles.{plainEncoding, codingsOf}
-use Rattle.whitebox.specs.Codings.{Codings, GoodMatrix, Sound}
+use Rattle.whitebox.specs.Codings.{GoodMatrix, Sound}
 
 plain-good : Permutation plainEncoding
 unfolding plainEncoding tabulate decode

@@ -1,7 +1,7 @@
 -- Laws, not definitions: the calls' refusals and the plain count agree, and a list of calls over walks that are known at each count answers
 -- what is due.
 -- Assumes nothing.
-use mathlib.Core.Bool.{Bool, true, false, not, cond, _||_}
+use mathlib.Core.Bool.{not}
 use mathlib.Core.List.{List, [], _∷_, map}
 use mathlib.Core.Logic.{⊎-elim, _⊎_, inl, inr}
 use mathlib.Core.Path.{_≡_, refl, sym, ap, ap₂, _∙_, subst}
@@ -9,7 +9,6 @@ use Prim.Native.Nat.{ℕ, zero, suc, _+_, _-_, _≤_, _<_}
 use native.Mathlib.Decide.{ℕ-discrete, decLt}
 use native.Mathlib.Omega.{arith}
 use borrow.Author.Tests.{lt-ltb, le-ltb, eq-eqb, ne-eqb}
-use lib.Dec.{eqb, ltb}
 use lib.ListN.{length, take, drop}
 use Rattle.network.specs.Lookups.{Walk}
 use Rattle.network.specs.Stages.{lookups, setBytes, tableSize, tableOffset}

@@ -2,7 +2,7 @@
 -- Assumes nothing.
 use mathlib.Core.Bool.{cond}
 use mathlib.Core.List.{List, [], _∷_}
-use mathlib.Core.Path.{_≡_, refl, sym, ap, ap₂, _∙_, fun-ext}
+use mathlib.Core.Path.{_≡_, refl, ap, ap₂, _∙_}
 use Prim.Native.Nat.{ℕ, zero, suc, _+_, _-_, _*_, _/_, _%_, _≤_, _<_}
 use native.Mathlib.Decide.{decLt}
 use native.Mathlib.Omega.{arith}
@@ -17,10 +17,10 @@ use Rattle.bits.specs.Bytes.{bytesOf}
 use Rattle.bits.specs.Encodings.{encode, decode}
 use Rattle.bits.specs.Groups.{joined, group}
 use Rattle.bits.specs.Lists.{at, tabulate}
-use Rattle.bits.specs.Matrices.{identity}
-use Rattle.bits.specs.Nibbles.{pack, nibble, packed}
-use Rattle.bits.proofs.laws.Cases as bits
-use Rattle.bits.proofs.laws.Matrices.{product-zero, product-identity}
+use Rattle.matrices.specs.Matrices.{identity}
+use Rattle.bits.specs.Nibbles.{pack, nibble}
+use Rattle.matrices.proofs.laws.Cases as bits
+use Rattle.matrices.proofs.laws.Matrices.{product-zero, product-identity}
 use Rattle.bits.proofs.laws.Nibbles.{at-packed}
 use Rattle.bundle.specs.Format.{encodings, byteMatrices, columnMatrices, encodingOf, byteMatrix, columnMatrix}
 use Rattle.bundle.proofs.laws.Cases as bundle
@@ -28,7 +28,7 @@ use Rattle.field.specs.Field.{xtime, times, mul}
 use Rattle.field.specs.Sbox.{sboxOf}
 use Rattle.field.proofs.laws.Cases as field
 use Rattle.network.specs.Numbers.{Numbers}
-use Rattle.network.specs.Stages.{shifted, stages, lookups, stageOf, indexOf, numbersOf}
+use Rattle.network.specs.Stages.{shifted, lookups, stageOf, indexOf, numbersOf}
 use Rattle.network.specs.Tables.{spreadEntry, spreadTable, xorEntry, xorTable, tableIn}
 use Rattle.network.specs.declared.stage.Stage.the-variants.{First}
 use Rattle.network.proofs.laws.Cases as network

@@ -1,8 +1,8 @@
 -- Laws, not definitions: demands 2 and 3, as stated in specs/Demand2.antt and specs/Demand3.antt.
 -- Assumes nothing.
-use mathlib.Core.List.{List, [], _∷_, map, map-map}
-use mathlib.Core.Path.{_≡_, refl, sym, ap, ap₂, _∙_, subst}
-use Prim.Native.Nat.{ℕ, suc, _+_, _-_, _*_, _≤_, _<_}
+use mathlib.Core.List.{List, [], map, map-map}
+use mathlib.Core.Path.{_≡_, refl, sym, ap, _∙_, subst}
+use Prim.Native.Nat.{ℕ, suc, _+_, _-_, _≤_, _<_}
 use native.Mathlib.Nat.{le-refl}
 use native.Mathlib.Decide.{ℕ-discrete}
 use native.Mathlib.Omega.{arith}
@@ -12,16 +12,13 @@ use Rattle.aes.specs.Cipher.{encipherOf, decipherOf}
 use Rattle.round.specs.Key.{KeyExpansion, roundsOf}
 use Rattle.aes.proofs.laws.Cipher.{encipher-block, decipher-encipher}
 use Rattle.round.proofs.laws.Key.{round-key-bytes}
-use Rattle.bits.specs.Bytes.{Bytes, Block}
-use Rattle.bits.specs.Elimination.{inverseOf}
+use Rattle.bits.specs.Bytes.{Block}
+use Rattle.matrices.specs.Elimination.{inverseOf}
 use Rattle.bits.specs.Encodings.{encode, decode}
-use Rattle.bits.specs.Nibbles.{nibble, packed}
-use Rattle.bits.proofs.laws.Bytes.{bytesOf-bytes}
+use Rattle.bits.specs.Nibbles.{nibble}
 use Rattle.bits.proofs.laws.Nibbles.{packed-ext}
 use Rattle.bundle.specs.Format.{encodings, encodingOf, inputMatrix, outputMatrix}
-use Rattle.bundle.specs.Judge.{judge}
-use Rattle.bundle.specs.declared.answer.Judgement.the-variants.{Accepted}
-use Rattle.external.specs.Coding.{encodeNibbles, decodeNibbles, multiply, encodeBy, decodeBy, encodeInput, decodeInput, outputFirst, encodeOutput, decodeOutput, SameOuter}
+use Rattle.external.specs.Coding.{encodeNibbles, decodeNibbles, multiply, encodeBy, decodeBy, encodeInput, decodeInput, outputFirst, encodeOutput, decodeOutput}
 use Rattle.external.specs.Undoing.{Undone}
 use Rattle.external.proofs.laws.Coding.{undoing, multiply-block, multiply-back, accepted-input, accepted-encodings, input-room, decode-nibbles-bytes}
 use Rattle.network.specs.Due.{Values, Due, valuesOf, leftBy, standingDue, areaDue, closed, encoded, decoded}
@@ -40,10 +37,10 @@ use Rattle.network.proofs.laws.Values.{follows-standing, follows-area}
 use Rattle.whitebox.specs.Bundles.{codingsOf, partsOf, madeSet, madeTable, dueAt}
 use Rattle.whitebox.specs.Calls.{Reply, accepted, refused, lowest, ifAccepted, judgeStart, started, Call, toStop, fetch, step, reply, handed, blockLeft, serve, lastWalk}
 use Rattle.whitebox.specs.Codings.{Codings, Sound}
-use Rattle.whitebox.specs.Demand2.{walkedOver, Enciphers, Demand2For, Demand2}
-use Rattle.whitebox.specs.Demand3.{Given, Presented, Answered, ListOfCalls, Places, EveryPlace, TwoSets, Demand3For, Demand3}
+use Rattle.whitebox.specs.Demand2.{walkedOver, Demand2For, Demand2}
+use Rattle.whitebox.specs.Demand3.{Given, Presented, Answered, Places, TwoSets, Demand3For, Demand3}
 use Rattle.whitebox.specs.Parts.{Parts, Fine, forward}
-use Rattle.whitebox.specs.PlainCount.{argsOf, plain, plainCount, Lent, dueServed, Alike, seen}
+use Rattle.whitebox.specs.PlainCount.{argsOf, plain, plainCount, Lent, dueServed, seen}
 use Rattle.whitebox.specs.States.{result}
 use Rattle.whitebox.specs.Values.{valuesAt, values, ended, dueStanding, dueArea, walkDue}
 use Rattle.whitebox.proofs.laws.Bundles.{codings-sound, encodings-agree, encoding-is}

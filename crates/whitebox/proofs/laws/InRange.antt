@@ -2,7 +2,7 @@
 -- Assumes nothing.
 use mathlib.Core.Bool.{cond}
 use mathlib.Core.List.{List, [], _∷_, _++_, map}
-use mathlib.Core.Path.{_≡_, refl, sym, ap, ap₂, _∙_}
+use mathlib.Core.Path.{_≡_, refl, ap, ap₂, _∙_}
 use Prim.Native.Nat.{ℕ, zero, suc, _+_, _-_, _*_, _/_, _%_, _≤_, _<_}
 use native.Mathlib.Decide.{decLt}
 use native.Mathlib.Omega.{arith}
@@ -10,20 +10,19 @@ use borrow.Author.Tests.{lt-ltb, le-ltb}
 use lib.Bits.{bitXor}
 use lib.Dec.{ltb}
 use Rattle.bits.specs.Bytes.{number, byte, bytesOf, placed}
-use Rattle.bits.specs.Elimination.{inverseOf}
+use Rattle.matrices.specs.Elimination.{inverseOf}
 use Rattle.bits.specs.Encodings.{encode, decode}
-use Rattle.bits.specs.Lists.{tabulate}
-use Rattle.bits.specs.Matrices.{product}
+use Rattle.matrices.specs.Matrices.{product}
 use Rattle.bits.specs.Nibbles.{pack, nibble}
 use Rattle.bits.proofs.laws.Lists.{concat-same, tabulate-ext}
 use Rattle.bits.proofs.laws.Nibbles.{packed-ext}
 use Rattle.field.specs.Field.{mul}
 use Rattle.network.specs.Numbers.{Numbers, startNumbers, nextNumbers, encodingNumber}
 use Rattle.network.specs.Order.{layerLookups}
-use Rattle.network.specs.Stages.{stages, rounds, widthOf, lookups, encodings, widths}
-use Rattle.network.specs.Tables.{Layer, spreadEntry, spreadTable, tableIn, tableAt, widthsOf}
+use Rattle.network.specs.Stages.{stages, rounds, widthOf, lookups, encodings}
+use Rattle.network.specs.Tables.{Layer, spreadEntry, spreadTable, tableIn, tableAt}
 use Rattle.network.specs.declared.stage.Stage.{Stage}
-use Rattle.network.specs.declared.stage.Stage.the-variants.{Entry, First, Second, Exit, Beyond}
+use Rattle.network.specs.declared.stage.Stage.the-variants.{Entry, First, Second, Exit}
 use Rattle.network.proofs.laws.InRange.{in-range}
 use Rattle.whitebox.specs.Codings.{Codings, byteMatrixAt, columnMatrixAt}
 use Rattle.whitebox.specs.InRange.{AgreeInRange, OnlyInRange}

@@ -2,21 +2,20 @@
 -- Assumes nothing.
 use mathlib.Core.Bool.{Bool, true, false, cond}
 use mathlib.Core.List.{List}
-use mathlib.Core.Path.{_≡_, refl, sym, ap, ap₂, _∙_}
-use Prim.Native.Nat.{ℕ, zero, suc, _+_, _-_, _*_, _/_, _%_, _≤_, _<_}
+use mathlib.Core.Path.{_≡_, refl, sym, ap, _∙_}
+use Prim.Native.Nat.{ℕ, zero, suc, _+_, _-_, _*_, _/_, _%_, _<_}
 use native.Mathlib.Decide.{decLt}
 use native.Mathlib.Omega.{arith}
 use borrow.Author.Tests.{eq-eqb, ne-eqb}
 use lib.Bits.{bitXor, xor-lt, xor-zero-r}
-use lib.Dec.{T, eqb, ltb, ltb→lt, lit<}
+use lib.Dec.{eqb, ltb, ltb→lt, lit<}
 use lib.ListN.{length}
 use Rattle.aes.specs.Cipher.{rounds, Cipher}
 use Rattle.round.specs.Key.{keyOf}
-use Rattle.round.specs.State.{cell, state, entry, mixRows, mixBy, SubBytes, ShiftRows, MixColumns, AddRoundKey}
+use Rattle.round.specs.State.{state, entry, mixRows, mixBy, SubBytes, ShiftRows, MixColumns, AddRoundKey}
 use Rattle.round.proofs.laws.Key.{key-bytes}
 use Rattle.round.proofs.laws.State.{place}
 use Rattle.bits.specs.Bytes.{Bytes, Block}
-use Rattle.bits.specs.Groups.{xorAll}
 use Rattle.bits.specs.Lists.{at, tabulate}
 use Rattle.bits.proofs.laws.Checked as checked
 use Rattle.bits.proofs.laws.XorAll.{xorAll-lt, xorAll-same}

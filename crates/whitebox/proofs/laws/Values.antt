@@ -6,22 +6,20 @@ use mathlib.Core.Path.{_≡_, refl, sym, ap, ap₂, _∙_, subst}
 use Prim.Native.Nat.{ℕ, zero, suc, _+_, _-_, _≤_, _<_}
 use native.Mathlib.Omega.{arith}
 use lib.Dec.{lit<}
-use lib.ListN.{length}
 use Rattle.bits.specs.Bytes.{Bytes, Block}
 use Rattle.bits.specs.Lists.{at}
-use Rattle.bits.proofs.laws.Bytes.{byte-lt, bytesOf-bytes}
+use Rattle.bits.proofs.laws.Bytes.{bytesOf-bytes}
 use Rattle.bits.proofs.laws.Lists.{tabulate-below}
-use Rattle.bits.proofs.laws.Matrices.{product-lt}
+use Rattle.matrices.proofs.laws.Matrices.{product-lt}
 use Rattle.external.specs.Coding.{multiply}
-use Rattle.network.specs.Due.{Values, summed, closed}
+use Rattle.network.specs.Due.{summed, closed}
 use Rattle.network.specs.Numbers.{startNumbers}
 use Rattle.network.specs.Stages.{stages, rounds}
-use Rattle.network.specs.Tables.{Layer, AllGood}
+use Rattle.network.specs.Tables.{AllGood}
 use Rattle.network.proofs.laws.Instance.{good-stages}
 use Rattle.network.proofs.laws.Stages.{good-16, good-4}
-use Rattle.network.specs.declared.stage.Stage.{Stage}
-use Rattle.network.specs.declared.stage.Stage.the-variants.{Entry, First, Second, Exit, Beyond}
-use Rattle.network.proofs.laws.Values.{Fits, Follows, closed-follows}
+use Rattle.network.specs.declared.stage.Stage.the-variants.{First, Exit}
+use Rattle.network.proofs.laws.Values.{Follows, closed-follows}
 use Rattle.whitebox.specs.Codings.{Codings, Sound, byteMatrixAt}
 use Rattle.whitebox.specs.Parts.{Parts, Fine}
 use Rattle.whitebox.specs.States.{keyed, mixed, stateAfter, result}

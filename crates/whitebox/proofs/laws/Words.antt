@@ -3,33 +3,32 @@
 -- placed alone.
 -- Assumes nothing.
 use mathlib.Core.List.{List}
-use mathlib.Core.Path.{_≡_, refl, sym, ap, ap₂, _∙_}
-use Prim.Native.Nat.{ℕ, zero, suc, _+_, _-_, _*_, _/_, _%_, _^_, _≤_, _<_}
+use mathlib.Core.Path.{_≡_, sym, ap, ap₂, _∙_}
+use Prim.Native.Nat.{ℕ, suc, _+_, _-_, _*_, _/_, _%_, _^_, _<_}
 use native.Mathlib.Omega.{arith}
 use lib.Bits.{bitXor}
 use Rattle.bits.specs.Bytes.{Bytes, Block, number, byte, numberOf, bytesOf, placed}
-use Rattle.bits.specs.Elimination.{inverseOf}
+use Rattle.matrices.specs.Elimination.{inverseOf}
 use Rattle.bits.specs.Groups.{xorAll}
-use Rattle.bits.specs.Lists.{at, tabulate}
-use Rattle.bits.specs.Matrices.{product}
-use Rattle.bits.proofs.laws.Bytes.{at-bytesOf, byte-lt, numberOf-lt, xor-of-placed, bytesOf-bytes}
-use Rattle.bits.proofs.laws.Groups.{group-xor, group-joined, joined-lt, joined-same, joined-group, joined-xorAll, xor-placed}
+use Rattle.bits.specs.Lists.{at}
+use Rattle.matrices.specs.Matrices.{product}
+use Rattle.bits.proofs.laws.Bytes.{at-bytesOf, numberOf-lt, xor-of-placed}
+use Rattle.bits.proofs.laws.Groups.{group-xor, group-joined, joined-lt, joined-same, joined-xorAll, xor-placed}
 use Rattle.bits.proofs.laws.XorAll.{xorAll-same, xorAll-linear}
-use Rattle.bits.proofs.laws.Inverses.{inverse-undoes}
+use Rattle.matrices.proofs.laws.Inverses.{inverse-undoes}
 use Rattle.bits.proofs.laws.Lists.{at-tabulate, tabulate-ext}
-use Rattle.bits.proofs.laws.Matrices.{product-lt, product-xor}
+use Rattle.matrices.proofs.laws.Matrices.{product-lt, product-xor}
 use Rattle.bits.proofs.laws.Xor.{Linear}
 use Rattle.field.specs.Field.{mul}
 use Rattle.field.proofs.laws.Field.{mul-lt}
 use Rattle.external.specs.Coding.{multiply}
-use Rattle.network.specs.Due.{Values, summed}
-use Rattle.network.specs.declared.stage.Stage.the-variants.{Entry, First, Second, Exit}
+use Rattle.network.specs.Due.{summed}
+use Rattle.network.specs.declared.stage.Stage.the-variants.{Entry}
 use Rattle.whitebox.specs.Codings.{Codings, GoodMatrix, Sound, byteMatrixAt, columnMatrixAt}
 use Rattle.whitebox.specs.Parts.{Parts, Fine}
-use Rattle.whitebox.specs.States.{keyed, mixed, stateAfter, result}
-use Rattle.whitebox.specs.Values.{underBytes, underColumns, valuesAt, ended}
+use Rattle.whitebox.specs.States.{keyed, mixed}
+use Rattle.whitebox.specs.Values.{underBytes, underColumns, valuesAt}
 use Rattle.whitebox.specs.Words.{substituted, entryWord, mixedWord, secondWord, placedWord}
-use Rattle.whitebox.proofs.laws.States.{keyed-bytes}
 
 -- ---- linear maps
 -- Byte j of the product of n bytes and a matrix, and the same under a further byte matrix.

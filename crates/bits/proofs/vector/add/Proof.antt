@@ -1,11 +1,10 @@
 -- `bits::vector::add` meets its contract. Assumes nothing.
-use mathlib.Core.Path.{_≡_, ap₂, _∙_}
-use Prim.Native.Nat.{ℕ, _*_}
+use mathlib.Core.Path.{ap₂, _∙_}
+use Prim.Native.Nat.{ℕ}
 use lib.Bits.{bitXor}
 use native.Mathlib.Omega.{arith}
 use Rattle.bits.specs.Words.{wide}
 use Rattle.bits.proofs.laws.Words.{xor-wide}
-use borrow.Author.Needs.{needs}
 use Rattle.bits.proofs.vector.add.Statement.{statement}
 use Rattle.bits.proofs.vector.add.Tie as tie
 use Rattle.bits.proofs.vector.masked.Reads as masked-reads

@@ -1,6 +1,6 @@
 -- `bits::vector::parity` meets its contract. Assumes nothing.
 use lib.Bits.{bitAnd, bitXor, and-lt, xor-lt}
-use lib.Count.{ones, ones-le}
+use lib.Count.{ones-le}
 use native.Mathlib.Omega.{arith}
 use Rattle.bits.proofs.laws.Words.{dot-wide}
 use Rattle.bits.proofs.vector.parity.Statement.{statement}

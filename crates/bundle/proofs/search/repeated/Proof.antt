@@ -1,12 +1,11 @@
 -- `bundle::search::repeated` meets its contract. Assumes nothing.
-use mathlib.Core.Bool.{Bool, true, false, cond}
-use mathlib.Core.Path.{_≡_, refl, sym, ap, _∙_}
+use mathlib.Core.Bool.{Bool, true, cond}
+use mathlib.Core.Path.{sym, ap, _∙_}
 use Prim.Native.Nat.{ℕ, _/_, _%_}
 use native.Mathlib.Omega.{arith}
 use lib.Bits.{bitXor}
 use lib.Dec.{eqb}
 use Rattle.bits.specs.Vectors.{bit, unit}
-use borrow.Author.Needs.{needs}
 use Rattle.bundle.proofs.search.repeated.Statement.{statement}
 use Rattle.bundle.proofs.search.repeated.Tie as tie
 use Rattle.bundle.proofs.search.marked.Reads as marked-reads

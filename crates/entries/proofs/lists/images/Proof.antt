@@ -1,5 +1,4 @@
 -- `entries::lists::images` meets its contract. Assumes nothing.
-use mathlib.Core.Path.{_≡_, refl}
 use Prim.Native.Nat.{_-_}
 use Rattle.bits.specs.Encodings.{imagesOf}
 use Rattle.bits.specs.Nibbles.{nibble}

@@ -1,10 +1,8 @@
 -- `entries::spread::nibble_byte` meets its contract. Assumes nothing.
-use mathlib.Core.Path.{_≡_, sym, ap, _∙_}
-use Prim.Native.Nat.{ℕ, _-_, _*_}
+use Prim.Native.Nat.{_-_}
 use native.Mathlib.Omega.{arith}
 use borrow.Author.Tests.{lt-ltb, le-ltb}
 use Rattle.entries.specs.Spread.{nibbleByte}
-use borrow.Author.Needs.{needs}
 use Rattle.entries.proofs.spread.nibble_byte.Statement.{statement}
 use Rattle.entries.proofs.spread.nibble_byte.Tie as tie
 

@@ -1,14 +1,14 @@
 -- `entries::spread::nibble_words` meets its contract. Assumes nothing.
 use mathlib.Core.List.{List, _++_}
 use mathlib.Core.Path.{_≡_, refl, sym, ap, ap₂, _∙_}
-use Prim.Native.Nat.{ℕ, _+_, _-_, _*_, _≤_, _<_}
+use Prim.Native.Nat.{ℕ, _+_, _-_, _*_, _≤_}
 use native.Mathlib.Nat.{zero-mul, one-mul, add-mul}
 use lib.ListN.{length, take, drop, length-take, length-drop}
 use Rattle.bits.specs.Bytes.{bytesOf}
 use Rattle.bits.specs.Lists.{concat}
-use Rattle.bits.specs.Words.{value, rowAt}
+use Rattle.matrices.specs.Rows.{rowAt}
 use Rattle.bits.proofs.laws.Lists.{concat-next, take-put}
-use Rattle.bits.proofs.laws.Words.{row-inside}
+use Rattle.matrices.proofs.laws.Rows.{row-inside}
 use Rattle.entries.specs.Spread.{combined, nibbleByte}
 use native.Mathlib.Omega.{arith}
 use Rattle.entries.proofs.spread.nibble_words.Statement.{statement}

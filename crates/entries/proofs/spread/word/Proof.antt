@@ -1,9 +1,10 @@
 -- `entries::spread::word` meets its contract. Assumes nothing.
 use mathlib.Core.Path.{_≡_, refl, sym, ap, ap₂, _∙_}
-use Prim.Native.Nat.{ℕ, _+_, _-_, _*_, _/_, _%_, _^_, _≤_}
+use Prim.Native.Nat.{ℕ, _-_, _*_, _/_, _%_, _^_, _≤_}
 use lib.Bits.{bitXor}
 use Rattle.bits.specs.Groups.{xorAll}
-use Rattle.bits.specs.Words.{wide, value, rowAt}
+use Rattle.bits.specs.Words.{wide, value}
+use Rattle.matrices.specs.Rows.{rowAt}
 use Rattle.entries.specs.Spread.{combined}
 use Rattle.entries.proofs.laws.Entries.{xorAll-next}
 use native.Mathlib.Omega.{arith}

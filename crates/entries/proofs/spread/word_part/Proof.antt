@@ -1,10 +1,9 @@
 -- `entries::spread::word_part` meets its contract. Assumes nothing.
-use mathlib.Core.Path.{_≡_, refl, ap, _∙_}
-use Prim.Native.Nat.{ℕ, _+_, _-_, _*_, _≤_, _<_}
-use lib.ListN.{length, take, drop, length-take, length-drop}
-use Rattle.bits.proofs.laws.Words.{row-inside}
+use mathlib.Core.Path.{_≡_, ap}
+use Prim.Native.Nat.{ℕ, _+_, _-_, _*_}
+use lib.ListN.{take, drop, length-take, length-drop}
+use Rattle.matrices.proofs.laws.Rows.{row-inside}
 use native.Mathlib.Omega.{arith}
-use borrow.Author.Needs.{needs}
 use Rattle.entries.proofs.spread.word_part.Statement.{statement}
 use Rattle.entries.proofs.spread.word_part.Tie as tie
 

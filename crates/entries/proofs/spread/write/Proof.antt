@@ -1,14 +1,11 @@
 -- `entries::spread::write` meets its contract. Assumes nothing.
-use mathlib.Core.List.{List}
-use mathlib.Core.Path.{_≡_, refl, sym, ap, ap₂, _∙_}
-use Prim.Native.Nat.{ℕ, _*_, _≤_, _<_}
-use Rattle.bits.specs.Lists.{at, concat}
-use Rattle.bits.specs.Words.{rowAt}
+use mathlib.Core.Path.{ap, _∙_}
+use Rattle.bits.specs.Lists.{at}
+use Rattle.matrices.specs.Rows.{rowAt}
 use Rattle.bits.proofs.laws.Lists.{concat-same}
-use Rattle.entries.specs.Spread.{combined, encodedBytes}
+use Rattle.entries.specs.Spread.{encodedBytes}
 use Rattle.entries.proofs.laws.Combined.{summed-is}
 use native.Mathlib.Omega.{arith}
-use borrow.Author.Needs.{needs}
 use Rattle.entries.proofs.spread.write.Statement.{statement}
 use Rattle.entries.proofs.spread.write.Tie as tie
 use Rattle.entries.proofs.spread.nibble_words.Reads as nibble-words-reads

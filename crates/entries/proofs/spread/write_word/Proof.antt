@@ -1,6 +1,6 @@
 -- `entries::spread::write_word` meets its contract. Assumes nothing.
-use mathlib.Core.Path.{_≡_, refl, sym, ap, ap₂, _∙_}
-use Prim.Native.Nat.{ℕ, _+_, _-_, _*_, _/_, _%_, _≤_}
+use mathlib.Core.Path.{refl, _∙_}
+use Prim.Native.Nat.{_+_, _-_, _*_}
 use lib.Bits.{bitXor}
 use lib.ListN.{length}
 use Rattle.bits.specs.Lists.{at, tabulate}

@@ -1,14 +1,14 @@
 -- `entries::spread::write_words` meets its contract. Assumes nothing.
 use mathlib.Core.List.{List, _++_}
 use mathlib.Core.Path.{_≡_, refl, sym, ap, ap₂, _∙_}
-use Prim.Native.Nat.{ℕ, _+_, _-_, _*_, _/_, _%_, _≤_, _<_}
+use Prim.Native.Nat.{ℕ, _+_, _-_, _*_, _/_, _%_, _≤_}
 use native.Mathlib.Nat.{zero-mul, one-mul, add-mul}
 use lib.ListN.{length, take, drop, length-take, length-drop}
 use lib.Bits.{bitXor}
 use lib.Seq.{take-all}
 use Rattle.bits.specs.Lists.{at, tabulate, concat}
 use Rattle.bits.proofs.laws.Lists.{concat-next, take-put}
-use Rattle.bits.proofs.laws.Words.{row-inside}
+use Rattle.matrices.proofs.laws.Rows.{row-inside}
 use Rattle.entries.specs.Spread.{encodedBytes, summed}
 use Rattle.entries.proofs.laws.Combined.{summed-parts}
 use native.Mathlib.Omega.{arith}

@@ -1,5 +1,5 @@
 -- `entries::xors::element` meets its contract. Assumes nothing.
-use mathlib.Core.Path.{sym, ap, _∙_}
+use mathlib.Core.Path.{sym, ap}
 use Rattle.bits.specs.Lists.{at}
 use Rattle.bits.proofs.laws.Lists.{at-past}
 use native.Mathlib.Omega.{arith}

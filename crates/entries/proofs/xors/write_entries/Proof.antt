@@ -1,8 +1,7 @@
 -- `entries::xors::write_entries` meets its contract. Assumes nothing.
 use mathlib.Core.List.{List, _++_}
 use mathlib.Core.Path.{_≡_, refl, sym, ap, ap₂, _∙_}
-use Prim.Native.Nat.{ℕ, _+_, _-_, _*_, _/_, _%_, _≤_, _<_}
-use native.Mathlib.Nat.{zero-mul}
+use Prim.Native.Nat.{ℕ, _+_, _-_, _*_, _≤_}
 use lib.Bits.{bitXor}
 use lib.ListN.{length, take, drop, length-take, length-drop}
 use lib.Seq.{take-all}

@@ -1,6 +1,6 @@
 -- `entries::xors::write_row` meets its contract. Assumes nothing.
-use mathlib.Core.Path.{_≡_, refl, ap₂, _∙_}
-use Prim.Native.Nat.{ℕ, _+_, _-_, _*_}
+use mathlib.Core.Path.{ap₂}
+use Prim.Native.Nat.{_+_, _-_, _*_}
 use lib.Bits.{bitXor}
 use Rattle.bits.specs.Lists.{at}
 use Rattle.bits.specs.Nibbles.{pack, packed}

@@ -1,5 +1,6 @@
 -- `external::block::times` meets its contract. Assumes nothing.
-use Rattle.bits.specs.Words.{value, rowsOf}
+use Rattle.bits.specs.Words.{value}
+use Rattle.matrices.specs.Rows.{rowsOf}
 use Rattle.external.proofs.laws.Code.{multiplied}
 use borrow.Author.Needs.{needs}
 use Rattle.external.proofs.block.times.Statement.{statement}

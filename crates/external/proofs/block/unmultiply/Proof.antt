@@ -2,9 +2,9 @@
 use mathlib.Core.Path.{ap, _∙_}
 use mathlib.Core.List.{List}
 use Prim.Native.Nat.{ℕ}
-use Rattle.bits.specs.Elimination.{invert}
-use Rattle.bits.specs.Matrices.{matrixOf}
-use Rattle.bits.specs.Words.{hasInverse}
+use Rattle.matrices.specs.Elimination.{invert}
+use Rattle.matrices.specs.Matrices.{matrixOf}
+use Rattle.matrices.specs.Rows.{hasInverse}
 use Rattle.bundle.proofs.laws.Code.{read-rows}
 use Rattle.external.specs.Coding.{multiply}
 use Rattle.external.proofs.laws.Code.{inverse-rows, never}

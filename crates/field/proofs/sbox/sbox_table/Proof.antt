@@ -1,5 +1,5 @@
 -- `field::sbox::sbox_table` meets its contract. Assumes nothing.
-use mathlib.Core.Path.{_≡_, refl, sym, _∙_}
+use mathlib.Core.Path.{refl, sym, _∙_}
 use Rattle.bits.proofs.laws.Lists.{tabulate-at, tabulate-ext}
 use Rattle.field.proofs.laws.Tables.{sboxTable}
 use Rattle.field.proofs.laws.Sbox.{sbox-at}

@@ -1,7 +1,7 @@
 -- `host::walk::tazhikko_walk` meets its contract. Assumes nothing.
 use Rattle.host.proofs.laws.Walks.{walk-below, left-refused, left-done}
 use Rattle.host.specs.Numbers.{returned}
-use mathlib.Core.Path.{_∙_, ap, subst, sym}
+use mathlib.Core.Path.{_∙_, subst, sym}
 use Prim.Native.Nat.{_<_}
 use native.Mathlib.Omega.{arith}
 use borrow.Author.Needs.{needs}

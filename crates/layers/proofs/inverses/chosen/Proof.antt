@@ -2,7 +2,7 @@
 use mathlib.Core.Path.{_≡_, sym, ap, _∙_, subst}
 use Prim.Native.Nat.{ℕ, _+_, _-_, _*_, _/_, _≤_, _<_}
 use lib.ListN.{length, take, drop, length-take, length-drop}
-use Rattle.bits.specs.Words.{rowsOf}
+use Rattle.matrices.specs.Rows.{rowsOf}
 use Rattle.layers.specs.Layers.{roundOf, InverseFor}
 use Rattle.network.specs.declared.stage.Stage.{Stage}
 use native.Mathlib.Omega.{arith}

@@ -1,5 +1,4 @@
 -- `layers::inverses::inverse` meets its contract. Assumes nothing.
-use mathlib.Core.Path.{_≡_}
 use Rattle.bundle.proofs.laws.Code.{read-rows}
 use Rattle.layers.proofs.laws.Code.{inverse-rows}
 use native.Mathlib.Omega.{arith}

@@ -2,8 +2,8 @@
 use mathlib.Core.List.{List}
 use mathlib.Core.Path.{sym, ap, _∙_, subst}
 use Prim.Native.Nat.{ℕ}
-use Rattle.bits.specs.Elimination.{inverseOf}
-use Rattle.bits.specs.Matrices.{matrixOf, Invertible}
+use Rattle.matrices.specs.Elimination.{inverseOf}
+use Rattle.matrices.specs.Matrices.{matrixOf, Invertible}
 use Rattle.bundle.specs.Format.{columnMatrices}
 use Rattle.bundle.proofs.laws.Judgements.{accepted-sound}
 use Rattle.layers.proofs.laws.Code.{frame-of, column-part-long}

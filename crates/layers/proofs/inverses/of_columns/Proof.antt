@@ -4,8 +4,8 @@ use Prim.Native.Nat.{ℕ, _+_, _-_, _*_, _≤_, _<_}
 use native.Mathlib.Decide.{decLt}
 use borrow.Rule.Slice.PartMut.{putMid}
 use lib.ListN.{length, take, drop, length-take, length-drop}
-use Rattle.bits.specs.Elimination.{inverseOf}
-use Rattle.bits.specs.Words.{rowsOf}
+use Rattle.matrices.specs.Elimination.{inverseOf}
+use Rattle.matrices.specs.Rows.{rowsOf}
 use Rattle.bundle.specs.Format.{columnMatrix}
 use Rattle.layers.proofs.laws.Code.{put-here, put-before}
 use native.Mathlib.Omega.{arith}

@@ -1,9 +1,9 @@
 -- `layers::inverses::of_input` meets its contract. Assumes nothing.
 use mathlib.Core.List.{List}
-use mathlib.Core.Path.{_≡_, sym, ap, _∙_, subst}
+use mathlib.Core.Path.{sym, ap, _∙_, subst}
 use Prim.Native.Nat.{ℕ}
-use Rattle.bits.specs.Elimination.{inverseOf}
-use Rattle.bits.specs.Matrices.{matrixOf, Invertible}
+use Rattle.matrices.specs.Elimination.{inverseOf}
+use Rattle.matrices.specs.Matrices.{matrixOf, Invertible}
 use Rattle.bundle.proofs.laws.Judgements.{accepted-sound}
 use Rattle.layers.proofs.laws.Code.{frame-of, input-part-long}
 use native.Mathlib.Omega.{arith}

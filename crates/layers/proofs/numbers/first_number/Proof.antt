@@ -1,5 +1,5 @@
 -- `layers::numbers::first_number` meets its contract. Assumes nothing.
-use mathlib.Core.Path.{_≡_, refl, sym, ap, _∙_}
+use mathlib.Core.Path.{sym, ap}
 use Rattle.layers.specs.Layers.{roundOf}
 use Rattle.network.specs.Stages.{firstNumber}
 use native.Mathlib.Omega.{arith}

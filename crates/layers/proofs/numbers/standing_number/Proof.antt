@@ -1,5 +1,5 @@
 -- `layers::numbers::standing_number` meets its contract. Assumes nothing.
-use mathlib.Core.Path.{_≡_, refl, sym, ap, _∙_}
+use mathlib.Core.Path.{_≡_, sym, ap, _∙_}
 use Prim.Native.Nat.{ℕ, _-_}
 use Rattle.layers.specs.Layers.{roundOf}
 use Rattle.layers.proofs.laws.Code.{after-later}

@@ -1,10 +1,10 @@
 -- `layers::values::behind_sbox` meets its contract. Assumes nothing.
 use mathlib.Core.List.{List}
-use mathlib.Core.Path.{_≡_, refl, sym, ap, ap₂, _∙_, subst}
+use mathlib.Core.Path.{refl, sym, ap, _∙_, subst}
 use Prim.Native.Nat.{ℕ, _+_, _-_, _*_, _<_}
-use Rattle.bits.specs.Elimination.{inverseOf}
+use Rattle.matrices.specs.Elimination.{inverseOf}
 use Rattle.bits.specs.Lists.{at}
-use Rattle.bits.specs.Matrices.{matrixOf, Invertible}
+use Rattle.matrices.specs.Matrices.{matrixOf, Invertible}
 use Rattle.bits.proofs.laws.Lists.{tabulate-ext}
 use Rattle.bundle.specs.Format.{byteMatrices}
 use Rattle.bundle.proofs.laws.Judgements.{accepted-sound}

@@ -1,6 +1,5 @@
 -- `layers::values::key_behind` meets its contract. Assumes nothing.
-use mathlib.Core.Bool.{cond}
-use mathlib.Core.Path.{_≡_, refl, sym, ap, _∙_}
+use mathlib.Core.Path.{refl, sym}
 use borrow.Author.Tests.{eq-eqb, ne-eqb}
 use Rattle.layers.proofs.laws.Code.{key-at}
 use native.Mathlib.Omega.{arith}

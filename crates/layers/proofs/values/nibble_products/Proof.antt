@@ -1,8 +1,8 @@
 -- `layers::values::nibble_products` meets its contract. Assumes nothing.
-use mathlib.Core.Path.{_≡_, ap, _∙_}
-use Prim.Native.Nat.{ℕ, _-_}
-use Rattle.bits.specs.Matrices.{product}
-use Rattle.bits.specs.Words.{rowsOf}
+use mathlib.Core.Path.{ap, _∙_}
+use Prim.Native.Nat.{_-_}
+use Rattle.matrices.specs.Matrices.{product}
+use Rattle.matrices.specs.Rows.{rowsOf}
 use Rattle.bits.proofs.laws.Filled.{Filled, filled-none, filled-more, filled-all}
 use Rattle.entries.specs.Spread.{nibbleByte}
 use native.Mathlib.Omega.{arith}

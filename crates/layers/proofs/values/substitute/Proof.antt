@@ -1,12 +1,10 @@
 -- `layers::values::substitute` meets its contract. Assumes nothing.
-use mathlib.Core.List.{List}
-use mathlib.Core.Path.{_≡_, refl, sym, ap, ap₂, _∙_}
-use Prim.Native.Nat.{ℕ, _+_, _-_, _/_, _%_, _^_, _<_}
+use mathlib.Core.Path.{ap, _∙_}
+use Prim.Native.Nat.{ℕ, _-_}
 use lib.Bits.{bitXor}
-use lib.ListN.{length}
-use Rattle.bits.specs.Lists.{at, tabulate}
-use Rattle.bits.specs.Matrices.{product}
-use Rattle.bits.specs.Words.{rowsOf}
+use Rattle.bits.specs.Lists.{at}
+use Rattle.matrices.specs.Matrices.{product}
+use Rattle.matrices.specs.Rows.{rowsOf}
 use Rattle.bits.proofs.laws.Filled.{Filled, filled-none, filled-more, filled-all}
 use Rattle.field.specs.Sbox.{sboxOf}
 use Rattle.layers.proofs.laws.Code.{substituted-is}

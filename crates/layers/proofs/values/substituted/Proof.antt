@@ -1,10 +1,9 @@
 -- `layers::values::substituted` meets its contract. Assumes nothing.
-use mathlib.Core.Path.{_≡_, refl, ap, _∙_}
+use mathlib.Core.Path.{ap}
 use Prim.Native.Nat.{ℕ}
 use lib.Bits.{bitXor}
 use Rattle.bits.specs.Lists.{at}
 use native.Mathlib.Omega.{arith}
-use borrow.Author.Needs.{needs}
 use Rattle.layers.proofs.values.substituted.Statement.{statement}
 use Rattle.layers.proofs.values.substituted.Tie as tie
 use Rattle.entries.proofs.lists.widened.Reads as widened-reads

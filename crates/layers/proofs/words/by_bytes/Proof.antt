@@ -6,7 +6,7 @@ use lib.ListN.{length, take, length-set}
 use Rattle.bits.specs.Bytes.{byte}
 use Rattle.bits.specs.Groups.{group}
 use Rattle.bits.specs.Lists.{tabulate}
-use Rattle.bits.specs.Matrices.{product, matrixOf}
+use Rattle.matrices.specs.Matrices.{product, matrixOf}
 use Rattle.bits.specs.Words.{value}
 use Rattle.bits.proofs.laws.Lists.{fill-more}
 use Rattle.bundle.specs.Format.{partOf}

@@ -1,7 +1,8 @@
 -- `layers::words::byte_by` meets its contract. Assumes nothing.
-use mathlib.Core.Path.{_≡_, ap, _∙_}
-use Rattle.bits.specs.Matrices.{product}
-use Rattle.bits.specs.Words.{rowsOf, value}
+use mathlib.Core.Path.{ap, _∙_}
+use Rattle.matrices.specs.Matrices.{product}
+use Rattle.bits.specs.Words.{value}
+use Rattle.matrices.specs.Rows.{rowsOf}
 use Rattle.layers.proofs.laws.Code.{low-byte}
 use borrow.Author.Needs.{needs}
 use Rattle.layers.proofs.words.byte_by.Statement.{statement}

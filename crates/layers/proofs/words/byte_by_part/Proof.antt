@@ -5,10 +5,10 @@ use native.Mathlib.Nat.{lt-of-lt-of-le}
 use lib.Pow.{pow-mono}
 use Rattle.bits.specs.Groups.{joined}
 use Rattle.bits.specs.Lists.{at}
-use Rattle.bits.specs.Matrices.{productBy, matrixOf}
+use Rattle.matrices.specs.Matrices.{productBy, matrixOf}
 use Rattle.bits.specs.Vectors.{dot}
 use Rattle.bits.specs.Words.{wide, value}
-use Rattle.bits.proofs.laws.Matrices.{product-lt, product-next}
+use Rattle.matrices.proofs.laws.Matrices.{product-lt, product-next}
 use Rattle.bits.proofs.laws.Vectors.{dot-lt}
 use Rattle.layers.proofs.laws.Code.{low-byte, part-rows}
 use native.Mathlib.Omega.{arith}

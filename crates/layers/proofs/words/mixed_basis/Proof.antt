@@ -1,13 +1,13 @@
 -- `layers::words::mixed_basis` meets its contract. Assumes nothing.
 use mathlib.Core.List.{List}
 use mathlib.Core.Path.{_≡_, refl, sym, ap, ap₂, _∙_}
-use Prim.Native.Nat.{ℕ, _+_, _-_, _*_, _^_, _≤_}
+use Prim.Native.Nat.{ℕ, _-_, _^_, _≤_}
 use lib.ListN.{length}
 use Rattle.round.specs.State.{mixRows, entry}
 use Rattle.bits.specs.Bytes.{number}
-use Rattle.bits.specs.Matrices.{product, matrixOf}
-use Rattle.bits.specs.Words.{setRow, stored}
-use Rattle.bits.proofs.laws.Words.{stored-next}
+use Rattle.matrices.specs.Matrices.{product, matrixOf}
+use Rattle.matrices.specs.Rows.{setRow, stored}
+use Rattle.matrices.proofs.laws.Rows.{stored-next}
 use Rattle.bundle.proofs.laws.Code.{read-rows}
 use Rattle.field.specs.Field.{mul}
 use native.Mathlib.Omega.{arith}

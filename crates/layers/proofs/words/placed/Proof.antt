@@ -1,5 +1,5 @@
 -- `layers::words::placed` meets its contract. Assumes nothing.
-use mathlib.Core.Path.{_≡_, _∙_}
+use mathlib.Core.Path.{_∙_}
 use lib.ListN.{length-set, length-replicate}
 use Rattle.layers.proofs.laws.Code.{placed-number}
 use native.Mathlib.Omega.{arith}

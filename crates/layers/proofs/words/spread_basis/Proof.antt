@@ -4,9 +4,9 @@ use mathlib.Core.Path.{_≡_, refl, sym, ap, ap₂, _∙_}
 use Prim.Native.Nat.{ℕ, _+_, _-_, _*_, _^_, _≤_}
 use lib.ListN.{length}
 use Rattle.bits.specs.Bytes.{number, byte, placed}
-use Rattle.bits.specs.Matrices.{product}
-use Rattle.bits.specs.Words.{rowsOf, setRow, stored}
-use Rattle.bits.proofs.laws.Words.{stored-next}
+use Rattle.matrices.specs.Matrices.{product}
+use Rattle.matrices.specs.Rows.{rowsOf, setRow, stored}
+use Rattle.matrices.proofs.laws.Rows.{stored-next}
 use Rattle.bundle.specs.Format.{byteMatrix}
 use Rattle.layers.proofs.laws.Code.{byte-section-long, byte-matrices-in}
 use native.Mathlib.Omega.{arith}

@@ -1,7 +1,7 @@
 -- `tables::table::basis_of` meets its contract. Assumes nothing.
 use mathlib.Core.Path.{sym, ap, _∙_, subst}
 use Prim.Native.Nat.{_+_, _-_, _*_, _/_, _^_, _<_}
-use Rattle.bits.proofs.laws.Words.{stored-same}
+use Rattle.matrices.proofs.laws.Rows.{stored-same}
 use Rattle.layers.specs.Layers.{roundOf, InverseFor, wordNumber}
 use Rattle.layers.proofs.laws.Code.{frame-of, column-part-long, output-part-long}
 use Rattle.network.specs.declared.stage.Stage.{Stage}

@@ -1,6 +1,5 @@
 -- `tables::table::values_of` meets its contract. Assumes nothing.
-use mathlib.Core.List.{List}
-use mathlib.Core.Path.{_≡_, refl, sym, ap, ap₂, _∙_}
+use mathlib.Core.Path.{refl, sym, ap, _∙_}
 use lib.ListN.{length}
 use Rattle.bits.specs.Lists.{tabulate}
 use Rattle.bits.proofs.laws.Lists.{length-tabulate}

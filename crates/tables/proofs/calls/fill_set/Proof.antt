@@ -1,6 +1,5 @@
 -- `tables::calls::fill_set` meets its contract. Assumes nothing.
-use mathlib.Core.List.{List}
-use mathlib.Core.Path.{_≡_, refl, sym, ap, _∙_}
+use mathlib.Core.Path.{ap, _∙_}
 use Rattle.round.specs.Key.{KeyExpansion}
 use Rattle.tables.proofs.laws.Calls.{set-is}
 use borrow.Author.Needs.{needs}

@@ -1,5 +1,5 @@
 -- `tables::calls::judged` meets its contract. Assumes nothing.
-use mathlib.Core.Path.{_≡_, sym, _∙_}
+use mathlib.Core.Path.{sym, _∙_}
 use Rattle.tables.proofs.laws.Calls.{judged-key, judged-by}
 use borrow.Author.Needs.{needs}
 use Rattle.tables.proofs.calls.judged.Statement.{statement}

@@ -1,5 +1,5 @@
 -- `tables::calls::make_set` meets its contract. Assumes nothing.
-use mathlib.Core.Path.{_≡_, refl, sym, ap, _∙_}
+use mathlib.Core.Path.{refl, sym, _∙_}
 use Rattle.tables.proofs.laws.Calls.{judged-done, set-refused, set-memory, set-done, written-done}
 use borrow.Author.Needs.{needs}
 use Rattle.tables.proofs.calls.make_set.Statement.{statement}

@@ -1,5 +1,5 @@
 -- `tables::calls::make_table` meets its contract. Assumes nothing.
-use mathlib.Core.Path.{_≡_, refl, sym, ap, _∙_}
+use mathlib.Core.Path.{refl, sym, ap, _∙_}
 use Rattle.network.specs.declared.stage.Place.{Place}
 use Rattle.tables.proofs.laws.Calls.{judged-done, table-refused, table-number, table-memory, table-done, written-done}
 use native.Mathlib.Omega.{arith}

@@ -1,0 +1,62 @@
+-- Laws, not definitions: matrices as bytes and back.
+-- Assumes nothing.
+use mathlib.Core.List.{List}
+use mathlib.Core.Path.{_≡_, sym, ap, _∙_, subst}
+use Prim.Native.Nat.{ℕ, zero, suc, _+_, _*_, _/_, _%_, _^_, _<_}
+use native.Mathlib.Nat.{div-add-mod', div-lt-iff-lt-mul, mod-lt, zero-lt-suc}
+use native.Mathlib.Omega.{arith}
+use lib.ListN.{length}
+use Rattle.bits.specs.Bytes.{Bytes, number, byte, bytesOf}
+use Rattle.bits.specs.Lists.{at}
+use Rattle.matrices.specs.Matrices.{RowsFit, matrixOf, matrixBytes}
+use Rattle.bits.proofs.laws.Bytes.{length-bytesOf, at-bytesOf}
+use Rattle.bits.proofs.laws.Groups.{joined-lt, joined-same, joined-group, group-joined}
+use Rattle.bits.proofs.laws.Lists.{length-tabulate, at-tabulate, ext-at, length-concat, at-concat}
+
+pub matrixOf-length : (w : ℕ) (s : List ℕ) → length (matrixOf w s) ≡ 8 * w
+unfolding matrixOf
+matrixOf-length w s = length-tabulate (8 * w) _
+
+pub matrixOf-at : (w : ℕ) (s : List ℕ) (i : ℕ) → i < 8 * w → at (matrixOf w s) i ≡ number w (λ j. at s (i * w + j))
+unfolding matrixOf
+matrixOf-at w s i h = at-tabulate (8 * w) _ i h
+
+pub matrixOf-fits : (w : ℕ) (s : List ℕ) → Bytes s → RowsFit (8 * w) (at (matrixOf w s))
+matrixOf-fits w s b i h =
+    subst (λ (x : ℕ). x < 2 ^ (8 * w)) (sym (matrixOf-at w s i h)) (joined-lt 8 w (λ j. at s (i * w + j)) (λ j l. b (i * w + j)))
+
+rows-long : (w : ℕ) (m : List ℕ) (i : ℕ) → i < 8 * w → length (bytesOf w (at m i)) ≡ w
+rows-long w m i h = length-bytesOf w (at m i)
+
+pub length-matrixBytes : (w : ℕ) (m : List ℕ) → length (matrixBytes w m) ≡ 8 * w * w
+unfolding matrixBytes
+length-matrixBytes w m = length-concat w (λ i. bytesOf w (at m i)) (8 * w) (rows-long w m)
+
+matrixBytes-at : (w : ℕ) (m : List ℕ) (i j : ℕ) → i < 8 * w → j < w → at (matrixBytes w m) (i * w + j) ≡ byte w j (at m i)
+unfolding matrixBytes
+matrixBytes-at w m i j h l = at-concat w (λ i. bytesOf w (at m i)) (8 * w) (rows-long w m) i j h l ∙ at-bytesOf w (at m i) j l
+
+-- A matrix is the one that its bytes write.
+pub matrixOf-bytes : (w : ℕ) (m : List ℕ) → length m ≡ 8 * w → RowsFit (8 * w) (at m) → matrixOf w (matrixBytes w m) ≡ m
+matrixOf-bytes w m e f =
+    ext-at (8 * w) (matrixOf w (matrixBytes w m)) m (matrixOf-length w (matrixBytes w m)) e (λ i h.
+    matrixOf-at w (matrixBytes w m) i h
+    ∙ joined-same 8 w _ _ (λ j l. matrixBytes-at w m i j h l)
+    ∙ joined-group 8 w (at m i) (f i h))
+
+-- Bytes are those of the matrix that they write.
+pub matrixBytes-of : (w : ℕ) (s : List ℕ) → length s ≡ 8 * w * w → Bytes s → matrixBytes w (matrixOf w s) ≡ s
+matrixBytes-of zero s e b = ext-at 0 (matrixBytes zero (matrixOf zero s)) s (length-matrixBytes zero (matrixOf zero s)) e (λ i h. absurd (omega arith))
+matrixBytes-of (suc u) s e b =
+    ext-at (8 * w * w) (matrixBytes w (matrixOf w s)) s (length-matrixBytes w (matrixOf w s)) e (λ k h.
+    subst (λ (x : ℕ). at (matrixBytes w (matrixOf w s)) x ≡ at s x) (div-add-mod' k w)
+    (there (k / w) (k % w) (div-lt-iff-lt-mul {k = w} {x = k} {y = 8 * w} (zero-lt-suc u) .1 h) (mod-lt k (zero-lt-suc u))))
+  where
+    w : ℕ
+    w = suc u
+
+    there : (i j : ℕ) → i < 8 * w → j < w → at (matrixBytes w (matrixOf w s)) (i * w + j) ≡ at s (i * w + j)
+    there i j h l =
+        matrixBytes-at w (matrixOf w s) i j h l
+        ∙ ap (byte w j) (matrixOf-at w s i h)
+        ∙ group-joined 8 w (λ j. at s (i * w + j)) (λ j q. b (i * w + j)) j l

@@ -1,0 +1,94 @@
+// Matrices of up to 128 rows: row i is words 2 i and 2 i + 1 of a slice.
+ghost use mathlib.Core.Path.{_≡_};
+ghost use Prim.Native.Nat.{_+_, _*_, _<_, _≤_};
+ghost use lib.ListN.{length};
+ghost use Rattle.matrices.specs.Elimination.{invert};
+ghost use Rattle.bits.specs.Lists.{at};
+ghost use Rattle.matrices.specs.Matrices.{product, matrixOf, matrixBytes};
+ghost use Rattle.bits.specs.Words.{value};
+ghost use Rattle.matrices.specs.Rows.{rowAt, rowsOf, setRow, stored, hasInverse, withInverse};
+use crate::elimination;
+use bits::vector;
+use bits::vector::Vector;
+
+// Row i.
+pub fn row(m: &[u64], i: usize) -> Vector
+    requires { ⌜ 2 * i + 1 < length (now m) ⌝ }
+    ensures { λ r. ⌜ value r ≡ rowAt (now (m .entry)) i ⌝ }
+{
+    let k = 2 * i;
+    Vector {
+        hi: m[k],
+        lo: m[k + 1],
+    }
+}
+
+// v becomes row i.
+pub fn set_row(m: &mut [u64], i: usize, v: Vector)
+    requires { ⌜ 2 * i + 1 < length (now m) ⌝ }
+    ensures { λ _. ⌜ now (m .exit) ≡ setRow (now (m .entry)) i (value v) ⌝ }
+{
+    let k = 2 * i;
+    m[k] = v.hi;
+    m[k + 1] = v.lo;
+}
+
+// The product of a matrix of n rows and a vector.
+pub fn multiply(m: &[u64], n: usize, v: Vector) -> Vector
+    requires { ⌜ (n ≤ 128) × (2 * n ≤ length (now m)) ⌝ }
+    ensures { λ r. ⌜ value r ≡ product n (rowsOf n (now (m .entry))) (value v) ⌝ }
+{
+    let mut p = Vector { hi: 0, lo: 0 };
+    let mut i = 0;
+    while i < n {
+        let b = vector::parity(row(m, i), v);
+        p = vector::push_bit(p, b);
+        i += 1;
+    }
+    p
+}
+
+// The matrix of 8 w rows that bytes write.
+pub fn read(s: &[u8], m: &mut [u64], w: usize)
+    requires { ⌜ (w ≤ 16) × (8 * w * w ≤ length (now s)) × (16 * w ≤ length (now m)) ⌝ }
+    ensures { λ _. ⌜ now (m .exit) ≡ stored (8 * w) (at (matrixOf w (now (s .entry)))) (now (m .entry)) ⌝ }
+{
+    let n = 8 * w;
+    let mut i = 0;
+    while i < n {
+        let v = vector::read(s, i * w, w);
+        set_row(m, i, v);
+        i += 1;
+    }
+}
+
+// The bytes that write a matrix of 8 w rows.
+pub fn write(m: &[u64], dst: &mut [u8], w: usize)
+    requires { ⌜ (w ≤ 16) × (length (now dst) ≡ 8 * w * w) × (16 * w ≤ length (now m)) ⌝ }
+    ensures { λ _. ⌜ now (dst .exit) ≡ matrixBytes w (rowsOf (8 * w) (now (m .entry))) ⌝ }
+{
+    let n = 8 * w;
+    let mut i = 0;
+    while i < n {
+        let v = row(m, i);
+        let a = i * w;
+        let e = a + w;
+        vector::write(v, &mut dst[a..e]);
+        i += 1;
+    }
+}
+
+// The inverse of the matrix a of n rows, into the first n rows of b. Where a has none, false, and b is as it was.
+pub fn invert(a: &[u64], b: &mut [u64], n: usize) -> bool
+    requires { ⌜ (n ≤ 128) × (2 * n ≤ length (now a)) × (2 * n ≤ length (now b)) ⌝ }
+    ensures answer { λ r. ⌜ r ≡ hasInverse (invert n (rowsOf n (now (a .entry)))) ⌝ }
+    ensures rows { λ _. ⌜ now (b .exit) ≡ withInverse n (invert n (rowsOf n (now (a .entry)))) (now (b .entry)) ⌝ }
+{
+    let mut work = [0u64; 512];
+    elimination::start(a, &mut work, n);
+    if elimination::eliminate(&mut work, n) {
+        elimination::take_right(&work, b, n);
+        return true;
+    }
+    false
+}
