@@ -9,3 +9,4 @@ pub mod Words
 pub mod Bytes
 pub mod Nibbles
 pub mod Encodings
+pub mod Images

@@ -1,2 +1,3 @@
-// Bit vectors of up to 128 bits: one code for every width. The definitions are those of specs/.
+// Bit vectors of up to 128 bits, one code for every width; nibbles of bytes and their encodings. The definitions are those of specs/.
+pub mod encoding;
 pub mod vector;

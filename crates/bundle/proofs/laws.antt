@@ -2,8 +2,4 @@ pub mod Tests
 pub mod Search
 pub mod Frame
 pub mod Parts
-pub mod Encodings
-pub mod Matrices
 pub mod Code
-pub mod Judgements
-pub mod Cases

@@ -1,6 +1,4 @@
 pub mod Refusals
 pub mod Search
 pub mod Format
-pub mod Judge
-pub mod Judgements
-pub mod Cases
+pub mod Frames

@@ -1,21 +1,15 @@
 // Reads orders from standard input, and writes what the bundle's calls answer. An order is 8 bytes: its kind, a small number k, and two
 // numbers a and n of three bytes. The expected output is made by a program of other authorship (tests/bundle_cases.py).
-ghost use Prim.Native.Nat.{_<_};
+use bits::encoding;
 use bundle::answer;
 use bundle::answer::Judgement;
-use bundle::judge;
 use bundle::parts;
 use external::coding;
 use external::coding::Coded;
+use judgement::judge;
 use libc::STDIN_FILENO;
 use libc::STDOUT_FILENO;
 use view::part::Part;
-
-fn wide(x: u8) -> usize
-    ensures { λ r. ⌜ r < 256 ⌝ }
-{
-    x as usize
-}
 
 // The cause and its second number; both are 0 where nothing is turned down.
 fn say(cause: usize, second: usize) {
@@ -28,7 +22,7 @@ fn say(cause: usize, second: usize) {
 fn show(b: &[u8]) {
     let mut i = 0;
     while i < b.len() {
-        io::print_hex(STDOUT_FILENO, wide(b[i]) as u64, 2);
+        io::print_hex(STDOUT_FILENO, encoding::widened(b[i]) as u64, 2);
         i += 1;
     }
     io::write_all(STDOUT_FILENO, b"\n");
@@ -133,7 +127,7 @@ fn order(mem: &mut [u8], kind: u8, k: u8, a: usize, n: usize) {
 }
 
 fn three(a: u8, b: u8, c: u8) -> usize {
-    (wide(a) * 256 + wide(b)) * 256 + wide(c)
+    (encoding::widened(a) * 256 + encoding::widened(b)) * 256 + encoding::widened(c)
 }
 
 // One order; false at the end of the input.

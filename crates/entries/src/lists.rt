@@ -6,15 +6,8 @@ ghost use Rattle.bits.specs.Encodings.{imagesOf, decode, Permutation};
 ghost use Rattle.bits.specs.Lists.{at, tabulate, concat};
 ghost use Rattle.bits.specs.Nibbles.{pack};
 ghost use Rattle.entries.specs.Encodings.{encodingIn};
-use bundle::encoding;
+use bits::encoding;
 use bundle::sections;
-
-// A byte as an index.
-pub fn widened(x: u8) -> usize
-    ensures { λ r. ⌜ (r ≡ x) × (r < 256) ⌝ }
-{
-    x as usize
-}
 
 // The images that an encoding's 8 bytes give.
 pub fn images(p: &[u8], dst: &mut [u8])
@@ -49,7 +42,7 @@ pub fn places(p: &[u8], dst: &mut [u8])
     let mut v: usize = 16;
     while 0 < v {
         v -= 1;
-        let y = widened(encoding::nibble(p, v));
+        let y = encoding::widened(encoding::nibble(p, v));
         dst[y] = v as u8;
     }
 }

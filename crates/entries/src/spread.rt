@@ -11,9 +11,10 @@ ghost use Rattle.bits.specs.Words.{value};
 ghost use Rattle.matrices.specs.Rows.{rowAt};
 ghost use Rattle.entries.specs.Spread.{combined, encodedBytes, encodedWord, nibbleByte, summed};
 use crate::lists;
-use matrices::matrix;
+use bits::encoding;
 use bits::vector;
 use bits::vector::Vector;
+use matrices::matrix;
 
 // Bit i of a byte, from the bottom.
 fn bit_of(y: u8, i: usize) -> u64
@@ -69,8 +70,8 @@ fn encoded(images: &[u8], k: usize, b: u8) -> u8
     requires { ⌜ (k < 16) × (32 * k + 32 ≤ length (now images)) × ((i : ℕ) → i < 32 * k + 32 → at (now images) i < 16) ⌝ }
     ensures { λ r. ⌜ r ≡ pack (at (now (images .entry)) (16 * (2 * k) + b / 16)) (at (now (images .entry)) (16 * (2 * k + 1) + b % 16)) ⌝ }
 {
-    let x = 32 * k + lists::widened(b / 16);
-    let y = 32 * k + 16 + lists::widened(b % 16);
+    let x = 32 * k + encoding::widened(b / 16);
+    let y = 32 * k + 16 + encoding::widened(b % 16);
     images[x] * 16 + images[y]
 }
 
@@ -104,8 +105,8 @@ fn write_words(values: &[u8], words: &[u8], images: &[u8], m: usize, dst: &mut [
 {
     let mut x: usize = 0;
     while x < 256 {
-        let low = word_part(words, m, lists::widened(values[x] % 16));
-        let high = word_part(words, m, 16 + lists::widened(values[x] / 16));
+        let low = word_part(words, m, encoding::widened(values[x] % 16));
+        let high = word_part(words, m, 16 + encoding::widened(values[x] / 16));
         let a = x * m;
         let e = a + m;
         write_word(low, high, images, &mut dst[a..e]);

@@ -8,13 +8,14 @@ ghost use Rattle.bits.specs.Lists.{at};
 ghost use Rattle.bits.specs.Nibbles.{packed};
 ghost use Rattle.entries.specs.Encodings.{encodingIn};
 use crate::lists;
+use bits::encoding;
 use bundle::sections;
 
 // Element x; 0 behind the last.
 fn element(s: &[u8], x: u8) -> u8
     ensures { λ r. ⌜ r ≡ at (now (s .entry)) x ⌝ }
 {
-    let i = lists::widened(x);
+    let i = encoding::widened(x);
     if i < s.len() { s[i] } else { 0 }
 }
 

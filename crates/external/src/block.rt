@@ -10,10 +10,10 @@ ghost use Rattle.bits.specs.Nibbles.{pack};
 ghost use Rattle.matrices.specs.Rows.{rowsOf, hasInverse};
 ghost use Rattle.bundle.specs.Format.{encodingOf};
 ghost use Rattle.external.specs.Coding.{encodeNibbles, decodeNibbles, multiply};
-use matrices::matrix;
+use bits::encoding;
 use bits::vector;
-use bundle::encoding;
 use bundle::parts;
+use matrices::matrix;
 
 // A byte's halves under encodings n and n + 1.
 fn encoded(bundle: &[u8], n: usize, b: u8) -> u8

@@ -8,7 +8,7 @@ ghost use Rattle.matrices.specs.Elimination.{invert};
 ghost use Rattle.matrices.specs.Matrices.{matrixOf};
 ghost use Rattle.matrices.specs.Rows.{hasInverse};
 ghost use Rattle.bundle.specs.Format.{encodingOf};
-ghost use Rattle.bundle.specs.Judge.{judge};
+ghost use Rattle.judgement.specs.Judge.{judge};
 ghost use Rattle.bundle.specs.declared.answer.Judgement.the-variants.{Accepted};
 ghost use Rattle.external.specs.Calls.{causeOf, secondOf, answer, leaves};
 ghost use Rattle.external.specs.Coding.{encodeBy, decodeBy, encodeInput, decodeInput, encodeOutput, decodeOutput};
@@ -16,8 +16,8 @@ use crate::block;
 use bundle::answer;
 use bundle::answer::Judgement;
 use bundle::answer::Refusal;
-use bundle::judge;
 use bundle::parts;
+use judgement::judge;
 
 // The first of the output coding's 32 encodings.
 const OUTPUT_FIRST: usize = 6016;

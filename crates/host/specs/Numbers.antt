@@ -5,7 +5,7 @@ use mathlib.Core.Path.{_≡_}
 use Prim.Native.Nat.{ℕ, _+_, _*_, _/_, _%_}
 use Rattle.aes.specs.Answers as aes
 use Rattle.aes.specs.declared.Answer.{Answer}
-use Rattle.bundle.specs.Judge.{judge}
+use Rattle.judgement.specs.Judge.{judge}
 use Rattle.bundle.specs.Refusals as refusals
 use Rattle.bundle.specs.declared.answer.Judgement.{Judgement}
 use Rattle.bundle.specs.declared.answer.Judgement.the-variants.{Accepted, Refused}

@@ -7,7 +7,7 @@ pub mod walk;
 ghost use mathlib.Core.Path.{_≡_};
 ghost use lib.ListN.{length};
 ghost use Rattle.aes.specs.Answers.{answerOf, enciphered, deciphered};
-ghost use Rattle.bundle.specs.Judge.{judge};
+ghost use Rattle.judgement.specs.Judge.{judge};
 ghost use Rattle.external.specs.Calls.{answer, leaves};
 ghost use Rattle.external.specs.Coding.{encodeInput, decodeInput, encodeOutput, decodeOutput};
 ghost use Rattle.host.specs.Numbers.{ofJudgement, ofCoded, ofAnswer};
@@ -17,7 +17,7 @@ ghost use Rattle.host.specs.Numbers.{ofJudgement, ofCoded, ofAnswer};
 pub extern "C" fn tazhikko_judge_bundle(bundle: &[u8]) -> u32
     ensures { λ r. ⌜ r ≡ ofJudgement (judge 10 (now (bundle .entry))) ⌝ }
 {
-    number::of_judgement(bundle::judge::judge_bundle(bundle))
+    number::of_judgement(judgement::judge::judge_bundle(bundle))
 }
 
 // The input coding of a block.

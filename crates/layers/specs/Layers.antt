@@ -9,7 +9,7 @@ use Rattle.bits.specs.Encodings.{decode}
 use Rattle.bits.specs.Nibbles.{pack}
 use Rattle.matrices.specs.Rows.{rowsOf}
 use Rattle.bundle.specs.Format.{encodingOf, columnMatrix, inputMatrix}
-use Rattle.bundle.specs.Judge.{judge}
+use Rattle.judgement.specs.Judge.{judge}
 use Rattle.bundle.specs.declared.answer.Judgement.the-variants.{Accepted}
 use Rattle.network.specs.Stages.{widthOf, shifted, sourceOf, standingNumber}
 use Rattle.network.specs.declared.stage.Stage.{Stage}

@@ -8,11 +8,11 @@ ghost use Rattle.matrices.specs.Elimination.{inverseOf};
 ghost use Rattle.matrices.specs.Matrices.{matrixOf, Invertible};
 ghost use Rattle.matrices.specs.Rows.{rowsOf};
 ghost use Rattle.bundle.specs.Format.{columnMatrix, inputMatrix};
-ghost use Rattle.bundle.specs.Judge.{judge};
+ghost use Rattle.judgement.specs.Judge.{judge};
 ghost use Rattle.bundle.specs.declared.answer.Judgement.the-variants.{Accepted};
 ghost use Rattle.layers.specs.Layers.{roundOf, ColumnInverses, Ready, InverseFor};
-use matrices::matrix;
 use bundle::parts;
+use matrices::matrix;
 use network::stage::Stage;
 
 // The inverse of the matrix of 8 w rows that bytes write.

@@ -9,7 +9,7 @@ ghost use Rattle.round.specs.Key.{keyOf};
 ghost use Rattle.bits.specs.Lists.{at, tabulate};
 ghost use Rattle.matrices.specs.Matrices.{product};
 ghost use Rattle.matrices.specs.Rows.{rowsOf};
-ghost use Rattle.bundle.specs.Judge.{judge};
+ghost use Rattle.judgement.specs.Judge.{judge};
 ghost use Rattle.bundle.specs.declared.answer.Judgement.the-variants.{Accepted};
 ghost use Rattle.entries.specs.Spread.{nibbleByte};
 ghost use Rattle.field.specs.Sbox.{sboxOf};
@@ -19,7 +19,7 @@ ghost use Rattle.whitebox.specs.Words.{substituted};
 use crate::inverses;
 use crate::words;
 use bundle::parts;
-use entries::lists;
+use bits::encoding;
 use entries::spread;
 use network::stage;
 
@@ -41,7 +41,7 @@ fn substituted(products: &[u8], sbox: &[u8], before: u8, behind: u8, x: usize) -
     ensures { λ r. ⌜ r ≡ bitXor (at (now (sbox .entry)) (bitXor (bitXor (at (now (products .entry)) (x % 16)) (at (now (products .entry)) (16 + x / 16))) before)) behind ⌝ }
 {
     let y = products[x % 16] ^ products[16 + x / 16] ^ before;
-    sbox[lists::widened(y)] ^ behind
+    sbox[encoding::widened(y)] ^ behind
 }
 
 // Of every byte of `read`.
@@ -54,7 +54,7 @@ fn substitute(inverse: &[u64], before: u8, behind: u8, read: &[u8], dst: &mut [u
     let sbox = field::sbox_table();
     let mut x: usize = 0;
     while x < 256 {
-        let y = lists::widened(read[x]);
+        let y = encoding::widened(read[x]);
         dst[x] = substituted(&products, &sbox, before, behind, y);
         x += 1;
     }

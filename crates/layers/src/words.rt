@@ -10,10 +10,10 @@ ghost use Rattle.matrices.specs.Rows.{rowsOf, stored};
 ghost use Rattle.bundle.specs.Format.{byteMatrix, frame, partOf};
 ghost use Rattle.bundle.specs.declared.answer.Judgement.the-variants.{Accepted};
 ghost use Rattle.field.specs.Field.{mul};
-use matrices::matrix;
 use bits::vector;
 use bits::vector::Vector;
 use bundle::sections;
+use matrices::matrix;
 
 const MIX: [u8; 16] = [2, 3, 1, 1, 1, 2, 3, 1, 1, 1, 2, 3, 3, 1, 1, 2];
 

@@ -7,12 +7,7 @@ ghost use lib.Seq.{paste};
 ghost use Rattle.bits.specs.Nibbles.{half, nibble, setNibble, pack};
 ghost use Rattle.network.specs.Lookups.{sums, zeroArea};
 ghost use Rattle.lookups.specs.InPlace.{withHalf, xorByte};
-
-fn wide(x: u8) -> usize
-    ensures { λ r. ⌜ (r ≡ x) × (r < 256) ⌝ }
-{
-    x as usize
-}
+use bits::encoding;
 
 // The half of the byte x that is nibble q of a list.
 fn half_of(x: u8, q: usize) -> u8
@@ -38,7 +33,7 @@ fn xor_entry(table: &[u8], a: u8, b: u8) -> u8
     requires { ⌜ (a < 16) × (b < 16) × (length (now table) ≡ 128) ⌝ }
     ensures { λ r. ⌜ (r ≡ nibble (now (table .entry)) (pack a b)) × (r < 16) ⌝ }
 {
-    let e = wide(a) * 16 + wide(b);
+    let e = encoding::widened(a) * 16 + encoding::widened(b);
     let k = e / 2;
     half_of(table[k], e)
 }
@@ -76,7 +71,7 @@ pub fn spread(area: &mut [u8; 256], table: &[u8], width: usize, p: usize, s: u8)
     ensures { λ _. ⌜ length (now (area .exit)) ≡ length (now (area .entry)) ⌝ }
 {
     let to = p * width;
-    let from = wide(s) * width;
+    let from = encoding::widened(s) * width;
     let mut b = 0;
     while b < width {
         area[to + b] = table[from + b];

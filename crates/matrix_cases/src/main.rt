@@ -3,9 +3,9 @@
 ghost use mathlib.Core.Path.{_≡_};
 ghost use Prim.Native.Nat.{_*_, _≤_};
 ghost use lib.ListN.{length};
-use matrices::matrix;
 use bits::vector;
 use libc::STDOUT_FILENO;
+use matrices::matrix;
 
 fn wide(x: u8) -> u64 {
     x as u64

@@ -2,7 +2,7 @@
 ghost use mathlib.Core.Path.{_≡_};
 ghost use Prim.Native.Nat.{_<_};
 ghost use lib.ListN.{length};
-ghost use Rattle.bundle.specs.Judge.{judge};
+ghost use Rattle.judgement.specs.Judge.{judge};
 ghost use Rattle.bundle.specs.declared.answer.Judgement.the-variants.{Accepted};
 ghost use Rattle.network.specs.Stages.{tableSize};
 ghost use Rattle.tables.specs.Calls.{causeOf, secondOf, judged, setAnswer, tableAnswer, written};
@@ -11,7 +11,7 @@ use crate::set;
 use bundle::answer;
 use bundle::answer::Judgement;
 use bundle::answer::Refusal;
-use bundle::judge;
+use judgement::judge;
 use layers::inverses;
 use network::stage;
 

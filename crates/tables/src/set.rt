@@ -3,16 +3,16 @@ ghost use mathlib.Core.Path.{_≡_};
 ghost use Prim.Native.Nat.{_+_, _<_};
 ghost use lib.ListN.{length};
 ghost use Rattle.bits.specs.Lists.{concat};
-ghost use Rattle.bundle.specs.Judge.{judge};
+ghost use Rattle.judgement.specs.Judge.{judge};
 ghost use Rattle.bundle.specs.declared.answer.Judgement.the-variants.{Accepted};
 ghost use Rattle.layers.specs.Layers.{Ready, InverseFor};
 ghost use Rattle.network.specs.Stages.{stageOf, indexOf, tableSize};
 ghost use Rattle.whitebox.specs.Bundles.{codingsOf};
 ghost use Rattle.whitebox.specs.Parts.{forward};
 ghost use Rattle.whitebox.specs.Tables.{tableOf};
-use stages::table;
 use layers::inverses;
 use network::stage;
+use stages::table;
 
 // Table n, with the inverse that it needs.
 pub fn write_one(bundle: &[u8], keys: &[u8], inverse: &[u64], n: usize, dst: &mut [u8])

@@ -1,6 +1,7 @@
 // Reads orders from standard input, and writes what the calls of a walk answer over memory that a formula fills. An order is 8 bytes: its
 // kind, a small number k and a number n of six bytes. The expected output is made by a program of other authorship (tests/walk_cases.py).
 ghost use Prim.Native.Nat.{_<_};
+use bits::encoding;
 use evaluate::answer::fetch_cause;
 use evaluate::answer::move_cause;
 use evaluate::answer::start_cause;
@@ -12,12 +13,6 @@ use evaluate::walk::start;
 use libc::STDIN_FILENO;
 use libc::STDOUT_FILENO;
 use network::stage::place_of;
-
-fn wide(x: u8) -> usize
-    ensures { λ r. ⌜ r < 256 ⌝ }
-{
-    x as usize
-}
 
 // The memory: a linear congruence, its upper bits a byte each.
 fn next(x: u64) -> u64 {
@@ -42,7 +37,7 @@ fn change(i: usize, x: u8) {
     io::write_all(STDOUT_FILENO, b" ");
     io::print_decimal(STDOUT_FILENO, i as u64);
     io::write_all(STDOUT_FILENO, b":");
-    io::print_decimal(STDOUT_FILENO, wide(x) as u64);
+    io::print_decimal(STDOUT_FILENO, encoding::widened(x) as u64);
 }
 
 // The places where two lists of bytes differ, with the new byte.
@@ -217,7 +212,7 @@ fn order(walk: Walk, mem: &[u8], kind: u8, k: usize, n: usize) -> Walk {
 fn three(a: u8, b: u8, c: u8) -> usize
     ensures { λ r. ⌜ r < 16777216 ⌝ }
 {
-    (wide(a) * 256 + wide(b)) * 256 + wide(c)
+    (encoding::widened(a) * 256 + encoding::widened(b)) * 256 + encoding::widened(c)
 }
 
 // Order after order, to the end of the input.
@@ -234,7 +229,7 @@ fn run(mem: &[u8]) {
             return;
         }
         let n = three(h[2], h[3], h[4]) * 16777216 + three(h[5], h[6], h[7]);
-        walk = order(walk, mem, h[0], wide(h[1]), n);
+        walk = order(walk, mem, h[0], encoding::widened(h[1]), n);
         left -= 1;
     }
 }

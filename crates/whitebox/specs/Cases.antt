@@ -5,7 +5,7 @@ use Prim.Native.Nat.{ℕ, _≤_, _<_}
 use lib.ListN.{replicate}
 use Rattle.bits.specs.Lists.{at}
 use Rattle.matrices.specs.Matrices.{product, identity}
-use Rattle.bundle.specs.Cases.{List0, Byte159}
+use Rattle.judgement.specs.Cases.{List0, Byte159}
 use Rattle.bundle.specs.Format.{encodings, byteMatrices, columnMatrices, encodingOf, byteMatrix, columnMatrix, inputMatrix, outputMatrix}
 use Rattle.field.specs.Field.{mul}
 use Rattle.field.specs.Sbox.{sboxOf}

@@ -7,7 +7,7 @@ use lib.ListN.{length}
 use Rattle.aes.specs.Cipher.{encipherOf, decipherOf}
 use Rattle.round.specs.Key.{roundsOf}
 use Rattle.bits.specs.Bytes.{Bytes, Block}
-use Rattle.bundle.specs.Judge.{judge}
+use Rattle.judgement.specs.Judge.{judge}
 use Rattle.bundle.specs.declared.answer.Judgement.the-variants.{Accepted}
 use Rattle.external.specs.Coding.{encodeInput, encodeOutput, decodeOutput}
 use Rattle.network.specs.Stages.{shifted, lookups}

@@ -8,7 +8,7 @@ use Rattle.aes.specs.Cipher.{encipherOf}
 use Rattle.round.specs.Key.{roundsOf}
 use Rattle.bits.specs.Bytes.{Bytes}
 use Rattle.bits.specs.Nibbles.{nibble}
-use Rattle.bundle.specs.Judge.{judge}
+use Rattle.judgement.specs.Judge.{judge}
 use Rattle.bundle.specs.declared.answer.Judgement.the-variants.{Accepted}
 use Rattle.external.specs.Coding.{decodeInput, encodeOutput, SameOuter}
 use Rattle.network.specs.Rule.{labelOf, under, labels}

@@ -1,6 +1,6 @@
 -- Laws, not definitions: the definitions as the code meets them, by the test of a branch.
 -- Assumes nothing.
-use mathlib.Core.Bool.{Bool, true, false, not}
+use mathlib.Core.Bool.{true, false, not}
 use mathlib.Core.List.{List, []}
 use mathlib.Core.Path.{_≡_, refl, sym, ap, _∙_}
 use Prim.Native.Nat.{ℕ, zero, suc, _+_, _-_, _*_, _/_, _≤_, _<_}
@@ -9,27 +9,18 @@ use native.Mathlib.Omega.{arith}
 use lib.ListN.{length, take, drop}
 use borrow.Author.Tests.{eq-eqb, ne-eqb, lt-ltb, le-ltb}
 use Rattle.bits.specs.Bytes.{Bytes, number}
-use Rattle.matrices.specs.Elimination.{invert}
 use Rattle.bits.specs.Lists.{at}
-use Rattle.matrices.specs.Matrices.{matrixOf}
 use Rattle.bits.specs.Words.{wide}
-use Rattle.matrices.specs.Rows.{rowsOf, stored, hasInverse}
-use Rattle.matrices.proofs.laws.Stored.{matrixOf-length}
 use Rattle.bits.proofs.laws.Groups.{joined-lt}
-use Rattle.bits.proofs.laws.Lists.{tabulate-at}
-use Rattle.matrices.proofs.laws.Rows.{rows-stored}
-use Rattle.bundle.specs.Format.{encodings, byteMatrices, columnMatrices, partCount, partSize, sectionLength, shortest, longest, numberAt, offset, stated, endBefore, pairBad, lengthBad, frame, sectionOf, partOf, partAt, inputMatrixPart, outputMatrixPart}
-use Rattle.bundle.specs.Judge.{noPermutation, noInverse, byteMatrixBad, columnMatrixBad, judgeEncodings, judgeMatrices, judge}
+use Rattle.bundle.specs.Format.{partAt, partCount, partSize, sectionLength, shortest, longest, numberAt, offset, stated, endBefore, pairBad, lengthBad, frame, sectionOf, partOf}
 use Rattle.bundle.specs.Refusals.{unlessAt}
 use Rattle.bundle.specs.Search.{first}
 use Rattle.bundle.specs.declared.answer.Found.{Found}
-use Rattle.bundle.specs.declared.answer.Found.the-variants.{At, Nothing}
 use Rattle.bundle.specs.declared.answer.Judgement.{Judgement}
 use Rattle.bundle.specs.declared.answer.Judgement.the-variants.{Accepted, Refused}
-use Rattle.bundle.specs.declared.answer.Refusal.{Refusal}
-use Rattle.bundle.specs.declared.answer.Refusal.the-variants.{Length, Pair, Encoding, ByteMatrix, ColumnMatrix, InputMatrix, OutputMatrix}
+use Rattle.bundle.specs.declared.answer.Refusal.the-variants.{Length, Pair}
 use Rattle.bundle.proofs.laws.Frame.{right-good, range-good, section-is, section-none, section-fits, section-length}
-use Rattle.bundle.proofs.laws.Parts.{part-none, part-cut, part-long}
+use Rattle.bundle.proofs.laws.Parts.{part-none, part-long}
 
 -- ---- sizes and numbers
 pub product-le : (a b c d : ℕ) → a ≤ c → b ≤ d → a * b ≤ c * d
@@ -115,80 +106,7 @@ past size s n e h =
     let m : length s / size * size ≤ n * size = mul-le-mul-right size h in
     sym (part-none size s n (omega arith))
 
--- ---- matrices
--- A matrix that was read from bytes is the one that they write.
-pub read-rows : (w : ℕ) (p m m′ : List ℕ) → 16 * w ≤ length m → m′ ≡ stored (8 * w) (at (matrixOf w p)) m → rowsOf (8 * w) m′ ≡ matrixOf w p
-read-rows w p m m′ h e =
-    ap (rowsOf (8 * w)) e ∙ rows-stored (8 * w) (at (matrixOf w p)) m (omega arith) ∙ tabulate-at (8 * w) (matrixOf w p) (matrixOf-length w p)
-
-pub inverse-told : (w : ℕ) (p : List ℕ) (m : List ℕ) (r : Bool) → rowsOf (8 * w) m ≡ matrixOf w p → r ≡ hasInverse (invert (8 * w) (rowsOf (8 * w) m))
-    → noInverse w p ≡ not r
-unfolding noInverse
-inverse-told w p m r e q = ap not (ap (λ (x : List ℕ). hasInverse (invert (8 * w) x)) (sym e) ∙ sym q)
-
--- Matrix k of a section s has no inverse.
-abbrev pub singularIn : ℕ → ℕ → List ℕ → ℕ → Bool
-singularIn w size s k = noInverse w (partOf size s k)
-
-pub matrix-cut : (w size : ℕ) (s : List ℕ) (k : ℕ) (r : Bool) → r ≡ noInverse w (take ((k * size + size) - k * size) (drop (k * size) s)) → singularIn w size s k ≡ r
-matrix-cut w size s k r e = ap (noInverse w) (sym (part-cut size s k)) ∙ sym e
-
--- ---- the judgement
-pub encodings-judged : (nr : ℕ) (l s : List ℕ) (f : Found) → s ≡ sectionOf nr l 0 → f ≡ first (encodings nr) (λ n. noPermutation (partOf 8 s n))
-    → unlessAt f Encoding Accepted ≡ judgeEncodings nr l
-unfolding judgeEncodings partAt partSize
-encodings-judged nr l s f e q =
-    ap (λ (x : Found). unlessAt x Encoding Accepted) (q ∙ ap (λ (x : List ℕ). first (encodings nr) (λ n. noPermutation (partOf 8 x n))) e)
-
-pub section-search : (nr : ℕ) (l t : List ℕ) (s w size count : ℕ) (f : Found) → t ≡ sectionOf nr l s → size ≡ partSize s → count ≡ partCount nr s
-    → f ≡ first count (λ n. noInverse w (partOf size t n)) → f ≡ first (partCount nr s) (λ n. noInverse w (partAt nr l s n))
-unfolding partAt
-section-search nr l t s w size count f a b c e = e ∙ rw (a, b, c)
-
-pub section-room : (nr : ℕ) (l t : List ℕ) (s size count : ℕ) → frame nr l ≡ Accepted → s < 5 → t ≡ sectionOf nr l s → size ≡ partSize s → count ≡ partCount nr s
-    → count * size ≤ length t
-unfolding sectionLength
-section-room nr l t s size count f h a b c = rw (a, b, c) (omega (arith, section-length nr l f s h))
-
--- Behind the frame: encodings, then matrices.
-module _ (nr : ℕ) (l : List ℕ) where
-  pub judge-frame : (r : Refusal) → frame nr l ≡ Refused r → Refused r ≡ judge nr l
-  unfolding judge
-  judge-frame r e = rw e
-
-  module _ (A : frame nr l ≡ Accepted) where
-    pub judge-encodings : (r : Refusal) → judgeEncodings nr l ≡ Refused r → Refused r ≡ judge nr l
-    unfolding judge
-    judge-encodings r e = rw (A, e)
-
-    pub judge-rest : judgeEncodings nr l ≡ Accepted → judgeMatrices nr l ≡ judge nr l
-    unfolding judge
-    judge-rest e = rw (A, e)
-
-  -- Matrix after matrix.
-  pub matrices-byte : (n : ℕ) → first (byteMatrices nr) (byteMatrixBad nr l) ≡ At n → Refused (ByteMatrix n) ≡ judgeMatrices nr l
-  unfolding judgeMatrices
-  matrices-byte n e = rw e
-
-  module _ (B : first (byteMatrices nr) (byteMatrixBad nr l) ≡ Nothing) where
-    pub matrices-column : (n : ℕ) → first (columnMatrices nr) (columnMatrixBad nr l) ≡ At n → Refused (ColumnMatrix n) ≡ judgeMatrices nr l
-    unfolding judgeMatrices
-    matrices-column n e = rw (B, e)
-
-    module _ (C : first (columnMatrices nr) (columnMatrixBad nr l) ≡ Nothing) where
-      pub matrices-input : noInverse 16 (inputMatrixPart nr l) ≡ true → Refused InputMatrix ≡ judgeMatrices nr l
-      unfolding judgeMatrices
-      matrices-input e = rw (B, C, e)
-
-      module _ (D : noInverse 16 (inputMatrixPart nr l) ≡ false) where
-        pub matrices-output : noInverse 16 (outputMatrixPart nr l) ≡ true → Refused OutputMatrix ≡ judgeMatrices nr l
-        unfolding judgeMatrices
-        matrices-output e = rw (B, C, D, e)
-
-        pub matrices-good : noInverse 16 (outputMatrixPart nr l) ≡ false → Accepted ≡ judgeMatrices nr l
-        unfolding judgeMatrices
-        matrices-good e = rw (B, C, D, e)
-
+-- ---- block matrices
 block-size : (s : ℕ) → 3 ≤ s → partSize s ≡ 2048
 unfolding partSize
 block-size s h = let e : suc (suc (suc (s - 3))) ≡ s = omega arith in ap partSize (sym e)

@@ -23,12 +23,12 @@ use Rattle.bits.proofs.laws.Lists.{tabulate-at, tabulate-ext, length-tabulate}
 use Rattle.bits.proofs.laws.Nibbles.{nibble-even, nibble-odd}
 use Rattle.matrices.proofs.laws.Rows.{rows-stored}
 use Rattle.bundle.specs.Format.{encodings, frame, partAt, inputMatrixPart, outputMatrixPart}
-use Rattle.bundle.specs.Judge.{judge}
+use Rattle.judgement.specs.Judge.{judge}
 use Rattle.bundle.specs.declared.answer.Judgement.{Judgement}
 use Rattle.bundle.specs.declared.answer.Judgement.the-variants.{Accepted, Refused}
 use Rattle.bundle.specs.declared.answer.Refusal.{Refusal}
 use Rattle.bundle.proofs.laws.Code.{block-room}
-use Rattle.bundle.proofs.laws.Judgements.{accepted-sound}
+use Rattle.judgement.proofs.laws.Judgements.{accepted-sound}
 use Rattle.bundle.proofs.laws.Parts.{at-bytes}
 use Rattle.bundle.proofs.laws.Tests.{first-accepted}
 use Rattle.external.specs.Calls.{answer, unlessRefused, written}

@@ -19,9 +19,9 @@ use Rattle.matrices.proofs.laws.Inverses.{inverse-undoes}
 use Rattle.matrices.proofs.laws.Matrices.{product-lt}
 use Rattle.bits.proofs.laws.Nibbles.{length-packed, at-packed, packed-ext, packed-nibbles, packed-bytes, nibble-lt, parity}
 use Rattle.bundle.specs.Format.{encodings, encodingOf, inputMatrix, outputMatrix, inputMatrixPart, outputMatrixPart}
-use Rattle.bundle.specs.Judge.{judge}
+use Rattle.judgement.specs.Judge.{judge}
 use Rattle.bundle.specs.declared.answer.Judgement.the-variants.{Accepted}
-use Rattle.bundle.proofs.laws.Judgements.{accepted-sound}
+use Rattle.judgement.proofs.laws.Judgements.{accepted-sound}
 use Rattle.bundle.proofs.laws.Parts.{at-bytes}
 use Rattle.external.specs.Coding.{encodeNibbles, decodeNibbles, multiply, encodeBy, decodeBy, encodeInput, decodeInput, outputFirst, encodeOutput, decodeOutput}
 use Rattle.external.specs.Undoing.{Undoing}

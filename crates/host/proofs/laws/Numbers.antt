@@ -10,7 +10,7 @@ use Rattle.aes.specs.Answers as aes
 use Rattle.aes.specs.declared.Answer.{Answer}
 use Rattle.aes.specs.declared.Answer.the-variants as answers
 use Rattle.bundle.specs.Format.{encodings, byteMatrices, columnMatrices, frame, pairBad, lengthBad, inputMatrixPart, outputMatrixPart}
-use Rattle.bundle.specs.Judge.{noInverse, encodingBad, byteMatrixBad, columnMatrixBad, judgeEncodings, judgeMatrices, judge}
+use Rattle.judgement.specs.Judge.{noInverse, encodingBad, byteMatrixBad, columnMatrixBad, judgeEncodings, judgeMatrices, judge}
 use Rattle.bundle.specs.Refusals as refusals
 use Rattle.bundle.specs.Refusals.{andThen}
 use Rattle.bundle.specs.Search.{first}

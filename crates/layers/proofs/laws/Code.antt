@@ -28,7 +28,7 @@ use Rattle.bits.proofs.laws.Lists.{at-tabulate, tabulate-at, at-past}
 use Rattle.matrices.proofs.laws.Matrices.{product-lt, product-rows, product-xor}
 use Rattle.matrices.proofs.laws.Rows.{rows-stored}
 use Rattle.bundle.specs.Format.{byteMatrices, columnMatrices, partCount, partSize, sectionLength, frame, sectionOf, partOf, partAt, byteMatrixPart, columnMatrixPart, inputMatrixPart, outputMatrixPart, byteMatrix, columnMatrix}
-use Rattle.bundle.specs.Judge.{judge}
+use Rattle.judgement.specs.Judge.{judge}
 use Rattle.bundle.specs.declared.answer.Judgement.the-variants.{Accepted}
 use Rattle.bundle.proofs.laws.Frame.{section-length}
 use Rattle.bundle.proofs.laws.Parts.{part-long, take-inside}

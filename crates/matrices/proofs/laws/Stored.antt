@@ -1,17 +1,19 @@
--- Laws, not definitions: matrices as bytes and back.
+-- Laws, not definitions: matrices as bytes and back, and read into rows of words.
 -- Assumes nothing.
 use mathlib.Core.List.{List}
 use mathlib.Core.Path.{_≡_, sym, ap, _∙_, subst}
-use Prim.Native.Nat.{ℕ, zero, suc, _+_, _*_, _/_, _%_, _^_, _<_}
+use Prim.Native.Nat.{ℕ, zero, suc, _+_, _*_, _/_, _%_, _^_, _≤_, _<_}
 use native.Mathlib.Nat.{div-add-mod', div-lt-iff-lt-mul, mod-lt, zero-lt-suc}
 use native.Mathlib.Omega.{arith}
 use lib.ListN.{length}
 use Rattle.bits.specs.Bytes.{Bytes, number, byte, bytesOf}
 use Rattle.bits.specs.Lists.{at}
+use Rattle.matrices.specs.Rows.{rowsOf, stored}
+use Rattle.matrices.proofs.laws.Rows.{rows-stored}
 use Rattle.matrices.specs.Matrices.{RowsFit, matrixOf, matrixBytes}
 use Rattle.bits.proofs.laws.Bytes.{length-bytesOf, at-bytesOf}
 use Rattle.bits.proofs.laws.Groups.{joined-lt, joined-same, joined-group, group-joined}
-use Rattle.bits.proofs.laws.Lists.{length-tabulate, at-tabulate, ext-at, length-concat, at-concat}
+use Rattle.bits.proofs.laws.Lists.{tabulate-at, length-tabulate, at-tabulate, ext-at, length-concat, at-concat}
 
 pub matrixOf-length : (w : ℕ) (s : List ℕ) → length (matrixOf w s) ≡ 8 * w
 unfolding matrixOf
@@ -60,3 +62,8 @@ matrixBytes-of (suc u) s e b =
         matrixBytes-at w (matrixOf w s) i j h l
         ∙ ap (byte w j) (matrixOf-at w s i h)
         ∙ group-joined 8 w (λ j. at s (i * w + j)) (λ j q. b (i * w + j)) j l
+
+-- A matrix that was read from bytes is the one that they write.
+pub read-rows : (w : ℕ) (p m m′ : List ℕ) → 16 * w ≤ length m → m′ ≡ stored (8 * w) (at (matrixOf w p)) m → rowsOf (8 * w) m′ ≡ matrixOf w p
+read-rows w p m m′ h e =
+    ap (rowsOf (8 * w)) e ∙ rows-stored (8 * w) (at (matrixOf w p)) m (omega arith) ∙ tabulate-at (8 * w) (matrixOf w p) (matrixOf-length w p)

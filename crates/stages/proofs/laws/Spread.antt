@@ -20,10 +20,10 @@ use Rattle.bits.proofs.laws.Lists.{at-tabulate, length-tabulate, ext-at, length
 use Rattle.matrices.proofs.laws.Matrices.{product-lt}
 use Rattle.bits.proofs.laws.Nibbles.{length-packed, at-packed, packed-ext, nibble-lt}
 use Rattle.bundle.specs.Format.{encodings, encodingOf}
-use Rattle.bundle.specs.Judge.{judge}
+use Rattle.judgement.specs.Judge.{judge}
 use Rattle.bundle.specs.declared.answer.Judgement.the-variants.{Accepted}
-use Rattle.bundle.proofs.laws.Encodings.{images-long}
-use Rattle.bundle.proofs.laws.Judgements.{accepted-sound}
+use Rattle.bits.proofs.laws.Images.{images-long}
+use Rattle.judgement.proofs.laws.Judgements.{accepted-sound}
 use Rattle.entries.specs.Spread.{combined, encodedBytes, encodedWord}
 use Rattle.field.specs.Field.{mul}
 use Rattle.field.proofs.laws.OnBytes.{OnBytes}

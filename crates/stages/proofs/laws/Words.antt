@@ -14,7 +14,7 @@ use Rattle.matrices.specs.Matrices.{product, matrixOf}
 use Rattle.bits.proofs.laws.Groups.{joined-same}
 use Rattle.bits.proofs.laws.Lists.{at-concat}
 use Rattle.bundle.specs.Format.{encodingPart, encodingOf, byteMatrix, columnMatrix, columnMatrixPart, inputMatrix, outputMatrixPart}
-use Rattle.bundle.proofs.laws.Encodings.{images-long}
+use Rattle.bits.proofs.laws.Images.{images-long}
 use Rattle.bundle.proofs.laws.Parts.{at-bytes}
 use Rattle.entries.proofs.laws.Entries.{images-below}
 use Rattle.field.specs.Field.{mul}

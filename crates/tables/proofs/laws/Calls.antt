@@ -12,7 +12,7 @@ use borrow.Author.Tests.{eq-eqb, ne-eqb, eqb-true, lt-ltb, le-ltb}
 use lib.Dec.{eqb}
 use Rattle.round.specs.Key.{KeyExpansion}
 use Rattle.bits.specs.Lists.{concat}
-use Rattle.bundle.specs.Judge.{judge}
+use Rattle.judgement.specs.Judge.{judge}
 use Rattle.bundle.specs.declared.answer.Judgement.{Judgement}
 use Rattle.bundle.specs.declared.answer.Judgement.the-variants.{Accepted, Refused}
 use Rattle.network.specs.Stages.{lookups, setBytes, tableSize}

@@ -57,11 +57,11 @@ add-n c = search needs
 array-read-order : tie.Need-array-read-order Inv-loop μ-loop
 array-read-order c = search needs
 
-array-read-wide : tie.Need-array-read-wide Inv-loop μ-loop
-array-read-wide c = search needs
+array-read-widened : tie.Need-array-read-widened Inv-loop μ-loop
+array-read-widened c = search needs
 
-wide-requires : tie.Need-wide-requires Inv-loop μ-loop
-wide-requires c κs = search needs
+widened-requires : tie.Need-widened-requires Inv-loop μ-loop
+widened-requires c κs = search needs
 
 order-requires : tie.Need-order-requires Inv-loop μ-loop
 order-requires c κs = search needs
@@ -99,8 +99,8 @@ run-spec =
     three-requires-2
     add-n
     array-read-order
-    array-read-wide
-    wide-requires
+    array-read-widened
+    widened-requires
     order-requires
     sub-left
     loop-less

@@ -19,10 +19,10 @@ use Rattle.bits.proofs.laws.Lists.{at-tabulate}
 use Rattle.matrices.proofs.laws.Matrices.{product-identity}
 use Rattle.bits.proofs.laws.Vectors.{unit-lt}
 use Rattle.bundle.specs.Format.{encodings, byteMatrices, columnMatrices, encodingOf, byteMatrix, columnMatrix, byteMatrixPart, columnMatrixPart, inputMatrixPart, outputMatrixPart}
-use Rattle.bundle.specs.Judge.{judge}
-use Rattle.bundle.specs.Judgements as judgements
+use Rattle.judgement.specs.Judge.{judge}
+use Rattle.judgement.specs.Judgements as judgements
 use Rattle.bundle.specs.declared.answer.Judgement.the-variants.{Accepted}
-use Rattle.bundle.proofs.laws.Judgements.{accepted-sound}
+use Rattle.judgement.proofs.laws.Judgements.{accepted-sound}
 use Rattle.bundle.proofs.laws.Parts.{at-bytes}
 use Rattle.network.specs.Stages as stages
 use Rattle.network.proofs.laws.Ranges.{by-stage}

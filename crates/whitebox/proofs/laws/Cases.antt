@@ -23,7 +23,7 @@ use Rattle.matrices.proofs.laws.Cases as bits
 use Rattle.matrices.proofs.laws.Matrices.{product-zero, product-identity}
 use Rattle.bits.proofs.laws.Nibbles.{at-packed}
 use Rattle.bundle.specs.Format.{encodings, byteMatrices, columnMatrices, encodingOf, byteMatrix, columnMatrix}
-use Rattle.bundle.proofs.laws.Cases as bundle
+use Rattle.judgement.proofs.laws.Cases as bundle
 use Rattle.field.specs.Field.{xtime, times, mul}
 use Rattle.field.specs.Sbox.{sboxOf}
 use Rattle.field.proofs.laws.Cases as field

@@ -14,7 +14,7 @@ use Rattle.entries.proofs.laws.Combined.{summed-parts}
 use native.Mathlib.Omega.{arith}
 use Rattle.entries.proofs.spread.write_words.Statement.{statement}
 use Rattle.entries.proofs.spread.write_words.Tie as tie
-use Rattle.entries.proofs.lists.widened.Reads as widened-reads
+use Rattle.bits.proofs.encoding.widened.Reads as widened-reads
 use Rattle.entries.proofs.spread.word_part.Reads as word-part-reads
 use Rattle.entries.proofs.spread.write_word.Reads as write-word-reads
 

@@ -2,7 +2,7 @@
 use mathlib.Core.Path.{ap, _∙_}
 use mathlib.Core.List.{List}
 use Prim.Native.Nat.{ℕ}
-use Rattle.bundle.proofs.laws.Code.{read-rows}
+use Rattle.matrices.proofs.laws.Stored.{read-rows}
 use Rattle.external.specs.Coding.{multiply}
 use native.Mathlib.Omega.{arith}
 use borrow.Author.Needs.{needs}

@@ -5,7 +5,7 @@ use Prim.Native.Nat.{ℕ}
 use Rattle.matrices.specs.Elimination.{invert}
 use Rattle.matrices.specs.Matrices.{matrixOf}
 use Rattle.matrices.specs.Rows.{hasInverse}
-use Rattle.bundle.proofs.laws.Code.{read-rows}
+use Rattle.matrices.proofs.laws.Stored.{read-rows}
 use Rattle.external.specs.Coding.{multiply}
 use Rattle.external.proofs.laws.Code.{inverse-rows, never}
 use native.Mathlib.Omega.{arith}

@@ -1,5 +1,5 @@
 -- `layers::inverses::inverse` meets its contract. Assumes nothing.
-use Rattle.bundle.proofs.laws.Code.{read-rows}
+use Rattle.matrices.proofs.laws.Stored.{read-rows}
 use Rattle.layers.proofs.laws.Code.{inverse-rows}
 use native.Mathlib.Omega.{arith}
 use borrow.Author.Needs.{needs}

@@ -5,7 +5,7 @@ use Prim.Native.Nat.{ℕ}
 use Rattle.matrices.specs.Elimination.{inverseOf}
 use Rattle.matrices.specs.Matrices.{matrixOf, Invertible}
 use Rattle.bundle.specs.Format.{columnMatrices}
-use Rattle.bundle.proofs.laws.Judgements.{accepted-sound}
+use Rattle.judgement.proofs.laws.Judgements.{accepted-sound}
 use Rattle.layers.proofs.laws.Code.{frame-of, column-part-long}
 use native.Mathlib.Omega.{arith}
 use borrow.Author.Needs.{needs}

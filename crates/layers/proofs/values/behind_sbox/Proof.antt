@@ -7,7 +7,7 @@ use Rattle.bits.specs.Lists.{at}
 use Rattle.matrices.specs.Matrices.{matrixOf, Invertible}
 use Rattle.bits.proofs.laws.Lists.{tabulate-ext}
 use Rattle.bundle.specs.Format.{byteMatrices}
-use Rattle.bundle.proofs.laws.Judgements.{accepted-sound}
+use Rattle.judgement.proofs.laws.Judgements.{accepted-sound}
 use Rattle.layers.proofs.laws.Code.{frame-of, byte-part-long, behind-is}
 use native.Mathlib.Omega.{arith}
 use borrow.Author.Needs.{needs}

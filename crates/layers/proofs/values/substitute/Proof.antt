@@ -11,7 +11,7 @@ use Rattle.layers.proofs.laws.Code.{substituted-is}
 use native.Mathlib.Omega.{arith}
 use Rattle.layers.proofs.values.substitute.Statement.{statement}
 use Rattle.layers.proofs.values.substitute.Tie as tie
-use Rattle.entries.proofs.lists.widened.Reads as widened-reads
+use Rattle.bits.proofs.encoding.widened.Reads as widened-reads
 use Rattle.field.proofs.sbox_table.Reads as sbox-table-reads
 use Rattle.layers.proofs.values.nibble_products.Reads as nibble-products-reads
 use Rattle.layers.proofs.values.substituted.Reads as substituted-reads

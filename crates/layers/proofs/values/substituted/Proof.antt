@@ -6,7 +6,7 @@ use Rattle.bits.specs.Lists.{at}
 use native.Mathlib.Omega.{arith}
 use Rattle.layers.proofs.values.substituted.Statement.{statement}
 use Rattle.layers.proofs.values.substituted.Tie as tie
-use Rattle.entries.proofs.lists.widened.Reads as widened-reads
+use Rattle.bits.proofs.encoding.widened.Reads as widened-reads
 
 shared-slice-read-y : tie.Need-shared-slice-read-y
 shared-slice-read-y c = omega arith

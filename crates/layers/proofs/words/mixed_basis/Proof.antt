@@ -8,7 +8,7 @@ use Rattle.bits.specs.Bytes.{number}
 use Rattle.matrices.specs.Matrices.{product, matrixOf}
 use Rattle.matrices.specs.Rows.{setRow, stored}
 use Rattle.matrices.proofs.laws.Rows.{stored-next}
-use Rattle.bundle.proofs.laws.Code.{read-rows}
+use Rattle.matrices.proofs.laws.Stored.{read-rows}
 use Rattle.field.specs.Field.{mul}
 use native.Mathlib.Omega.{arith}
 use Rattle.layers.proofs.words.mixed_basis.Statement.{statement}

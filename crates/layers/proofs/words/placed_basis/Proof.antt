@@ -7,7 +7,7 @@ use Rattle.bits.specs.Bytes.{placed}
 use Rattle.matrices.specs.Matrices.{product, matrixOf}
 use Rattle.matrices.specs.Rows.{setRow, stored}
 use Rattle.matrices.proofs.laws.Rows.{stored-next}
-use Rattle.bundle.proofs.laws.Code.{read-rows}
+use Rattle.matrices.proofs.laws.Stored.{read-rows}
 use native.Mathlib.Omega.{arith}
 use Rattle.layers.proofs.words.placed_basis.Statement.{statement}
 use Rattle.layers.proofs.words.placed_basis.Tie as tie

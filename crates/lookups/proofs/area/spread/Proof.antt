@@ -18,21 +18,21 @@ abbrev μ-loop : tie.MeasureT-loop
 mul-to : tie.Need-mul-to Inv-loop μ-loop
 mul-to c = record { fits = omega (arith, mul-le-mul-right (c .before .args .width) (c .before .pre .2)) }
 
-wide-requires : tie.Need-wide-requires Inv-loop μ-loop
-wide-requires c κs = omega arith
+widened-requires : tie.Need-widened-requires Inv-loop μ-loop
+widened-requires c κs = omega arith
 
 mul-from : tie.Need-mul-from Inv-loop μ-loop
-mul-from c = record { fits = omega (arith, mul-le-mul-right (c .before .before .args .width) (c .wide .ensures .1)) }
+mul-from c = record { fits = omega (arith, mul-le-mul-right (c .before .before .args .width) (c .widened .ensures .1)) }
 
 loop-holds : tie.Need-loop-holds Inv-loop μ-loop
 loop-holds c =
     let w = c .before .before .args .width in
-    let e : c .wide .result ≡ c .before .before .args .s = c .wide .ensures .0 in (
+    let e : c .widened .result ≡ c .before .before .args .s = c .widened .ensures .0 in (
       omega arith,
       omega (arith, mul-le-mul-right w (c .before .before .pre .2)),
-      omega (arith, mul-le-mul-right w (c .wide .ensures .1)),
+      omega (arith, mul-le-mul-right w (c .widened .ensures .1)),
       c .before .before .pre .0,
-      paste-zero (c .before .before .args .area .now) (c .before .before .args .p * w) (drop (c .wide .result * w) (c .before .before .args .table .now)),
+      paste-zero (c .before .before .args .area .now) (c .before .before .args .p * w) (drop (c .widened .result * w) (c .before .before .args .table .now)),
     )
 
 add-area : tie.Need-add-area Inv-loop μ-loop
@@ -61,7 +61,7 @@ loop-again c =
       L .inv .1,
       L .inv .2,
       L .inv .3,
-      copy-more (A .area .now) (A .table .now) (L .area) (A .p * A .width) (c .before .before .before .wide .result * A .width) (L .b) (L .inv .4) (omega arith) (omega arith),
+      copy-more (A .area .now) (A .table .now) (L .area) (A .p * A .width) (c .before .before .before .widened .result * A .width) (L .b) (L .inv .4) (omega arith) (omega arith),
     )
 
 returns : tie.Need-returns Inv-loop μ-loop
@@ -69,9 +69,9 @@ returns c =
     let L = c .before .loop in
     let A = c .before .before .before .before .args in
     let d : L .b ≡ A .width = omega arith in
-    let e : L .area ≡ paste (A .area .now) (A .p * A .width) (drop (c .before .before .wide .result * A .width) (A .table .now)) (A .width) = L .inv .4 ∙ ap (paste (A .area .now) (A .p * A .width) (drop (c .before .before .wide .result * A .width) (A .table .now))) d in (
+    let e : L .area ≡ paste (A .area .now) (A .p * A .width) (drop (c .before .before .widened .result * A .width) (A .table .now)) (A .width) = L .inv .4 ∙ ap (paste (A .area .now) (A .p * A .width) (drop (c .before .before .widened .result * A .width) (A .table .now))) d in (
       e ∙ cc,
-      ap length e ∙ length-paste (A .area .now) (A .p * A .width) (drop (c .before .before .wide .result * A .width) (A .table .now)) (A .width) (omega arith) (omega (arith, length-drop (c .before .before .wide .result * A .width) (A .table .now))),
+      ap length e ∙ length-paste (A .area .now) (A .p * A .width) (drop (c .before .before .widened .result * A .width) (A .table .now)) (A .width) (omega arith) (omega (arith, length-drop (c .before .before .widened .result * A .width) (A .table .now))),
     )
 
 pub spread-spec : {M : Type 1} → statement M
@@ -81,7 +81,7 @@ spread-spec =
     Inv-loop
     μ-loop
     mul-to
-    wide-requires
+    widened-requires
     mul-from
     loop-holds
     add-area

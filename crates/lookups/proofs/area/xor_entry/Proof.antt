@@ -4,14 +4,14 @@ use borrow.Author.Needs.{needs}
 use Rattle.lookups.proofs.area.xor_entry.Statement.{statement}
 use Rattle.lookups.proofs.area.xor_entry.Tie as tie
 
-wide-requires : tie.Need-wide-requires
-wide-requires c κs = search needs
+widened-requires : tie.Need-widened-requires
+widened-requires c κs = search needs
 
 mul-e : tie.Need-mul-e
 mul-e c = search needs
 
-wide-requires-2 : tie.Need-wide-requires-2
-wide-requires-2 c κs = search needs
+widened-requires-2 : tie.Need-widened-requires-2
+widened-requires-2 c κs = search needs
 
 add-e : tie.Need-add-e
 add-e c = search needs
@@ -30,9 +30,9 @@ pub xor-entry-spec : {M : Type 1} → statement M
 xor-entry-spec =
     tie.close
     (tie.spec
-    wide-requires
+    widened-requires
     mul-e
-    wide-requires-2
+    widened-requires-2
     add-e
     shared-slice-read-half-of
     half-of-requires

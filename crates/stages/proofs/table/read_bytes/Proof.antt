@@ -7,7 +7,7 @@ use Rattle.bits.specs.Lists.{tabulate}
 use Rattle.bits.specs.Nibbles.{pack}
 use Rattle.bits.proofs.laws.Lists.{tabulate-ext}
 use Rattle.bundle.specs.Format.{encodings, encodingOf}
-use Rattle.bundle.proofs.laws.Judgements.{accepted-sound}
+use Rattle.judgement.proofs.laws.Judgements.{accepted-sound}
 use Rattle.layers.specs.Layers.{readByte}
 use Rattle.network.specs.Stages.{standingNumber}
 use Rattle.stages.proofs.laws.Encodings.{whole-encodings, encodings-in}

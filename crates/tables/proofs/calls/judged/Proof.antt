@@ -4,7 +4,7 @@ use Rattle.tables.proofs.laws.Calls.{judged-key, judged-by}
 use borrow.Author.Needs.{needs}
 use Rattle.tables.proofs.calls.judged.Statement.{statement}
 use Rattle.tables.proofs.calls.judged.Tie as tie
-use Rattle.bundle.proofs.judge.judge_bundle.Reads as judge-bundle-reads
+use Rattle.judgement.proofs.judge.judge_bundle.Reads as judge-bundle-reads
 
 returns : tie.Need-returns
 returns c = judged-key _ _ (c .if1 .taken)

@@ -1,0 +1,45 @@
+-- What causes 2 and 3 mean, for a reader: the statements. They are proved in proofs/laws/Frame.antt.
+use mathlib.Core.List.{List}
+use mathlib.Core.Path.{_≡_}
+use Prim.Native.Nat.{ℕ, _+_, _≤_, _<_}
+use lib.ListN.{length}
+use Rattle.bundle.specs.Format.{encodings, byteMatrices, columnMatrices, sectionLength, shortest, longest, offset, PairRight}
+
+-- ---- sizes: document 01's numbers are those for ten rounds
+pub record Sizes : Type 0 where
+  pub lists : encodings 10 ≡ 6048
+  pub bytes : byteMatrices 10 ≡ 160
+  pub columns : columnMatrices 10 ≡ 36
+  pub section-0 : sectionLength 10 0 ≡ 48384
+  pub section-1 : sectionLength 10 1 ≡ 1280
+  pub section-2 : sectionLength 10 2 ≡ 4608
+  pub section-3 : sectionLength 10 3 ≡ 2048
+  pub section-4 : sectionLength 10 4 ≡ 2048
+  pub low : shortest 10 ≡ 58408
+  pub high : longest 10 ≡ 65536
+
+-- ---- what each cause asks
+-- Cause 2: the length is in range.
+pub record InRange (nr : ℕ) (l : List ℕ) : Type 0 where
+  pub low : shortest nr ≤ length l
+  pub high : length l ≤ longest nr
+
+-- Causes 2 and 3: and every pair is right.
+pub record Framed (nr : ℕ) (l : List ℕ) : Type 0 where
+  pub range : InRange nr l
+  pub pairs : (i : ℕ) → i < 5 → PairRight nr l i
+
+-- ---- a count of numbers
+-- All numbers below a count are good; and n is the first that is not.
+abbrev pub All : ℕ → (ℕ → Type 0) → Type 0
+All count Good = (i : ℕ) → i < count → Good i
+
+pub record FirstBad (count : ℕ) (Good : ℕ → Type 0) (n : ℕ) : Type 0 where
+  pub below : n < count
+  pub before : All n Good
+  pub here : Good n → ⊥
+
+-- ---- sections
+-- Sections stand behind the pairs and in order: none overlaps another.
+abbrev pub Apart : Type 0
+Apart = (nr : ℕ) (l : List ℕ) → Framed nr l → (i : ℕ) → i < 5 → (40 ≤ offset l i) × ((j : ℕ) → j < i → offset l j + sectionLength nr j ≤ offset l i)

@@ -1,0 +1,5 @@
+pub mod Encodings
+pub mod Matrices
+pub mod Judging
+pub mod Judgements
+pub mod Cases

@@ -1,0 +1,76 @@
+-- Laws, not definitions: the theorems of specs/Cases.antt.
+-- Assumes nothing.
+use mathlib.Core.List.{List}
+use mathlib.Core.Path.{_≡_, refl, sym, _∙_, subst}
+use Prim.Native.Nat.{ℕ, _≤_, _<_}
+use native.Mathlib.Omega.{arith}
+use Rattle.matrices.proofs.laws.Stored.{matrixOf-fits}
+use Rattle.judgement.specs.Cases.{NoneBelow4, List0, Byte159}
+use Rattle.bundle.specs.Format.{encodings, byteMatrices, lengthBad, pairBad, frame, byteMatrix, byteMatrixPart}
+use Rattle.judgement.specs.Judge.{judge}
+use Rattle.bundle.specs.Frames.{Framed}
+use Rattle.bundle.specs.Refusals.{causeOf, unlessAt}
+use Rattle.bundle.specs.Search.{first}
+use Rattle.bundle.specs.declared.answer.Judgement.{Judgement}
+use Rattle.bundle.specs.declared.answer.Judgement.the-variants.{Accepted, Refused}
+use Rattle.bundle.specs.declared.answer.Refusal.{Refusal}
+use Rattle.bundle.specs.declared.answer.Refusal.the-variants.{Length, Pair, Encoding, ByteMatrix}
+use Rattle.bundle.proofs.laws.Frame.{framed}
+use Rattle.judgement.proofs.laws.Judgements.{only}
+use Rattle.judgement.proofs.laws.Matrices.{equal-rows}
+use Rattle.bundle.proofs.laws.Parts.{at-bytes}
+use Rattle.bundle.proofs.laws.Tests.{by-unless, by-unlessAt}
+
+-- ---- where no cause below 4 is given, the frame is right
+abbrev Low : Judgement → Type 0
+Low j = (r : Refusal) → j ≡ Refused r → causeOf r < 4
+
+low : (nr : ℕ) (l : List ℕ) → Low (frame nr l)
+unfolding frame
+low nr l =
+    by-unless Low (lengthBad nr l) Length (unlessAt (first 5 (pairBad nr l)) Pair Accepted)
+    (λ e r q. let z : Length ≡ r = cc in subst (λ (x : Refusal). causeOf x < 4) z (omega arith))
+    (λ e. by-unlessAt Low (first 5 (pairBad nr l)) Pair Accepted
+    (λ n f r q. let z : Pair n ≡ r = cc in subst (λ (x : Refusal). causeOf x < 4) z (omega arith))
+    (λ f r q. let y : _≡_ {A = ℕ} 0 1 = cc in absurd (omega arith)))
+
+none-below : (l : List ℕ) → NoneBelow4 l → (j : Judgement) → frame 10 l ≡ j → Framed 10 l
+unfolding judge
+none-below l high Accepted e = framed 10 l e
+none-below l high (Refused r) e =
+    let a : 4 ≤ causeOf r = high r (rw e) in
+    let b : causeOf r < 4 = low 10 l r e in
+    absurd (omega arith)
+
+pub list-0 : List0
+unfolding encodings
+list-0 l bytes high a b = record {
+  refusal = Encoding 0;
+  judged = only 10 l bytes (Refused (Encoding 0)) (
+    none-below l high (frame 10 l) refl,
+    record {
+      below = omega arith;
+      before = λ i h. absurd (omega arith);
+      here = λ p. let z : _≡_ {A = ℕ} 0 1 = p .apart 0 1 (omega arith) (omega arith) (a ∙ sym b) in omega arith;
+    },
+  );
+  number = refl;
+  with = refl;
+}
+
+pub byte-159 : Byte159
+unfolding byteMatrices
+byte-159 l bytes only-fault a b ha hb ne e = record {
+  refusal = ByteMatrix 159;
+  judged = only 10 l bytes (Refused (ByteMatrix 159)) (
+    only-fault .framed,
+    only-fault .lists,
+    record {
+      below = omega arith;
+      before = λ i h. only-fault .others i (omega arith) (omega arith);
+      here = equal-rows 8 (byteMatrix 10 l 159) (matrixOf-fits 1 (byteMatrixPart 10 l 159) (at-bytes 10 l 1 159 bytes)) a b ha hb ne e;
+    },
+  );
+  number = refl;
+  with = refl;
+}

@@ -1,0 +1,64 @@
+-- The judgement of a bundle: accepted, or the lowest cause of 2 to 7 that applies, with its first offender. What it means is said
+-- without its tests in Judgements.antt. Definitions only.
+use mathlib.Core.Bool.{Bool, false, not, _||_}
+use mathlib.Core.List.{List}
+use Prim.Native.Nat.{ℕ, zero, suc, _*_}
+use lib.Dec.{eqb}
+use Rattle.matrices.specs.Elimination.{invert}
+use Rattle.bits.specs.Encodings.{imagesOf}
+use Rattle.bits.specs.Lists.{at}
+use Rattle.matrices.specs.Matrices.{matrixOf}
+use Rattle.matrices.specs.Rows.{hasInverse}
+use Rattle.bundle.specs.Format.{encodings, byteMatrices, columnMatrices, frame, encodingPart, byteMatrixPart, columnMatrixPart, inputMatrixPart, outputMatrixPart}
+use Rattle.bundle.specs.Refusals.{unless, unlessAt, andThen}
+use Rattle.bundle.specs.Search.{first}
+use Rattle.bundle.specs.declared.answer.Judgement.{Judgement}
+use Rattle.bundle.specs.declared.answer.Judgement.the-variants.{Accepted}
+use Rattle.bundle.specs.declared.answer.Refusal.the-variants.{Encoding, ByteMatrix, ColumnMatrix, InputMatrix, OutputMatrix}
+
+-- ---- tests
+-- x is among the k numbers f j, f (j + 1), ..
+unfoldable pub among : ℕ → ℕ → (ℕ → ℕ) → ℕ → Bool
+among zero j f x = false
+among (suc k) j f x = eqb (f j) x || among k (suc j) f x
+
+-- One of the k numbers f i, f (i + 1), .. is among f 0, .. before it.
+unfoldable pub repeats : ℕ → ℕ → (ℕ → ℕ) → Bool
+repeats zero i f = false
+repeats (suc k) i f = among i 0 f (f i) || repeats k (suc i) f
+
+-- The 16 images that a list's 8 bytes give are no permutation: one of them "repeats".
+unfoldable pub noPermutation : List ℕ → Bool
+noPermutation p = repeats 16 0 (at (imagesOf p))
+
+-- The matrix of 8 w rows that bytes write has no inverse.
+unfoldable pub noInverse : ℕ → List ℕ → Bool
+noInverse w p = not (hasInverse (invert (8 * w) (matrixOf w p)))
+
+-- By number, of a bundle.
+abbrev pub encodingBad : ℕ → List ℕ → ℕ → Bool
+encodingBad nr l n = noPermutation (encodingPart nr l n)
+
+abbrev pub byteMatrixBad : ℕ → List ℕ → ℕ → Bool
+byteMatrixBad nr l n = noInverse 1 (byteMatrixPart nr l n)
+
+abbrev pub columnMatrixBad : ℕ → List ℕ → ℕ → Bool
+columnMatrixBad nr l n = noInverse 4 (columnMatrixPart nr l n)
+
+-- ---- the judgement
+-- Cause 4, "list no permutation", with the "first such list".
+unfoldable pub judgeEncodings : ℕ → List ℕ → Judgement
+judgeEncodings nr l = unlessAt (first (encodings nr) (encodingBad nr l)) Encoding Accepted
+
+-- Causes 5, "byte matrix has no inverse", 6, "column matrix has none", each with the "first such number", and 7, "block matrix has
+-- none".
+unfoldable pub judgeMatrices : ℕ → List ℕ → Judgement
+judgeMatrices nr l =
+    unlessAt (first (byteMatrices nr) (byteMatrixBad nr l)) ByteMatrix
+    (unlessAt (first (columnMatrices nr) (columnMatrixBad nr l)) ColumnMatrix
+    (unless (noInverse 16 (inputMatrixPart nr l)) InputMatrix
+    (unless (noInverse 16 (outputMatrixPart nr l)) OutputMatrix Accepted)))
+
+-- All causes of a bundle in document 01's order: 2 and 3, then 4, then 5 to 7.
+unfoldable pub judge : ℕ → List ℕ → Judgement
+judge nr l = andThen (frame nr l) (andThen (judgeEncodings nr l) (judgeMatrices nr l))

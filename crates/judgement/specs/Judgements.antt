@@ -1,0 +1,90 @@
+-- What the judgement means, and the parts under it, for a reader: the statements. They are proved in proofs/laws/.
+use mathlib.Core.List.{List, []}
+use mathlib.Core.Path.{_≡_}
+use Prim.Native.Nat.{ℕ, _+_, _*_, _≤_, _<_}
+use lib.ListN.{length, take, drop}
+use Rattle.bits.specs.Bytes.{Bytes}
+use Rattle.bits.specs.Encodings.{Permutation}
+use Rattle.matrices.specs.Matrices.{Invertible}
+use Rattle.bundle.specs.Format.{encodings, byteMatrices, columnMatrices, partCount, partSize, offset, PairRight, partAt, encodingOf, byteMatrix, columnMatrix, inputMatrix, outputMatrix}
+use Rattle.bundle.specs.Frames.{InRange, Framed, All, FirstBad}
+use Rattle.judgement.specs.Judge.{judge}
+use Rattle.bundle.specs.Refusals.{causeOf}
+use Rattle.bundle.specs.declared.answer.Judgement.{Judgement}
+use Rattle.bundle.specs.declared.answer.Judgement.the-variants.{Accepted, Refused}
+use Rattle.bundle.specs.declared.answer.Refusal.{Refusal}
+use Rattle.bundle.specs.declared.answer.Refusal.the-variants.{Length, Pair, Encoding, ByteMatrix, ColumnMatrix, InputMatrix, OutputMatrix}
+
+-- ---- what each cause asks; for causes 2 and 3 see Frames.antt of crate bundle
+-- Cause 4: list n is a permutation. Causes 5 to 7: some map undoes the product by the matrix.
+abbrev pub GoodEncoding : ℕ → List ℕ → ℕ → Type 0
+GoodEncoding nr l n = Permutation (encodingOf nr l n)
+
+abbrev pub GoodByteMatrix : ℕ → List ℕ → ℕ → Type 0
+GoodByteMatrix nr l n = Invertible 8 (byteMatrix nr l n)
+
+abbrev pub GoodColumnMatrix : ℕ → List ℕ → ℕ → Type 0
+GoodColumnMatrix nr l n = Invertible 32 (columnMatrix nr l n)
+
+abbrev pub GoodInputMatrix : ℕ → List ℕ → Type 0
+GoodInputMatrix nr l = Invertible 128 (inputMatrix nr l)
+
+abbrev pub GoodOutputMatrix : ℕ → List ℕ → Type 0
+GoodOutputMatrix nr l = Invertible 128 (outputMatrix nr l)
+
+abbrev pub GoodEncodings : ℕ → List ℕ → Type 0
+GoodEncodings nr l = All (encodings nr) (GoodEncoding nr l)
+
+abbrev pub GoodByteMatrices : ℕ → List ℕ → Type 0
+GoodByteMatrices nr l = All (byteMatrices nr) (GoodByteMatrix nr l)
+
+abbrev pub GoodColumnMatrices : ℕ → List ℕ → Type 0
+GoodColumnMatrices nr l = All (columnMatrices nr) (GoodColumnMatrix nr l)
+
+-- ---- why a judgement is given
+-- Accepted: no cause applies.
+pub record Sound (nr : ℕ) (l : List ℕ) : Type 0 where
+  pub framed : Framed nr l
+  pub lists : GoodEncodings nr l
+  pub bytes : GoodByteMatrices nr l
+  pub columns : GoodColumnMatrices nr l
+  pub input : GoodInputMatrix nr l
+  pub output : GoodOutputMatrix nr l
+
+-- Refused: no lower cause applies, and this is the first offender of its kind.
+abbrev pub Why : ℕ → List ℕ → Judgement → Type 0
+Why nr l Accepted = Sound nr l
+Why nr l (Refused Length) = InRange nr l → ⊥
+Why nr l (Refused (Pair i)) = InRange nr l × FirstBad 5 (PairRight nr l) i
+Why nr l (Refused (Encoding n)) = Framed nr l × FirstBad (encodings nr) (GoodEncoding nr l) n
+Why nr l (Refused (ByteMatrix n)) = Framed nr l × GoodEncodings nr l × FirstBad (byteMatrices nr) (GoodByteMatrix nr l) n
+Why nr l (Refused (ColumnMatrix n)) =
+    Framed nr l × GoodEncodings nr l × GoodByteMatrices nr l × FirstBad (columnMatrices nr) (GoodColumnMatrix nr l) n
+Why nr l (Refused InputMatrix) =
+    Framed nr l × GoodEncodings nr l × GoodByteMatrices nr l × GoodColumnMatrices nr l × (GoodInputMatrix nr l → ⊥)
+Why nr l (Refused OutputMatrix) =
+    Framed nr l × GoodEncodings nr l × GoodByteMatrices nr l × GoodColumnMatrices nr l × GoodInputMatrix nr l × (GoodOutputMatrix nr l → ⊥)
+
+-- ---- the theorems
+-- Every judgement is given for its reason, and no other has one: so the judgement is the only one that is right.
+abbrev pub Reasoned : Type 0
+Reasoned = (nr : ℕ) (l : List ℕ) → Bytes l → Why nr l (judge nr l)
+
+abbrev pub Only : Type 0
+Only = (nr : ℕ) (l : List ℕ) → Bytes l → (j : Judgement) → Why nr l j → judge nr l ≡ j
+
+-- A bundle of bytes is accepted exactly if it is sound.
+abbrev pub AcceptedExactly : Type 0
+AcceptedExactly = (nr : ℕ) (l : List ℕ) → Bytes l → (judge nr l ≡ Accepted → Sound nr l) × (Sound nr l → judge nr l ≡ Accepted)
+
+-- ---- parts
+-- Part n of section s lies in the bundle: "handed back as that part, not copied; it is empty for a list number above 6,047 or a bundle
+-- with cause 2 or 3, and matrices follow the same rule".
+pub record PartRule (nr : ℕ) (l : List ℕ) (s n : ℕ) : Type 0 where
+  pub here : Framed nr l → n < partCount nr s → partAt nr l s n ≡ take (partSize s) (drop (offset l s + n * partSize s) l)
+  pub long : Framed nr l → n < partCount nr s → length (partAt nr l s n) ≡ partSize s
+  pub behind : partCount nr s ≤ n → partAt nr l s n ≡ []
+  pub refused : (r : Refusal) → judge nr l ≡ Refused r → causeOf r ≤ 3 → partAt nr l s n ≡ []
+
+abbrev pub Parts : Type 0
+Parts = (nr : ℕ) (l : List ℕ) (s n : ℕ) → s < 5 → PartRule nr l s n
