@@ -4,7 +4,7 @@ use mathlib.Core.List.{List}
 use mathlib.Core.Path.{_≡_}
 use Prim.Native.Nat.{ℕ, _+_, _-_}
 use Rattle.bits.specs.Bytes.{Block, numberOf, bytesOf}
-use Rattle.matrices.specs.Elimination.{inverseOf}
+use Rattle.inversion.specs.Elimination.{inverseOf}
 use Rattle.bits.specs.Encodings.{encode, decode}
 use Rattle.matrices.specs.Matrices.{product}
 use Rattle.bits.specs.Nibbles.{nibble, packed}

@@ -3,11 +3,11 @@ ghost use mathlib.Core.Bool.{true};
 ghost use mathlib.Core.Path.{_≡_};
 ghost use Prim.Native.Nat.{ℕ, _+_, _/_, _%_, _<_, _≤_};
 ghost use lib.ListN.{length};
-ghost use Rattle.matrices.specs.Elimination.{invert, inverseOf};
+ghost use Rattle.inversion.specs.Elimination.{invert, inverseOf, hasInverse};
 ghost use Rattle.bits.specs.Encodings.{encode, decode, Permutation};
 ghost use Rattle.matrices.specs.Matrices.{matrixOf};
 ghost use Rattle.bits.specs.Nibbles.{pack};
-ghost use Rattle.matrices.specs.Rows.{rowsOf, hasInverse};
+ghost use Rattle.matrices.specs.Rows.{rowsOf};
 ghost use Rattle.bundle.specs.Format.{encodingOf};
 ghost use Rattle.external.specs.Coding.{encodeNibbles, decodeNibbles, multiply};
 use bits::encoding;
@@ -90,7 +90,7 @@ pub fn unmultiply(m: &[u8], src: &[u8], dst: &mut [u8])
     let mut rows = [0u64; 256];
     let mut inverse = [0u64; 256];
     matrix::read(m, &mut rows, 16);
-    if matrix::invert(&rows, &mut inverse, 128) {
+    if inversion::invert(&rows, &mut inverse, 128) {
         times(&inverse, src, dst);
     }
 }

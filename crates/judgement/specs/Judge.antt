@@ -4,11 +4,10 @@ use mathlib.Core.Bool.{Bool, false, not, _||_}
 use mathlib.Core.List.{List}
 use Prim.Native.Nat.{ℕ, zero, suc, _*_}
 use lib.Dec.{eqb}
-use Rattle.matrices.specs.Elimination.{invert}
+use Rattle.inversion.specs.Elimination.{invert, hasInverse}
 use Rattle.bits.specs.Encodings.{imagesOf}
 use Rattle.bits.specs.Lists.{at}
 use Rattle.matrices.specs.Matrices.{matrixOf}
-use Rattle.matrices.specs.Rows.{hasInverse}
 use Rattle.bundle.specs.Format.{encodings, byteMatrices, columnMatrices, frame, encodingPart, byteMatrixPart, columnMatrixPart, inputMatrixPart, outputMatrixPart}
 use Rattle.bundle.specs.Refusals.{unless, unlessAt, andThen}
 use Rattle.bundle.specs.Search.{first}

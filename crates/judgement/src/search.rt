@@ -72,7 +72,7 @@ pub fn no_inverse(p: &[u8], w: usize) -> bool
     let mut m = [0u64; 256];
     let mut b = [0u64; 256];
     matrix::read(p, &mut m, w);
-    if matrix::invert(&m, &mut b, n) {
+    if inversion::invert(&m, &mut b, n) {
         return false;
     }
     true

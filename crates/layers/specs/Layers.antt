@@ -4,7 +4,7 @@ use mathlib.Core.Path.{_≡_}
 use Prim.Native.Nat.{ℕ, _+_, _-_, _*_, _/_, _%_, _≤_, _<_}
 use lib.ListN.{length, take, drop}
 use Rattle.bits.specs.Bytes.{numberOf}
-use Rattle.matrices.specs.Elimination.{inverseOf}
+use Rattle.inversion.specs.Elimination.{inverseOf}
 use Rattle.bits.specs.Encodings.{decode}
 use Rattle.bits.specs.Nibbles.{pack}
 use Rattle.matrices.specs.Rows.{rowsOf}

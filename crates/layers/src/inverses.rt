@@ -4,7 +4,7 @@ ghost use mathlib.Core.List.{List};
 ghost use mathlib.Core.Path.{_≡_};
 ghost use Prim.Native.Nat.{ℕ, _*_, _<_, _≤_};
 ghost use lib.ListN.{length};
-ghost use Rattle.matrices.specs.Elimination.{inverseOf};
+ghost use Rattle.inversion.specs.Elimination.{inverseOf};
 ghost use Rattle.matrices.specs.Matrices.{matrixOf, Invertible};
 ghost use Rattle.matrices.specs.Rows.{rowsOf};
 ghost use Rattle.bundle.specs.Format.{columnMatrix, inputMatrix};
@@ -23,7 +23,7 @@ pub fn inverse(p: &[u8], b: &mut [u64], w: usize)
     let n = 8 * w;
     let mut m = [0u64; 256];
     matrix::read(p, &mut m, w);
-    matrix::invert(&m, b, n);
+    inversion::invert(&m, b, n);
 }
 
 // The inverse of the input matrix.

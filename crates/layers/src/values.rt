@@ -18,8 +18,8 @@ ghost use Rattle.whitebox.specs.Parts.{forward};
 ghost use Rattle.whitebox.specs.Words.{substituted};
 use crate::inverses;
 use crate::words;
-use bundle::parts;
 use bits::encoding;
+use bundle::parts;
 use entries::spread;
 use network::stage;
 

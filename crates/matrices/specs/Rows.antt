@@ -1,9 +1,7 @@
 -- How the code holds matrices: row i of a matrix is words 2 i and 2 i + 1 of a slice of words. Definitions only.
-use mathlib.Core.Bool.{Bool, true, false}
 use mathlib.Core.List.{List}
 use Prim.Native.Nat.{ℕ, zero, suc, _+_, _*_, _/_, _%_, _^_}
 use lib.ListN.{set}
-use Rattle.matrices.specs.Elimination.{Inversion, inverse, singular}
 use Rattle.bits.specs.Lists.{at, tabulate}
 use Rattle.bits.specs.Words.{wide}
 
@@ -23,12 +21,3 @@ setRow m i v = set (set m (2 * i) (v / 2 ^ 64)) (2 * i + 1) (v % 2 ^ 64)
 unfoldable pub stored : ℕ → (ℕ → ℕ) → List ℕ → List ℕ
 stored zero f m = m
 stored (suc n) f m = setRow (stored n f m) n (f n)
-
--- What `invert` of the code answers, and the words that it leaves where it is lent m: the inverse in the first n rows, or m as it was.
-abbrev pub hasInverse : Inversion → Bool
-hasInverse (inverse b) = true
-hasInverse singular = false
-
-abbrev pub withInverse : ℕ → Inversion → List ℕ → List ℕ
-withInverse n (inverse b) m = stored n (at b) m
-withInverse n singular m = m

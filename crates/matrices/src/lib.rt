@@ -1,3 +1,2 @@
 // Bit matrices of up to 128 rows: one code for every width. The definitions are those of specs/.
-mod elimination;
 pub mod matrix;

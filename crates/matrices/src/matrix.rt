@@ -2,12 +2,10 @@
 ghost use mathlib.Core.Path.{_≡_};
 ghost use Prim.Native.Nat.{_+_, _*_, _<_, _≤_};
 ghost use lib.ListN.{length};
-ghost use Rattle.matrices.specs.Elimination.{invert};
 ghost use Rattle.bits.specs.Lists.{at};
 ghost use Rattle.matrices.specs.Matrices.{product, matrixOf, matrixBytes};
 ghost use Rattle.bits.specs.Words.{value};
-ghost use Rattle.matrices.specs.Rows.{rowAt, rowsOf, setRow, stored, hasInverse, withInverse};
-use crate::elimination;
+ghost use Rattle.matrices.specs.Rows.{rowAt, rowsOf, setRow, stored};
 use bits::vector;
 use bits::vector::Vector;
 
@@ -76,19 +74,4 @@ pub fn write(m: &[u64], dst: &mut [u8], w: usize)
         vector::write(v, &mut dst[a..e]);
         i += 1;
     }
-}
-
-// The inverse of the matrix a of n rows, into the first n rows of b. Where a has none, false, and b is as it was.
-pub fn invert(a: &[u64], b: &mut [u64], n: usize) -> bool
-    requires { ⌜ (n ≤ 128) × (2 * n ≤ length (now a)) × (2 * n ≤ length (now b)) ⌝ }
-    ensures answer { λ r. ⌜ r ≡ hasInverse (invert n (rowsOf n (now (a .entry)))) ⌝ }
-    ensures rows { λ _. ⌜ now (b .exit) ≡ withInverse n (invert n (rowsOf n (now (a .entry)))) (now (b .entry)) ⌝ }
-{
-    let mut work = [0u64; 512];
-    elimination::start(a, &mut work, n);
-    if elimination::eliminate(&mut work, n) {
-        elimination::take_right(&work, b, n);
-        return true;
-    }
-    false
 }

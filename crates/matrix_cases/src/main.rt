@@ -30,7 +30,7 @@ fn answer(s: &[u8], v: &[u8], line: &mut [u8], bytes: &mut [u8], w: usize)
     let p = matrix::multiply(&m, 8 * w, vector::read(v, 0, w));
     vector::write(p, line);
     show(line);
-    if matrix::invert(&m, &mut inverse, 8 * w) {
+    if inversion::invert(&m, &mut inverse, 8 * w) {
         matrix::write(&inverse, bytes, w);
         show(bytes);
         return;

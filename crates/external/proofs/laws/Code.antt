@@ -10,15 +10,15 @@ use lib.Dec.{eqb}
 use lib.ListN.{length}
 use borrow.Author.Tests.{eq-eqb, ne-eqb, eqb-true}
 use Rattle.bits.specs.Bytes.{Bytes, number, bytesOf}
-use Rattle.matrices.specs.Elimination.{Inversion, inverse, singular, invert, rowsIn, inverseOf}
+use Rattle.inversion.specs.Elimination.{Inversion, inverse, singular, invert, rowsIn, inverseOf, hasInverse, withInverse}
 use Rattle.bits.specs.Encodings.{encode, decode}
 use Rattle.bits.specs.Lists.{at, tabulate}
 use Rattle.matrices.specs.Matrices.{product, RowsFit, Invertible, matrixOf}
 use Rattle.bits.specs.Nibbles.{pack, nibble, packed}
-use Rattle.matrices.specs.Rows.{rowsOf, hasInverse, withInverse}
+use Rattle.matrices.specs.Rows.{rowsOf}
 use Rattle.matrices.proofs.laws.Stored.{matrixOf-fits}
 use Rattle.bits.proofs.laws.Groups.{joined-same}
-use Rattle.matrices.proofs.laws.Inverses.{answered, exact}
+use Rattle.inversion.proofs.laws.Inverses.{answered, exact}
 use Rattle.bits.proofs.laws.Lists.{tabulate-at, tabulate-ext, length-tabulate}
 use Rattle.bits.proofs.laws.Nibbles.{nibble-even, nibble-odd}
 use Rattle.matrices.proofs.laws.Rows.{rows-stored}

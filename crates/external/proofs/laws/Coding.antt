@@ -5,17 +5,17 @@ use mathlib.Core.Logic.{⊎-elim}
 use mathlib.Core.Path.{_≡_, sym, ap, _∙_}
 use Prim.Native.Nat.{ℕ, _+_, _*_, _/_, _≤_, _<_}
 use native.Mathlib.Omega.{arith}
-use Rattle.matrices.specs.Elimination.{inverseOf}
+use Rattle.inversion.specs.Elimination.{inverseOf}
 use Rattle.bits.specs.Bytes.{Bytes, Block, numberOf, bytesOf}
 use Rattle.bits.specs.Encodings.{encode, decode, Permutation}
-use Rattle.matrices.specs.Inverses.{UndoesBothWays}
+use Rattle.inversion.specs.Inverses.{UndoesBothWays}
 use Rattle.bits.specs.Lists.{at}
 use Rattle.matrices.specs.Matrices.{product, Undoes}
 use Rattle.bits.specs.Nibbles.{nibble, packed}
 use Rattle.bits.proofs.laws.Bytes.{numberOf-lt, bytesOf-block, numberOf-bytesOf, bytesOf-numberOf}
 use Rattle.matrices.proofs.laws.Stored.{matrixOf-fits}
 use Rattle.bits.proofs.laws.Encodings as single
-use Rattle.matrices.proofs.laws.Inverses.{inverse-undoes}
+use Rattle.inversion.proofs.laws.Inverses.{inverse-undoes}
 use Rattle.matrices.proofs.laws.Matrices.{product-lt}
 use Rattle.bits.proofs.laws.Nibbles.{length-packed, at-packed, packed-ext, packed-nibbles, packed-bytes, nibble-lt, parity}
 use Rattle.bundle.specs.Format.{encodings, encodingOf, inputMatrix, outputMatrix, inputMatrixPart, outputMatrixPart}

@@ -6,9 +6,9 @@ use mathlib.Core.Path.{_≡_, sym, ap, _∙_}
 use Prim.Native.Nat.{ℕ, _+_, _-_, _*_, _≤_, _<_}
 use native.Mathlib.Omega.{arith}
 use lib.ListN.{length, take, drop}
-use Rattle.matrices.specs.Elimination.{invert}
+use Rattle.inversion.specs.Elimination.{invert, hasInverse}
 use Rattle.matrices.specs.Matrices.{matrixOf}
-use Rattle.matrices.specs.Rows.{rowsOf, hasInverse}
+use Rattle.matrices.specs.Rows.{rowsOf}
 use Rattle.bundle.specs.Format.{encodings, byteMatrices, columnMatrices, partCount, partSize, sectionLength, frame, sectionOf, partOf, partAt, inputMatrixPart, outputMatrixPart}
 use Rattle.judgement.specs.Judge.{noPermutation, noInverse, byteMatrixBad, columnMatrixBad, judgeEncodings, judgeMatrices, judge}
 use Rattle.bundle.specs.Refusals.{unlessAt}

@@ -16,14 +16,14 @@ use lib.Pow.{pow-lt}
 use lib.Seq.{getD-take, getD-drop, getD-set-same, getD-set-other, take-at, drop-at, length-take-le}
 use Rattle.round.specs.Key.{keyOf}
 use Rattle.bits.specs.Bytes.{Bytes, number, placed}
-use Rattle.matrices.specs.Elimination.{Inversion, inverse, singular, invert, rowsIn, inverseOf}
+use Rattle.inversion.specs.Elimination.{Inversion, inverse, singular, invert, rowsIn, inverseOf, hasInverse, withInverse}
 use Rattle.bits.specs.Groups.{joined}
 use Rattle.bits.specs.Lists.{at, tabulate}
 use Rattle.matrices.specs.Matrices.{product, productBy, matrixOf, RowsFit, Invertible}
-use Rattle.matrices.specs.Rows.{rowsOf, hasInverse, withInverse}
+use Rattle.matrices.specs.Rows.{rowsOf}
 use Rattle.matrices.proofs.laws.Stored.{matrixOf-at, matrixOf-fits}
 use Rattle.bits.proofs.laws.Groups.{joined-same}
-use Rattle.matrices.proofs.laws.Inverses.{answered, exact}
+use Rattle.inversion.proofs.laws.Inverses.{answered, exact}
 use Rattle.bits.proofs.laws.Lists.{at-tabulate, tabulate-at, at-past}
 use Rattle.matrices.proofs.laws.Matrices.{product-lt, product-rows, product-xor}
 use Rattle.matrices.proofs.laws.Rows.{rows-stored}

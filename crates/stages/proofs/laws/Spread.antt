@@ -8,7 +8,7 @@ use native.Mathlib.Omega.{arith}
 use lib.ListN.{take}
 use lib.Seq.{getD-take}
 use Rattle.bits.specs.Bytes.{Bytes, number, byte, bytesOf, placed}
-use Rattle.matrices.specs.Elimination.{inverseOf}
+use Rattle.inversion.specs.Elimination.{inverseOf}
 use Rattle.bits.specs.Encodings.{decode}
 use Rattle.bits.specs.Lists.{at, tabulate, concat}
 use Rattle.matrices.specs.Matrices.{product}

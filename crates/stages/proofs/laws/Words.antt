@@ -8,7 +8,7 @@ use lib.ListN.{take}
 use lib.Seq.{getD-take}
 use Rattle.round.specs.State.{mixRows, entry}
 use Rattle.bits.specs.Bytes.{Bytes, number, byte, placed}
-use Rattle.matrices.specs.Elimination.{inverseOf}
+use Rattle.inversion.specs.Elimination.{inverseOf}
 use Rattle.bits.specs.Lists.{at, concat}
 use Rattle.matrices.specs.Matrices.{product, matrixOf}
 use Rattle.bits.proofs.laws.Groups.{joined-same}

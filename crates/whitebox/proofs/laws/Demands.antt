@@ -13,7 +13,7 @@ use Rattle.round.specs.Key.{KeyExpansion, roundsOf}
 use Rattle.aes.proofs.laws.Cipher.{encipher-block, decipher-encipher}
 use Rattle.round.proofs.laws.Key.{round-key-bytes}
 use Rattle.bits.specs.Bytes.{Block}
-use Rattle.matrices.specs.Elimination.{inverseOf}
+use Rattle.inversion.specs.Elimination.{inverseOf}
 use Rattle.bits.specs.Encodings.{encode, decode}
 use Rattle.bits.specs.Nibbles.{nibble}
 use Rattle.bits.proofs.laws.Nibbles.{packed-ext}

@@ -10,7 +10,7 @@ use borrow.Author.Tests.{lt-ltb, le-ltb}
 use lib.Bits.{bitXor}
 use lib.Dec.{ltb}
 use Rattle.bits.specs.Bytes.{number, byte, bytesOf, placed}
-use Rattle.matrices.specs.Elimination.{inverseOf}
+use Rattle.inversion.specs.Elimination.{inverseOf}
 use Rattle.bits.specs.Encodings.{encode, decode}
 use Rattle.matrices.specs.Matrices.{product}
 use Rattle.bits.specs.Nibbles.{pack, nibble}

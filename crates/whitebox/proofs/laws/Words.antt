@@ -8,14 +8,14 @@ use Prim.Native.Nat.{ℕ, suc, _+_, _-_, _*_, _/_, _%_, _^_, _<_}
 use native.Mathlib.Omega.{arith}
 use lib.Bits.{bitXor}
 use Rattle.bits.specs.Bytes.{Bytes, Block, number, byte, numberOf, bytesOf, placed}
-use Rattle.matrices.specs.Elimination.{inverseOf}
+use Rattle.inversion.specs.Elimination.{inverseOf}
 use Rattle.bits.specs.Groups.{xorAll}
 use Rattle.bits.specs.Lists.{at}
 use Rattle.matrices.specs.Matrices.{product}
 use Rattle.bits.proofs.laws.Bytes.{at-bytesOf, numberOf-lt, xor-of-placed}
 use Rattle.bits.proofs.laws.Groups.{group-xor, group-joined, joined-lt, joined-same, joined-xorAll, xor-placed}
 use Rattle.bits.proofs.laws.XorAll.{xorAll-same, xorAll-linear}
-use Rattle.matrices.proofs.laws.Inverses.{inverse-undoes}
+use Rattle.inversion.proofs.laws.Inverses.{inverse-undoes}
 use Rattle.bits.proofs.laws.Lists.{at-tabulate, tabulate-ext}
 use Rattle.matrices.proofs.laws.Matrices.{product-lt, product-xor}
 use Rattle.bits.proofs.laws.Xor.{Linear}

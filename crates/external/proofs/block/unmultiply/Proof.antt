@@ -2,9 +2,8 @@
 use mathlib.Core.Path.{ap, _∙_}
 use mathlib.Core.List.{List}
 use Prim.Native.Nat.{ℕ}
-use Rattle.matrices.specs.Elimination.{invert}
+use Rattle.inversion.specs.Elimination.{invert, hasInverse}
 use Rattle.matrices.specs.Matrices.{matrixOf}
-use Rattle.matrices.specs.Rows.{hasInverse}
 use Rattle.matrices.proofs.laws.Stored.{read-rows}
 use Rattle.external.specs.Coding.{multiply}
 use Rattle.external.proofs.laws.Code.{inverse-rows, never}

@@ -2,7 +2,7 @@
 use mathlib.Core.List.{List}
 use mathlib.Core.Path.{sym, ap, _∙_, subst}
 use Prim.Native.Nat.{ℕ}
-use Rattle.matrices.specs.Elimination.{inverseOf}
+use Rattle.inversion.specs.Elimination.{inverseOf}
 use Rattle.matrices.specs.Matrices.{matrixOf, Invertible}
 use Rattle.bundle.specs.Format.{columnMatrices}
 use Rattle.judgement.proofs.laws.Judgements.{accepted-sound}

@@ -2,7 +2,7 @@
 use mathlib.Core.List.{List}
 use mathlib.Core.Path.{refl, sym, ap, _∙_, subst}
 use Prim.Native.Nat.{ℕ, _+_, _-_, _*_, _<_}
-use Rattle.matrices.specs.Elimination.{inverseOf}
+use Rattle.inversion.specs.Elimination.{inverseOf}
 use Rattle.bits.specs.Lists.{at}
 use Rattle.matrices.specs.Matrices.{matrixOf, Invertible}
 use Rattle.bits.proofs.laws.Lists.{tabulate-ext}

@@ -1,0 +1,118 @@
+// Gauss-Jordan elimination on a work area: row i of the matrix that is reduced is its row 2 i, and row i of the matrix that becomes
+// the inverse its row 2 i + 1.
+ghost use mathlib.Core.Path.{_≡_};
+ghost use Prim.Native.Nat.{_+_, _-_, _*_, _<_, _≤_};
+ghost use lib.ListN.{length};
+ghost use Rattle.inversion.specs.Elimination.{addRow, pivotBy, clearBy, pivotFrom, columns};
+ghost use Rattle.bits.specs.Lists.{tabulate};
+ghost use Rattle.matrices.specs.Matrices.{identity};
+ghost use Rattle.matrices.specs.Rows.{rowsOf, stored};
+ghost use Rattle.inversion.specs.Work.{leftAt, rightAt, lefts, rights, addedTo, ended};
+use bits::vector;
+use matrices::matrix::row;
+use matrices::matrix::set_row;
+
+// The matrix a of n rows on the left, the identity on the right.
+pub fn start(a: &[u64], work: &mut [u64], n: usize)
+    requires { ⌜ (n ≤ 128) × (2 * n ≤ length (now a)) × (4 * n ≤ length (now work)) ⌝ }
+    ensures left { λ _. ⌜ lefts n (now (work .exit)) ≡ rowsOf n (now (a .entry)) ⌝ }
+    ensures right { λ _. ⌜ rights n (now (work .exit)) ≡ identity n ⌝ }
+{
+    let mut i = 0;
+    while i < n {
+        set_row(work, 2 * i, row(a, i));
+        set_row(work, 2 * i + 1, vector::power(n - 1 - i));
+        i += 1;
+    }
+}
+
+// c times row s is added to row i, on both sides.
+fn add_row(work: &mut [u64], i: usize, s: usize, c: u64)
+    requires { ⌜ (4 * i + 3 < length (now work)) × (4 * s + 3 < length (now work)) × (c < 2) ⌝ }
+    ensures { λ _. ⌜ now (work .exit) ≡ addedTo (now (work .entry)) i s c ⌝ }
+{
+    let l = vector::add(row(work, 2 * i), c, row(work, 2 * s));
+    let r = vector::add(row(work, 2 * i + 1), c, row(work, 2 * s + 1));
+    set_row(work, 2 * i, l);
+    set_row(work, 2 * i + 1, r);
+}
+
+// Bit k of row i on the left; 0 for row k itself.
+fn coefficient(work: &[u64], n: usize, k: usize, i: usize) -> u64
+    requires { ⌜ (n ≤ 128) × (4 * n ≤ length (now work)) × (k < n) × (i < n) ⌝ }
+    ensures { λ r. ⌜ r ≡ clearBy n k (leftAt (now (work .entry))) i ⌝ }
+{
+    if i == k {
+        return 0;
+    }
+    vector::digit(row(work, 2 * i), n - 1 - k)
+}
+
+// Row k clears bit k in every other row.
+fn clear(work: &mut [u64], n: usize, k: usize)
+    requires { ⌜ (n ≤ 128) × (4 * n ≤ length (now work)) × (k < n) ⌝ }
+    ensures left { λ _. ⌜ lefts n (now (work .exit)) ≡ tabulate n (addRow (clearBy n k (leftAt (now (work .entry)))) k (leftAt (now (work .entry)))) ⌝ }
+    ensures right { λ _. ⌜ rights n (now (work .exit)) ≡ tabulate n (addRow (clearBy n k (leftAt (now (work .entry)))) k (rightAt (now (work .entry)))) ⌝ }
+{
+    let mut i = 0;
+    while i < n {
+        let c = coefficient(work, n, k, i);
+        add_row(work, i, k, c);
+        i += 1;
+    }
+}
+
+// Row k gets bit k from row p, if it lacks it.
+fn pivot(work: &mut [u64], n: usize, k: usize, p: usize)
+    requires { ⌜ (n ≤ 128) × (4 * n ≤ length (now work)) × (k < n) × (p < n) ⌝ }
+    ensures left { λ _. ⌜ lefts n (now (work .exit)) ≡ tabulate n (addRow (pivotBy n k (leftAt (now (work .entry)))) p (leftAt (now (work .entry)))) ⌝ }
+    ensures right { λ _. ⌜ rights n (now (work .exit)) ≡ tabulate n (addRow (pivotBy n k (leftAt (now (work .entry)))) p (rightAt (now (work .entry)))) ⌝ }
+{
+    let b = vector::digit(row(work, 2 * k), n - 1 - k);
+    add_row(work, k, p, 1 - b);
+}
+
+// The first row from k on that has bit k on the left; n where none has.
+fn find(work: &[u64], n: usize, k: usize) -> usize
+    requires { ⌜ (n ≤ 128) × (4 * n ≤ length (now work)) × (k < n) ⌝ }
+    ensures { λ r. ⌜ r ≡ pivotFrom n k (leftAt (now (work .entry))) (n - k) k ⌝ }
+{
+    let mut i = k;
+    while i < n {
+        if vector::digit(row(work, 2 * i), n - 1 - k) == 1 {
+            return i;
+        }
+        i += 1;
+    }
+    n
+}
+
+// The elimination of n columns; false where one has no pivot.
+pub fn eliminate(work: &mut [u64], n: usize) -> bool
+    requires { ⌜ (n ≤ 128) × (4 * n ≤ length (now work)) ⌝ }
+    ensures { λ r. ⌜ columns n n 0 (lefts n (now (work .entry))) (rights n (now (work .entry))) ≡ ended r (rights n (now (work .exit))) ⌝ }
+{
+    let mut k = 0;
+    while k < n {
+        let p = find(work, n, k);
+        if p == n {
+            return false;
+        }
+        pivot(work, n, k, p);
+        clear(work, n, k);
+        k += 1;
+    }
+    true
+}
+
+// The n rows on the right, into the first n rows of b.
+pub fn take_right(work: &[u64], b: &mut [u64], n: usize)
+    requires { ⌜ (n ≤ 128) × (4 * n ≤ length (now work)) × (2 * n ≤ length (now b)) ⌝ }
+    ensures { λ _. ⌜ now (b .exit) ≡ stored n (rightAt (now (work .entry))) (now (b .entry)) ⌝ }
+{
+    let mut i = 0;
+    while i < n {
+        set_row(b, i, row(work, 2 * i + 1));
+        i += 1;
+    }
+}

@@ -1,0 +1,101 @@
+#!/usr/bin/env python3
+"""Every name that docs/CLAIMS.md gives is there: definitions, theorems and laws, functions, must-fail edits, test programs and paths.
+
+usage: tests/claims.py     ends with 1 and a line for each name that is not there, and for each must-fail edit that no claim names
+"""
+import pathlib
+import re
+import sys
+
+ROOT = pathlib.Path(__file__).resolve().parent.parent
+CRATES = ROOT / "crates"
+CRATE_NAMES = {p.name for p in CRATES.iterdir()}
+WORDS = {"requires", "ensures"}  # of the language, not of a file
+
+
+def text(path):
+    return path.read_text() if path.is_file() else ""
+
+
+def declares(path, names):
+    """Each of the names, a declaration and then fields of records, is declared public in an antt file, or is a constructor there."""
+    body = text(path)
+    return all(re.search(rf"^ *(?:(?:unfoldable |abbrev )?pub (?:record |data )?|  ){re.escape(n)}(?= |$)", body, re.M) for n in names)
+
+
+def defines(path, name):
+    return re.search(rf"\b(?:fn|struct|enum) {name}\b", text(path)) is not None
+
+
+def place(reference):
+    """The file of a reference that has one, as a key for the names behind it, and whether its own name is there; else None."""
+    if match := re.fullmatch(r"(\w+)/(?:(laws)/)?([A-Z]\w*)\.([^\s`]+)", reference):
+        crate, laws, module, name = match.groups()
+        path = CRATES / crate / ("proofs/laws" if laws else "specs") / f"{module}.antt"
+        return ("antt", path), declares(path, name.split("."))
+    if match := re.fullmatch(r"(\w+)((?:::\w+)+)", reference):
+        crate, *modules, name = reference.split("::")
+        path = CRATES / crate / "src" / f"{modules[0] if modules else 'lib'}.rt"
+        return ("rt", path), crate in CRATE_NAMES and (defines(path, name) or (path.parent / f"{name}.rt").is_file())
+    if (match := re.fullmatch(r"(\w+)/([a-z][a-z0-9_]*)", reference)) and match[1] in CRATE_NAMES:
+        path = CRATES / match[1] / "must-fail"
+        return ("edit", path), (path / f"{match[2]}.edit").is_file()
+    return None
+
+
+def there(reference, kind, path):
+    """A name alone is of the file named before it."""
+    if kind == "antt":
+        return declares(path, reference.split("."))
+    if kind == "rt":
+        return defines(path, reference)
+    return (path / f"{reference}.edit").is_file()
+
+
+def test_there(reference):
+    return reference in CRATE_NAMES or (ROOT / reference.split(" ")[0]).exists()
+
+
+def missing(cells):
+    """The names of a row that are not there. The last column names tests, the others what they are proved by."""
+    for cell in cells[1:-1]:
+        before = None
+        for reference in re.findall(r"`([^`]+)`", cell):
+            if found := place(reference):
+                before, good = found
+            elif re.fullmatch(r"[\w·′-]+(?:\.[\w-]+)*", reference) and before and reference not in WORDS:
+                good = there(reference, *before)
+            else:
+                good = True  # a term, a path or a number, in words of its own
+            if not good:
+                yield reference
+    for reference in re.findall(r"`([^`]+)`", cells[-1]):
+        if not test_there(reference):
+            yield reference
+
+
+def edits_named(cells):
+    for cell in cells[1:-1]:
+        crate = None
+        for reference in re.findall(r"`([^`]+)`", cell):
+            if found := place(reference):
+                crate = found[0][1].parent.name if found[0][0] == "edit" else None
+            if crate:
+                yield f"{crate}/{reference.split('/')[-1]}"
+
+
+def main():
+    lines = [line.strip("| ").split(" | ") for line in text(ROOT / "docs/CLAIMS.md").splitlines() if line.startswith("| ")]
+    rows = [cells for cells in lines if len(cells) == 6 and cells[4] != "Must-fail edit"]
+    faults = [f"{row[0][:60]}: no {name}" for row in rows for name in missing(row)]
+    named = {edit for row in rows for edit in edits_named(row)}
+    for edit in sorted(CRATES.glob("*/must-fail/*.edit")):
+        name = f"{edit.parent.parent.name}/{edit.stem}"
+        if name not in named:
+            faults.append(f"no claim names the must-fail edit {name}")
+    print("\n".join(faults + [f"{len(rows)} claims, {len(faults)} faults"]))
+    return 1 if faults or not rows else 0
+
+
+if __name__ == "__main__":
+    sys.exit(main())
