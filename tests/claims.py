@@ -1,5 +1,6 @@
 #!/usr/bin/env python3
 """Every name that docs/CLAIMS.md gives is there: definitions, theorems and laws, functions, must-fail edits, test programs and paths.
+So is every name with a path that the other pages give.
 
 usage: tests/claims.py     ends with 1 and a line for each name that is not there, and for each must-fail edit that no claim names
 """
@@ -84,10 +85,18 @@ def edits_named(cells):
                 yield f"{crate}/{reference.split('/')[-1]}"
 
 
+def pages_missing():
+    for page in [ROOT / "README.md", *(ROOT / "docs").glob("*.md")]:
+        for reference in re.findall(r"`([^`\n]+)`", text(page)):
+            if re.split("::|/", reference)[0] in CRATE_NAMES and (found := place(reference)) and not found[1]:
+                yield f"{page.name}: no {reference}"
+
+
 def main():
     lines = [line.strip("| ").split(" | ") for line in text(ROOT / "docs/CLAIMS.md").splitlines() if line.startswith("| ")]
     rows = [cells for cells in lines if len(cells) == 6 and cells[4] != "Must-fail edit"]
     faults = [f"{row[0][:60]}: no {name}" for row in rows for name in missing(row)]
+    faults += pages_missing()
     named = {edit for row in rows for edit in edits_named(row)}
     for edit in sorted(CRATES.glob("*/must-fail/*.edit")):
         name = f"{edit.parent.parent.name}/{edit.stem}"
