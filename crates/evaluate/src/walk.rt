@@ -2,7 +2,7 @@
 ghost use mathlib.Core.Path.{_≡_};
 ghost use Prim.Native.Nat.{_-_, _<_, _≤_};
 ghost use lib.ListN.{length};
-ghost use Rattle.network.specs.Stages.{shifted};
+ghost use Rattle.network.specs.Stages.{shifted, tenLookups, tenSetBytes};
 ghost use Rattle.whitebox.specs.Calls as calls;
 ghost use Rattle.evaluate.specs.Answers.{startedReply, movedReply, fetchedReply};
 ghost use Rattle.evaluate.specs.Held.{held};
@@ -11,6 +11,8 @@ use crate::answer::Fetched;
 use crate::answer::Moved;
 use crate::answer::Started;
 use lookups::layer;
+use network::stage::LOOKUPS;
+use network::stage::SET_BYTES;
 use network::stage::place_of;
 use network::stage::width_of;
 
@@ -67,7 +69,7 @@ pub fn start(block: &[u8]) -> Opening
 
 // At count n, all lookups of a stage or half where it begins here and ends by the stop, else one. The count reached.
 fn step(standing: &mut [u8; 16], area: &mut [u8; 256], set: &[u8], n: usize, stop: usize) -> usize
-    requires { ⌜ (length (now set) ≡ 770048) × (n < stop) × (stop ≤ 3008) × (length (now standing) ≡ 16) × (length (now area) ≡ 256) ⌝ }
+    requires { ⌜ (length (now set) ≡ tenSetBytes) × (n < stop) × (stop ≤ tenLookups) × (length (now standing) ≡ 16) × (length (now area) ≡ 256) ⌝ }
     ensures { λ r. ⌜ Advanced (now (set .entry)) n stop r (now (standing .entry)) (now (area .entry)) (now (standing .exit)) (now (area .exit)) ⌝ }
 {
     let p = place_of(n);
@@ -88,7 +90,7 @@ fn step(standing: &mut [u8; 16], area: &mut [u8; 256], set: &[u8], n: usize, sto
 
 // The lookups from the count up to the stop.
 fn advance(walk: Walk, set: &[u8], stop: usize) -> Walk
-    requires { ⌜ (length (now set) ≡ 770048) × (stop ≤ 3008) × (walk .count ≤ stop) ⌝ }
+    requires { ⌜ (length (now set) ≡ tenSetBytes) × (stop ≤ tenLookups) × (walk .count ≤ stop) ⌝ }
     ensures { λ r. ⌜ held r ≡ calls.advance shifted 10 (now (set .entry)) (stop - walk .count) (held walk) ⌝ }
 {
     let mut standing = walk.standing;
@@ -109,13 +111,13 @@ pub fn move_to(walk: Walk, set: &[u8], stop: usize) -> Move
     ensures answer { λ r. ⌜ movedReply (r .answer) ≡ calls.reply shifted 10 (calls.toStop (now (set .entry)) stop) (held walk) ⌝ }
     ensures walk { λ r. ⌜ held (r .walk) ≡ calls.handed shifted 10 (calls.toStop (now (set .entry)) stop) (held walk) ⌝ }
 {
-    if set.len() != 770048 {
+    if set.len() != SET_BYTES {
         return Move {
             answer: Moved::WrongLength,
             walk: walk,
         };
     }
-    if stop > 3008 {
+    if stop > LOOKUPS {
         return Move {
             answer: Moved::BadStop,
             walk: walk,
@@ -140,7 +142,7 @@ pub fn move_one(walk: Walk, table: &[u8]) -> Move
     ensures walk { λ r. ⌜ held (r .walk) ≡ calls.handed shifted 10 (calls.oneLookup (now (table .entry))) (held walk) ⌝ }
 {
     let n = walk.count;
-    if n >= 3008 {
+    if n >= LOOKUPS {
         return Move {
             answer: Moved::BadStop,
             walk: walk,
@@ -176,7 +178,7 @@ pub fn fetch(walk: Walk, block: &mut [u8]) -> Fetched
     if block.len() != 16 {
         return Fetched::BlockLength;
     }
-    if walk.count != 3008 {
+    if walk.count != LOOKUPS {
         return Fetched::Unfinished;
     }
     let mut i = 0;

@@ -5,12 +5,14 @@ use crate::number::returned;
 use evaluate::walk::fetch;
 use evaluate::walk::move_to;
 use evaluate::walk::start;
+use network::stage::LOOKUPS;
+use network::stage::SET_BYTES;
 
 // Document 01's number for these lengths, 0 where nothing is turned down.
 fn cause(set: usize, block: usize, answer: usize) -> usize
     ensures { λ r. ⌜ r ≡ walkCause set block answer ⌝ }
 {
-    if set != 770048 {
+    if set != SET_BYTES {
         return 9;
     }
     if block != 16 {
@@ -33,7 +35,7 @@ pub extern "C" fn tazhikko_walk(set: &[u8], block: &[u8], answer: &mut [u8]) -> 
         return returned(c, 0);
     }
     let opening = start(block);
-    let moved = move_to(opening.walk, set, 3008);
+    let moved = move_to(opening.walk, set, LOOKUPS);
     fetch(moved.walk, answer);
     returned(c, 0)
 }

@@ -6,7 +6,7 @@ ghost use lib.ListN.{length};
 ghost use Rattle.network.specs.Lookups.{xorArea, zeroArea};
 ghost use Rattle.network.specs.Order.{xors, layerLookups};
 ghost use Rattle.network.specs.Sizes.{layerBytes};
-ghost use Rattle.network.specs.Stages.{widthOf, shapeAt, shifted};
+ghost use Rattle.network.specs.Stages.{widthOf, shapeAt, shifted, tenSetBytes};
 ghost use Rattle.lookups.specs.InPlace.{Fits, XorIn, LookedUp, spreadsIn, xorsIn, sumsIn};
 use crate::area;
 use network::stage::Stage;
@@ -74,7 +74,7 @@ fn xor_pair_in(area: &mut [u8; 256], high: &[u8], low: &[u8], width: usize, y: u
 
 // All spread lookups of a stage or half, whose tables begin at byte `from` of the set.
 fn spread_all(standing: &[u8; 16], area: &mut [u8; 256], set: &[u8], from: usize, stage: Stage)
-    requires { ⌜ (length (now set) ≡ 770048) × (from + layerBytes (widthOf stage) ≤ 770048) × (length (now area) ≡ 256) × (length (now standing) ≡ 16) ⌝ }
+    requires { ⌜ (length (now set) ≡ tenSetBytes) × (from + layerBytes (widthOf stage) ≤ tenSetBytes) × (length (now area) ≡ 256) × (length (now standing) ≡ 16) ⌝ }
     ensures { λ _. ⌜ now (area .exit) ≡ spreadsIn (shapeAt shifted stage) (now (set .entry)) from (now (standing .entry)) 16 (now (area .entry)) ⌝ }
     ensures { λ _. ⌜ length (now (area .exit)) ≡ 256 ⌝ }
 {
@@ -92,7 +92,7 @@ fn spread_all(standing: &[u8; 16], area: &mut [u8; 256], set: &[u8], from: usize
 
 // All XOR lookups of a stage or half, whose tables begin at byte `from` of the set, behind those of the spread lookups.
 fn xor_all(area: &mut [u8; 256], set: &[u8], from: usize, width: usize)
-    requires { ⌜ (length (now set) ≡ 770048) × (from + layerBytes width ≤ 770048) × (length (now area) ≡ 256) × ((width ≡ 4) ⊎ (width ≡ 16)) ⌝ }
+    requires { ⌜ (length (now set) ≡ tenSetBytes) × (from + layerBytes width ≤ tenSetBytes) × (length (now area) ≡ 256) × ((width ≡ 4) ⊎ (width ≡ 16)) ⌝ }
     ensures { λ _. ⌜ now (area .exit) ≡ xorsIn width (now (set .entry)) from (xors width) (now (area .entry)) ⌝ }
     ensures { λ _. ⌜ length (now (area .exit)) ≡ 256 ⌝ }
 {
@@ -116,7 +116,7 @@ pub fn layer_in(
     from: usize,
     stage: Stage,
 )
-    requires { ⌜ (length (now set) ≡ 770048) × (from + layerBytes (widthOf stage) ≤ 770048) × ((widthOf stage ≡ 4) ⊎ (widthOf stage ≡ 16)) × (length (now area) ≡ 256) × (length (now standing) ≡ 16) ⌝ }
+    requires { ⌜ (length (now set) ≡ tenSetBytes) × (from + layerBytes (widthOf stage) ≤ tenSetBytes) × ((widthOf stage ≡ 4) ⊎ (widthOf stage ≡ 16)) × (length (now area) ≡ 256) × (length (now standing) ≡ 16) ⌝ }
     ensures { λ _. ⌜ now (standing .exit) ≡ sumsIn (shapeAt shifted stage) (now (set .entry)) from (now (standing .entry)) (now (area .entry)) ⌝ }
     ensures { λ _. ⌜ now (area .exit) ≡ zeroArea ⌝ }
 {

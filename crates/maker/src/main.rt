@@ -1,6 +1,7 @@
 // The maker: reads a key and then a bundle to the end of the input, and writes the tables of their set in order, or the refusal.
 use libc::STDIN_FILENO;
 use libc::STDOUT_FILENO;
+use network::stage::SET_BYTES;
 use tables::calls::Made;
 use tables::calls::cause;
 use tables::calls::make_set;
@@ -26,7 +27,7 @@ fn make(key: &[u8], bundle: &[u8], set: &mut [u8]) {
 }
 
 // One byte more than the longest bundle tells a longer one, which the call then turns down.
-fn work(set: &mut [u8; 770048]) {
+fn work(set: &mut [u8; SET_BYTES]) {
     let mut key = [0u8; 16];
     let mut bundle = [0u8; 65537];
     let k = io::read_full(STDIN_FILENO, &mut key);
@@ -35,6 +36,6 @@ fn work(set: &mut [u8; 770048]) {
 }
 
 fn main() {
-    let mut set = [0u8; 770048];
+    let mut set = [0u8; SET_BYTES];
     work(&mut set);
 }

@@ -61,6 +61,13 @@ setBytes nr = bytesIn (widths nr)
 unfoldable pub encodings : ℕ → ℕ
 encodings nr = 32 + resultsIn (widths nr)
 
+-- Both for ten rounds, as the numbers that the code has; that they are these is said in Cases.antt.
+abbrev pub tenLookups : ℕ
+tenLookups = 3008
+
+abbrev pub tenSetBytes : ℕ
+tenSetBytes = 770048
+
 -- Of table k: its bytes, and those of all tables before it.
 unfoldable pub tableSize : ℕ → ℕ → ℕ
 tableSize nr k = sizeIn (widths nr) k

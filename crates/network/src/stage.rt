@@ -1,7 +1,7 @@
 // Where a lookup stands: document 01's table of stages.
 ghost use mathlib.Core.Path.{_≡_};
 ghost use Prim.Native.Nat.{_<_, _≤_};
-ghost use Rattle.network.specs.Stages.{placeOf, placeFrom, placeInRound, widthOf, shifted, sourceOf};
+ghost use Rattle.network.specs.Stages.{tenSetBytes, placeOf, placeFrom, placeInRound, widthOf, shifted, sourceOf};
 
 // The entry, the first and the second half of a round, the exit; or beyond the last lookup.
 pub enum Stage {
@@ -11,6 +11,11 @@ pub enum Stage {
     Exit,
     Beyond,
 }
+
+// The lookups of a set of ten rounds, and its bytes.
+pub const LOOKUPS: usize = 3008;
+
+pub const SET_BYTES: usize = 770048;
 
 // A lookup's stage or half, its number there, and the size and the offset of its table.
 pub struct Place {
@@ -22,7 +27,7 @@ pub struct Place {
 
 // Lookup j of a stage or half whose tables begin at `start` and whose words have `width` bytes.
 fn placed(stage: Stage, width: usize, start: usize, j: usize) -> Place
-    requires { ⌜ (width ≤ 16) × (start ≤ 770048) × (j < 496) ⌝ }
+    requires { ⌜ (width ≤ 16) × (start ≤ tenSetBytes) × (j < 496) ⌝ }
     ensures { λ r. ⌜ r ≡ placeFrom stage width start j ⌝ }
 {
     match j {
@@ -63,9 +68,9 @@ pub fn place_of(n: usize) -> Place
         2512..=3007 => placed(Stage::Exit, 16, 643072, n - 2512),
         _ => Place {
             stage: Stage::Beyond,
-            index: n - 3008,
+            index: n - LOOKUPS,
             size: 0,
-            offset: 770048,
+            offset: SET_BYTES,
         },
     }
 }

@@ -4,7 +4,7 @@ ghost use Prim.Native.Nat.{_<_};
 ghost use lib.ListN.{length};
 ghost use Rattle.judgement.specs.Judge.{judge};
 ghost use Rattle.bundle.specs.declared.answer.Judgement.the-variants.{Accepted};
-ghost use Rattle.network.specs.Stages.{tableSize};
+ghost use Rattle.network.specs.Stages.{tableSize, tenLookups, tenSetBytes};
 ghost use Rattle.tables.specs.Calls.{causeOf, secondOf, judged, setAnswer, tableAnswer, written};
 ghost use Rattle.whitebox.specs.Bundles.{madeSet, madeTable};
 use crate::set;
@@ -66,7 +66,7 @@ fn key_of(key: &[u8]) -> [u8; 16]
 
 // The set of an accepted bundle.
 fn fill_set(key: &[u8], bundle: &[u8], memory: &mut [u8])
-    requires { ⌜ (length (now key) ≡ 16) × (judge 10 (now bundle) ≡ Accepted) × (length (now memory) ≡ 770048) ⌝ }
+    requires { ⌜ (length (now key) ≡ 16) × (judge 10 (now bundle) ≡ Accepted) × (length (now memory) ≡ tenSetBytes) ⌝ }
     ensures { λ _. ⌜ now (memory .exit) ≡ madeSet 4 (now (key .entry)) (now (bundle .entry)) ⌝ }
 {
     let keys = round::key::expand_key(key_of(key));
@@ -79,7 +79,7 @@ fn fill_set(key: &[u8], bundle: &[u8], memory: &mut [u8])
 
 // Table n of that set; no other inverse than its own is worked out.
 fn fill_table(key: &[u8], bundle: &[u8], n: usize, memory: &mut [u8])
-    requires { ⌜ (length (now key) ≡ 16) × (judge 10 (now bundle) ≡ Accepted) × (n < 3008) × (length (now memory) ≡ tableSize 10 n) ⌝ }
+    requires { ⌜ (length (now key) ≡ 16) × (judge 10 (now bundle) ≡ Accepted) × (n < tenLookups) × (length (now memory) ≡ tableSize 10 n) ⌝ }
     ensures { λ _. ⌜ now (memory .exit) ≡ madeTable 4 (now (key .entry)) (now (bundle .entry)) n ⌝ }
 {
     let keys = round::key::expand_key(key_of(key));
@@ -113,7 +113,7 @@ pub fn make_set(key: &[u8], bundle: &[u8], memory: &mut [u8]) -> Made
     let Made::Done = answer else {
         return answer;
     };
-    if memory.len() != 770048 {
+    if memory.len() != stage::SET_BYTES {
         return Made::MemoryLength;
     }
     fill_set(key, bundle, memory);
@@ -129,7 +129,7 @@ pub fn make_table(key: &[u8], bundle: &[u8], number: usize, memory: &mut [u8]) -
     let Made::Done = answer else {
         return answer;
     };
-    if 3008 <= number {
+    if stage::LOOKUPS <= number {
         return Made::TableNumber;
     }
     let place = stage::place_of(number);

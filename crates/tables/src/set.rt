@@ -6,7 +6,7 @@ ghost use Rattle.bits.specs.Lists.{concat};
 ghost use Rattle.judgement.specs.Judge.{judge};
 ghost use Rattle.bundle.specs.declared.answer.Judgement.the-variants.{Accepted};
 ghost use Rattle.layers.specs.Layers.{Ready, InverseFor};
-ghost use Rattle.network.specs.Stages.{stageOf, indexOf, tableSize};
+ghost use Rattle.network.specs.Stages.{stageOf, indexOf, tableSize, tenLookups, tenSetBytes};
 ghost use Rattle.whitebox.specs.Bundles.{codingsOf};
 ghost use Rattle.whitebox.specs.Parts.{forward};
 ghost use Rattle.whitebox.specs.Tables.{tableOf};
@@ -16,7 +16,7 @@ use stages::table;
 
 // Table n, with the inverse that it needs.
 pub fn write_one(bundle: &[u8], keys: &[u8], inverse: &[u64], n: usize, dst: &mut [u8])
-    requires { ⌜ (judge 10 (now bundle) ≡ Accepted) × (indexOf 10 n < 16 → InverseFor (now bundle) (stageOf 10 n) (indexOf 10 n) (now inverse)) × (length (now keys) ≡ 176) × (n < 3008) × (length (now dst) ≡ tableSize 10 n) ⌝ }
+    requires { ⌜ (judge 10 (now bundle) ≡ Accepted) × (indexOf 10 n < 16 → InverseFor (now bundle) (stageOf 10 n) (indexOf 10 n) (now inverse)) × (length (now keys) ≡ 176) × (n < tenLookups) × (length (now dst) ≡ tableSize 10 n) ⌝ }
     ensures { λ _. ⌜ now (dst .exit) ≡ tableOf (forward 10 (now (keys .entry))) (codingsOf 10 (now (bundle .entry))) 10 n ⌝ }
 {
     let place = stage::place_of(n);
@@ -33,11 +33,11 @@ pub fn write_all<'a>(
     input: &'a [u64],
     memory: &mut [u8],
 )
-    requires { ⌜ Ready (now bundle) (now columns) (now input) × (length (now keys) ≡ 176) × (length (now memory) ≡ 770048) ⌝ }
-    ensures { λ _. ⌜ now (memory .exit) ≡ concat 3008 (tableOf (forward 10 (now (keys .entry))) (codingsOf 10 (now (bundle .entry))) 10) ⌝ }
+    requires { ⌜ Ready (now bundle) (now columns) (now input) × (length (now keys) ≡ 176) × (length (now memory) ≡ tenSetBytes) ⌝ }
+    ensures { λ _. ⌜ now (memory .exit) ≡ concat tenLookups (tableOf (forward 10 (now (keys .entry))) (codingsOf 10 (now (bundle .entry))) 10) ⌝ }
 {
     let mut n: usize = 0;
-    while n < 3008 {
+    while n < stage::LOOKUPS {
         let place = stage::place_of(n);
         let a = place.offset;
         let size = place.size;

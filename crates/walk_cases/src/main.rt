@@ -12,6 +12,7 @@ use evaluate::walk::move_to;
 use evaluate::walk::start;
 use libc::STDIN_FILENO;
 use libc::STDOUT_FILENO;
+use network::stage::LOOKUPS;
 use network::stage::place_of;
 
 // The memory: a linear congruence, its upper bits a byte each.
@@ -187,7 +188,7 @@ fn fetched(walk: Walk, k: usize) {
 fn every(walk: Walk, mem: &[u8]) -> Walk {
     let mut w = walk;
     let mut stop: usize = 0;
-    while stop <= 3008 {
+    while stop <= LOOKUPS {
         w = long_move(w, mem, 2, stop);
         stop += 1;
     }

@@ -12,6 +12,7 @@ use evaluate::walk::move_one;
 use evaluate::walk::start;
 use libc::STDIN_FILENO;
 use libc::STDOUT_FILENO;
+use network::stage::LOOKUPS;
 use network::stage::place_of;
 
 fn wide(x: u8) -> u64 {
@@ -41,7 +42,7 @@ fn over_input(walk: Walk, table: &mut [u8]) -> Move
 {
     let mut w = walk;
     let mut k: usize = 0;
-    while k < 3008 {
+    while k < LOOKUPS {
         let p = place_of(k);
         let size = p.size;
         let got = io::read_full(STDIN_FILENO, &mut table[..size]);
