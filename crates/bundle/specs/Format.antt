@@ -22,6 +22,10 @@ use Rattle.bundle.specs.declared.answer.Refusal.the-variants.{Length, Pa
 unfoldable pub encodings : ℕ → ℕ
 encodings nr = 32 + 2 * 992 + (nr - 1) * 448
 
+-- Their number for ten rounds, as the code has it; that it is this is said in Frames.antt.
+abbrev pub tenEncodings : ℕ
+tenEncodings = 6048
+
 -- "160 byte matrices, 8 by 8, number 16(r−1)+j for round r = 1..10 and state byte j".
 unfoldable pub byteMatrices : ℕ → ℕ
 byteMatrices nr = 16 * nr

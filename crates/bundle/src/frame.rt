@@ -11,7 +11,7 @@ use crate::layout;
 
 const SHORTEST: usize = 58408;
 
-const LONGEST: usize = 65536;
+pub const LONGEST: usize = 65536;
 
 // What section i has to start behind.
 fn end_before(bundle: &[u8], i: usize) -> usize

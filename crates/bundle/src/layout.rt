@@ -2,12 +2,12 @@
 ghost use mathlib.Core.Path.{_≡_};
 ghost use Prim.Native.Nat.{_+_, _<_, _≤_};
 ghost use lib.ListN.{length};
-ghost use Rattle.bundle.specs.Format.{partCount, partSize, sectionLength, numberAt};
+ghost use Rattle.bundle.specs.Format.{partCount, partSize, sectionLength, numberAt, tenEncodings};
 use bits::vector;
 
 // How many parts section s has.
 pub fn part_count(s: usize) -> usize
-    ensures { λ r. ⌜ (r ≡ partCount 10 s) × (r ≤ 6048) ⌝ }
+    ensures { λ r. ⌜ (r ≡ partCount 10 s) × (r ≤ tenEncodings) ⌝ }
 {
     match s {
         0 => 6048,

@@ -6,6 +6,7 @@ ghost use Rattle.bits.specs.Encodings.{imagesOf, decode, Permutation};
 ghost use Rattle.bits.specs.Lists.{at, tabulate, concat};
 ghost use Rattle.bits.specs.Nibbles.{pack};
 ghost use Rattle.entries.specs.Encodings.{encodingIn};
+ghost use Rattle.bundle.specs.Format.{tenEncodings};
 use bits::encoding;
 use bundle::sections;
 
@@ -49,7 +50,7 @@ pub fn places(p: &[u8], dst: &mut [u8])
 
 // The images of the encodings n, n + 1, .., `count` of them, one after the other.
 pub fn all_images(section: &[u8], n: usize, count: usize, dst: &mut [u8])
-    requires { ⌜ (length (now section) % 8 ≡ 0) × (n ≤ 6048) × (count ≤ 32) × (16 * count ≤ length (now dst)) ⌝ }
+    requires { ⌜ (length (now section) % 8 ≡ 0) × (n ≤ tenEncodings) × (count ≤ 32) × (16 * count ≤ length (now dst)) ⌝ }
     ensures { λ _. ⌜ take (count * 16) (now (dst .exit)) ≡ concat count (λ h. encodingIn (now (section .entry)) (n + h)) ⌝ }
 {
     let mut h: usize = 0;

@@ -8,7 +8,7 @@ ghost use Rattle.bits.specs.Encodings.{encode, decode, Permutation};
 ghost use Rattle.matrices.specs.Matrices.{matrixOf};
 ghost use Rattle.bits.specs.Nibbles.{pack};
 ghost use Rattle.matrices.specs.Rows.{rowsOf};
-ghost use Rattle.bundle.specs.Format.{encodingOf};
+ghost use Rattle.bundle.specs.Format.{encodingOf, tenEncodings};
 ghost use Rattle.external.specs.Coding.{encodeNibbles, decodeNibbles, multiply};
 use bits::encoding;
 use bits::vector;
@@ -17,7 +17,7 @@ use matrices::matrix;
 
 // A byte's halves under encodings n and n + 1.
 fn encoded(bundle: &[u8], n: usize, b: u8) -> u8
-    requires { ⌜ n < 6048 ⌝ }
+    requires { ⌜ n < tenEncodings ⌝ }
     ensures { λ r. ⌜ r ≡ pack (encode (encodingOf 10 (now (bundle .entry)) n) (b / 16)) (encode (encodingOf 10 (now (bundle .entry)) (n + 1)) (b % 16)) ⌝ }
 {
     let h = encoding::image(parts::encoding_part(bundle, n), b / 16);
@@ -26,7 +26,7 @@ fn encoded(bundle: &[u8], n: usize, b: u8) -> u8
 }
 
 fn decoded(bundle: &[u8], n: usize, b: u8) -> u8
-    requires { ⌜ (n < 6048) × Permutation (encodingOf 10 (now bundle) n) × Permutation (encodingOf 10 (now bundle) (n + 1)) ⌝ }
+    requires { ⌜ (n < tenEncodings) × Permutation (encodingOf 10 (now bundle) n) × Permutation (encodingOf 10 (now bundle) (n + 1)) ⌝ }
     ensures { λ r. ⌜ r ≡ pack (decode (encodingOf 10 (now (bundle .entry)) n) (b / 16)) (decode (encodingOf 10 (now (bundle .entry)) (n + 1)) (b % 16)) ⌝ }
 {
     let h = encoding::place(parts::encoding_part(bundle, n), b / 16);

@@ -6,7 +6,7 @@ ghost use lib.Bits.{bitXor};
 ghost use lib.Dec.{eqb};
 ghost use lib.ListN.{length};
 ghost use Rattle.bits.specs.Vectors.{bit, unit};
-ghost use Rattle.bundle.specs.Format.{partOf};
+ghost use Rattle.bundle.specs.Format.{partOf, tenEncodings};
 ghost use Rattle.judgement.specs.Judge.{noPermutation, noInverse};
 ghost use Rattle.bundle.specs.Search.{first};
 use bundle::answer::Found;
@@ -41,7 +41,7 @@ fn repeated(seen: u64, b: u8) -> bool
 
 // The first of the encodings that a section holds that repeats an image; a byte has two.
 pub fn first_bad_encoding(lists: &[u8], count: usize) -> Found
-    requires { ⌜ (count ≤ 6048) × (count * 8 ≤ length (now lists)) ⌝ }
+    requires { ⌜ (count ≤ tenEncodings) × (count * 8 ≤ length (now lists)) ⌝ }
     ensures { λ r. ⌜ r ≡ first count (λ n. noPermutation (partOf 8 (now (lists .entry)) n)) ⌝ }
 {
     let mut n: usize = 0;

@@ -4,6 +4,7 @@ ghost use Prim.Native.Nat.{_+_, _*_, _<_, _≤_};
 ghost use Rattle.layers.specs.Layers.{roundOf};
 ghost use Rattle.network.specs.Numbers.{sumNumber};
 ghost use Rattle.network.specs.Stages.{firstNumber, standingNumber};
+ghost use Rattle.bundle.specs.Format.{tenEncodings};
 use network::stage::Stage;
 
 // The number of the encoding of a stage's first result.
@@ -23,7 +24,7 @@ pub fn first_number(s: Stage) -> usize
 // The number of the encoding of nibble q of a half's sums, whose results are numbered from `first` on.
 fn sum_number(first: usize, q: usize) -> usize
     requires { ⌜ (first ≤ 4832) × (q < 32) ⌝ }
-    ensures { λ r. ⌜ (r ≡ sumNumber 4 first q) × (r < 6048) ⌝ }
+    ensures { λ r. ⌜ (r ≡ sumNumber 4 first q) × (r < tenEncodings) ⌝ }
 {
     first + 128 + (q / 8 * 3 + 2) * 8 + q % 8
 }
@@ -31,7 +32,7 @@ fn sum_number(first: usize, q: usize) -> usize
 // The number of the encoding of standing nibble q as a stage begins.
 pub fn standing_number(s: Stage, q: usize) -> usize
     requires { ⌜ (1 ≤ roundOf s) × (roundOf s ≤ 9) × (q < 32) ⌝ }
-    ensures { λ r. ⌜ (r ≡ standingNumber 10 s q) × (r < 6048) ⌝ }
+    ensures { λ r. ⌜ (r ≡ standingNumber 10 s q) × (r < tenEncodings) ⌝ }
 {
     match s {
         Stage::Entry => q,

@@ -1,4 +1,5 @@
 // The maker: reads a key and then a bundle to the end of the input, and writes the tables of their set in order, or the refusal.
+use bundle::frame::LONGEST;
 use libc::STDIN_FILENO;
 use libc::STDOUT_FILENO;
 use network::stage::SET_BYTES;
@@ -29,7 +30,7 @@ fn make(key: &[u8], bundle: &[u8], set: &mut [u8]) {
 // One byte more than the longest bundle tells a longer one, which the call then turns down.
 fn work(set: &mut [u8; SET_BYTES]) {
     let mut key = [0u8; 16];
-    let mut bundle = [0u8; 65537];
+    let mut bundle = [0u8; LONGEST + 1];
     let k = io::read_full(STDIN_FILENO, &mut key);
     let b = io::read_full(STDIN_FILENO, &mut bundle);
     make(&key[..k], &bundle[..b], set);

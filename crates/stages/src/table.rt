@@ -18,6 +18,7 @@ ghost use Rattle.network.specs.Tables.{spreadTable, xorTable, tableIn};
 ghost use Rattle.whitebox.specs.Bundles.{codingsOf};
 ghost use Rattle.whitebox.specs.Parts.{forward};
 ghost use Rattle.whitebox.specs.Tables.{layerOf};
+ghost use Rattle.bundle.specs.Format.{tenEncodings};
 use bundle::parts;
 use bundle::sections;
 use entries::lists;
@@ -112,7 +113,7 @@ fn sum_so_far(added: usize, spread: usize, before: usize) -> usize
 
 // XOR table x of a layer of width m whose results are numbered from `first` on.
 fn xor_table(bundle: &[u8], m: usize, first: usize, x: usize, dst: &mut [u8])
-    requires { ⌜ GoodWidth m × (first + layerResults m ≤ 6048) × (x < xors m) × (length (now dst) ≡ 128) ⌝ }
+    requires { ⌜ GoodWidth m × (first + layerResults m ≤ tenEncodings) × (x < xors m) × (length (now dst) ≡ 128) ⌝ }
     ensures { λ _. ⌜ now (dst .exit) ≡ xorTable (codingsOf 10 (now (bundle .entry)) .encoding) m first x ⌝ }
 {
     let d = 2 * m;
