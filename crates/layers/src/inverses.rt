@@ -11,6 +11,7 @@ ghost use Rattle.bundle.specs.Format.{columnMatrix, inputMatrix};
 ghost use Rattle.judgement.specs.Judge.{judge};
 ghost use Rattle.bundle.specs.declared.answer.Judgement.the-variants.{Accepted};
 ghost use Rattle.layers.specs.Layers.{roundOf, ColumnInverses, Ready, InverseFor};
+use crate::numbers;
 use bundle::parts;
 use matrices::matrix;
 use network::stage::Stage;
@@ -67,7 +68,7 @@ pub fn of_table(bundle: &[u8], s: Stage, j: usize, dst: &mut [u64])
     match s {
         Stage::Entry => of_input(bundle, dst),
         Stage::First(_) => {}
-        Stage::Second(r) => of_column(bundle, 4 * (r - 1) + j / 4, dst),
+        Stage::Second(r) => of_column(bundle, numbers::column_number(r, j), dst),
         Stage::Exit => {}
         Stage::Beyond => {}
     }
@@ -85,7 +86,7 @@ pub fn chosen<'a>(columns: &'a [u64], input: &'a [u64], s: Stage, j: usize) -> &
         Stage::Entry => input,
         Stage::First(_) => input,
         Stage::Second(r) => {
-            let a = (4 * (r - 1) + j / 4) * 64;
+            let a = numbers::column_number(r, j) * 64;
             let e = a + 64;
             &columns[a..e]
         }

@@ -1,6 +1,6 @@
-// Numbers of encodings (lists) by stage.
+// Numbers of encodings (lists) and matrices by stage.
 ghost use mathlib.Core.Path.{_≡_};
-ghost use Prim.Native.Nat.{_+_, _*_, _<_, _≤_};
+ghost use Prim.Native.Nat.{_+_, _-_, _*_, _/_, _<_, _≤_};
 ghost use Rattle.layers.specs.Layers.{roundOf};
 ghost use Rattle.network.specs.Numbers.{sumNumber};
 ghost use Rattle.network.specs.Stages.{firstNumber, standingNumber};
@@ -19,6 +19,14 @@ pub fn first_number(s: Stage) -> usize
         Stage::Exit => 5056,
         Stage::Beyond => 5056,
     }
+}
+
+// The number of the column matrix at position p of a round.
+pub fn column_number(round: usize, p: usize) -> usize
+    requires { ⌜ (1 ≤ round) × (round ≤ 9) × (p < 16) ⌝ }
+    ensures { λ r. ⌜ (r ≡ 4 * (round - 1) + p / 4) × (r < 36) ⌝ }
+{
+    4 * (round - 1) + p / 4
 }
 
 // The number of the encoding of nibble q of a half's sums, whose results are numbered from `first` on.

@@ -71,7 +71,7 @@ fn basis_of(bundle: &[u8], inverse: &[u64], s: Stage, p: usize, basis: &mut [u64
     match s {
         Stage::Entry => words::spread_basis(bundle, inverse, 16, p, 0, basis),
         Stage::First(r) => {
-            let n = 4 * (r - 1) + p / 4;
+            let n = numbers::column_number(r, p);
             words::mixed_basis(parts::column_matrix_part(bundle, n), p % 4, basis);
         }
         Stage::Second(r) => words::spread_basis(

@@ -1,4 +1,4 @@
--- `field::inv_sub` meets its contract: the table that it reads is the one that the rule was tested on. Assumes nothing.
+-- `field::inv_sbox::inv_sub` meets its contract: the table that it reads is the one that the rule was tested on. Assumes nothing.
 use Rattle.field.proofs.laws.Tables.{invSboxTable}
 use Rattle.field.proofs.laws.Sbox.{inv-sbox-at}
 use borrow.Author.Needs.{needs}

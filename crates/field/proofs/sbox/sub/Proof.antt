@@ -1,4 +1,4 @@
--- `field::sub` meets its contract: the table that it reads is the one that the rule was tested on. Assumes nothing.
+-- `field::sbox::sub` meets its contract: the table that it reads is the one that the rule was tested on. Assumes nothing.
 use Rattle.field.proofs.laws.Tables.{sboxTable}
 use Rattle.field.proofs.laws.Sbox.{sbox-at}
 use borrow.Author.Needs.{needs}

@@ -1,4 +1,4 @@
--- `bits::elimination::add_row` meets its contract. Assumes nothing.
+-- `inversion::elimination::add_row` meets its contract. Assumes nothing.
 use mathlib.Core.Path.{ap, ap₂, _∙_}
 use mathlib.Core.List.{List}
 use Prim.Native.Nat.{ℕ, _+_, _*_}

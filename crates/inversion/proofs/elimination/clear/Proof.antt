@@ -1,4 +1,4 @@
--- `bits::elimination::clear` meets its contract. Assumes nothing.
+-- `inversion::elimination::clear` meets its contract. Assumes nothing.
 use mathlib.Core.List.{List}
 use mathlib.Core.Path.{_≡_, refl, sym, _∙_, subst}
 use Prim.Native.Nat.{ℕ, _+_, _-_, _≤_}

@@ -1,4 +1,4 @@
--- `bits::elimination::coefficient` meets its contract. Assumes nothing.
+-- `inversion::elimination::coefficient` meets its contract. Assumes nothing.
 use mathlib.Core.Path.{ap, _∙_}
 use Prim.Native.Nat.{ℕ, _-_, _/_, _%_, _^_}
 use Rattle.inversion.specs.Work.{leftAt}

@@ -1,4 +1,4 @@
--- `bits::elimination::find` meets its contract. Assumes nothing.
+-- `inversion::elimination::find` meets its contract. Assumes nothing.
 use mathlib.Core.Path.{_≡_, refl, sym, ap, _∙_}
 use Prim.Native.Nat.{ℕ, _-_, _≤_, _/_, _%_, _^_}
 use Rattle.inversion.specs.Elimination.{pivotFrom}

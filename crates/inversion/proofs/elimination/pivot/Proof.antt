@@ -1,4 +1,4 @@
--- `bits::elimination::pivot` meets its contract. Assumes nothing.
+-- `inversion::elimination::pivot` meets its contract. Assumes nothing.
 use mathlib.Core.List.{List}
 use mathlib.Core.Path.{_≡_, ap, _∙_}
 use Prim.Native.Nat.{ℕ, _-_, _/_, _%_, _^_}

@@ -1,4 +1,4 @@
--- `bits::elimination::start` meets its contract. Assumes nothing.
+-- `inversion::elimination::start` meets its contract. Assumes nothing.
 use mathlib.Core.Path.{_≡_, refl, _∙_}
 use Prim.Native.Nat.{_-_, _≤_}
 use lib.ListN.{length}

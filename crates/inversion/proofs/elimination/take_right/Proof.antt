@@ -1,4 +1,4 @@
--- `bits::elimination::take_right` meets its contract. Assumes nothing.
+-- `inversion::elimination::take_right` meets its contract. Assumes nothing.
 use mathlib.Core.Path.{_≡_, refl, sym, ap, ap₂, _∙_}
 use mathlib.Core.List.{List}
 use Prim.Native.Nat.{ℕ, _-_, _≤_}

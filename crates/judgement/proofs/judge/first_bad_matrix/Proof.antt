@@ -1,4 +1,4 @@
--- `bundle::judge::first_bad_matrix` meets its contract. Assumes nothing.
+-- `judgement::judge::first_bad_matrix` meets its contract. Assumes nothing.
 use mathlib.Core.Path.{_∙_}
 use Rattle.judgement.proofs.laws.Judging.{section-search, section-room}
 use borrow.Author.Needs.{needs}

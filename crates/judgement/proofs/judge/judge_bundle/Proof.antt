@@ -1,4 +1,4 @@
--- `bundle::judge::judge_bundle` meets its contract. Assumes nothing.
+-- `judgement::judge::judge_bundle` meets its contract. Assumes nothing.
 use mathlib.Core.Path.{sym, _∙_}
 use Rattle.judgement.proofs.laws.Judging.{judge-frame, judge-encodings, judge-rest}
 use borrow.Author.Needs.{needs}

@@ -1,4 +1,4 @@
--- `bundle::judge::judge_encodings` meets its contract. Assumes nothing.
+-- `judgement::judge::judge_encodings` meets its contract. Assumes nothing.
 use mathlib.Core.Path.{refl, sym, _∙_}
 use native.Mathlib.Omega.{arith}
 use Rattle.bundle.specs.Format.{partCount, partSize}

@@ -1,4 +1,4 @@
--- `bundle::judge::judge_matrices` meets its contract. Assumes nothing.
+-- `judgement::judge::judge_matrices` meets its contract. Assumes nothing.
 use mathlib.Core.Path.{sym, refl, _∙_}
 use Rattle.bundle.specs.Format.{partCount, partSize}
 use Rattle.judgement.proofs.laws.Judging.{matrices-byte, matrices-column, matrices-input, matrices-output, matrices-good}

@@ -1,4 +1,4 @@
--- `bundle::search::first_bad_encoding` meets its contract. Assumes nothing.
+-- `judgement::search::first_bad_encoding` meets its contract. Assumes nothing.
 use mathlib.Core.Path.{_≡_, sym, ap, _∙_, subst}
 use Prim.Native.Nat.{ℕ, _+_, _-_, _*_, _%_, _≤_}
 use lib.Bits.{bitXor}

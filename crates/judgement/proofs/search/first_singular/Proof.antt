@@ -1,4 +1,4 @@
--- `bundle::search::first_singular` meets its contract. Assumes nothing.
+-- `judgement::search::first_singular` meets its contract. Assumes nothing.
 use mathlib.Core.Path.{_≡_, sym, _∙_}
 use Prim.Native.Nat.{_-_, _≤_}
 use lib.ListN.{length-take, length-drop}

@@ -1,4 +1,4 @@
--- `bundle::search::marked` meets its contract. Assumes nothing.
+-- `judgement::search::marked` meets its contract. Assumes nothing.
 use mathlib.Core.Path.{_≡_, sym, ap, _∙_}
 use Prim.Native.Nat.{ℕ, suc, _-_, _/_, _%_, _^_}
 use lib.Dec.{eqb}

@@ -1,4 +1,4 @@
--- `bundle::search::no_inverse` meets its contract. Assumes nothing.
+-- `judgement::search::no_inverse` meets its contract. Assumes nothing.
 use mathlib.Core.Path.{sym, ap, _∙_}
 use mathlib.Core.Bool.{not}
 use Rattle.matrices.proofs.laws.Stored.{read-rows}

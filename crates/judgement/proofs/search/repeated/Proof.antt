@@ -1,4 +1,4 @@
--- `bundle::search::repeated` meets its contract. Assumes nothing.
+-- `judgement::search::repeated` meets its contract. Assumes nothing.
 use mathlib.Core.Bool.{Bool, true, cond}
 use mathlib.Core.Path.{sym, ap, _∙_}
 use Prim.Native.Nat.{ℕ, _/_, _%_}

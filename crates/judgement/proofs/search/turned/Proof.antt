@@ -1,4 +1,4 @@
--- `bundle::search::turned` meets its contract. Assumes nothing.
+-- `judgement::search::turned` meets its contract. Assumes nothing.
 use mathlib.Core.Path.{_≡_, ap, _∙_}
 use Prim.Native.Nat.{ℕ, suc, _-_, _%_, _^_, _<_}
 use native.Mathlib.Nat.{one-mul, mod-eq-of-lt}

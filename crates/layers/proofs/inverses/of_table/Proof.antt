@@ -1,6 +1,9 @@
 -- `layers::inverses::of_table` meets its contract. Assumes nothing.
 use mathlib.Core.Path.{_≡_, sym, ap, _∙_, subst}
+use Prim.Native.Nat.{ℕ}
 use lib.ListN.{length}
+use Rattle.bundle.specs.Format.{columnMatrix}
+use Rattle.inversion.specs.Elimination.{inverseOf}
 use Rattle.layers.specs.Layers.{roundOf, InverseFor}
 use Rattle.network.specs.declared.stage.Stage.{Stage}
 use native.Mathlib.Omega.{arith}
@@ -23,17 +26,11 @@ enum-told-2 c = search needs
 enum-known-s : tie.Need-enum-known-s
 enum-known-s c = search needs
 
-sub-of-column : tie.Need-sub-of-column
-sub-of-column c = omega (arith, ap roundOf (c .before .s .given .1), c .before .before .before .before .before .before .pre)
-
-mul-of-column : tie.Need-mul-of-column
-mul-of-column c = omega (arith, ap roundOf (c .before .s .given .1), c .before .before .before .before .before .before .pre)
-
-add-of-column : tie.Need-add-of-column
-add-of-column c = omega (arith, ap roundOf (c .before .s .given .1), c .before .before .before .before .before .before .pre, c .before .before .before .if1 .left)
+column-number-requires : tie.Need-column-number-requires
+column-number-requires c κs = omega (arith, ap roundOf (c .before .s .given .1), c .before .before .before .before .before .before .pre, c .before .before .before .if1 .left)
 
 of-column-requires : tie.Need-of-column-requires
-of-column-requires c κs = ((c .before .before .before .before .before .before .before .pre) .0, omega (arith, ap roundOf (c .before .before .s .given .1), c .before .before .before .before .before .before .before .pre, c .before .before .before .before .if1 .left), omega (arith, c .before .before .before .before .before .before .before .pre))
+of-column-requires c κs = (c .before .before .before .before .before .before .before .before .pre .0, c .before .column-number .ensures .1, omega (arith, c .before .before .before .before .before .before .before .before .pre))
 
 enum-told-3 : tie.Need-enum-told-3
 enum-told-3 c = search needs
@@ -60,9 +57,11 @@ same-length-2 c = search needs
 
 returns-4 : tie.Need-returns-4
 returns-4 c =
-    let A = c .before .before .before .before .before .before .before .before .before .before .args in
-    let long : length (c .before .before .of-column .last .1 .1 .0) ≡ 256 = c .before .before .of-column .kept .1 .1 .0 ∙ (c .before .before .before .before .before .before .before .before .before .before .pre) .3 in
-    λ h. subst (λ (t : Stage). InverseFor (A .bundle .now) t (A .j) (c .before .before .of-column .last .1 .1 .0)) (sym (c .before .before .before .before .before .s .given .1)) (omega arith, c .before .before .of-column .ensures)
+    let A = c .before .before .before .before .before .before .before .before .before .before .before .args in
+    let D = c .before .before .of-column .last .1 .1 .0 in
+    let long : length D ≡ 256 = c .before .before .of-column .kept .1 .1 .0 ∙ c .before .before .before .before .before .before .before .before .before .before .before .pre .3 in
+    let rows = c .before .before .of-column .ensures ∙ ap (λ (n : ℕ). inverseOf 32 (columnMatrix 10 (A .bundle .now) n)) (c .before .before .before .before .column-number .ensures .0) in
+    λ h. subst (λ (t : Stage). InverseFor (A .bundle .now) t (A .j) D) (sym (c .before .before .before .before .before .before .s .given .1)) (omega arith, rows)
 
 returns-5 : tie.Need-returns-5
 returns-5 c =
@@ -81,9 +80,7 @@ of-table-spec =
     of-input-requires
     enum-told-2
     enum-known-s
-    sub-of-column
-    mul-of-column
-    add-of-column
+    column-number-requires
     of-column-requires
     enum-told-3
     enum-told-4

@@ -1,4 +1,4 @@
--- `evaluate::area::clear` meets its contract. Assumes nothing.
+-- `lookups::area::clear` meets its contract. Assumes nothing.
 use mathlib.Core.Path.{refl, _∙_}
 use Prim.Native.Nat.{_-_}
 use Rattle.bits.proofs.laws.Filled.{Filled, filled-none, filled-more, filled-all}

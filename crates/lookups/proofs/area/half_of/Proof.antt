@@ -1,4 +1,4 @@
--- `evaluate::area::half_of` meets its contract. Assumes nothing.
+-- `lookups::area::half_of` meets its contract. Assumes nothing.
 use mathlib.Core.Path.{_≡_}
 use Prim.Native.Nat.{_%_}
 use native.Mathlib.Omega.{arith}

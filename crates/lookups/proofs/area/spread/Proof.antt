@@ -1,4 +1,4 @@
--- `evaluate::area::spread` meets its contract. Assumes nothing.
+-- `lookups::area::spread` meets its contract. Assumes nothing.
 use mathlib.Core.Path.{_≡_, ap, _∙_}
 use Prim.Native.Nat.{_+_, _-_, _*_, _≤_}
 use native.Mathlib.Nat.{mul-le-mul-right}

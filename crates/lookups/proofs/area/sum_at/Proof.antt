@@ -1,4 +1,4 @@
--- `evaluate::area::sum_at` meets its contract. Assumes nothing.
+-- `lookups::area::sum_at` meets its contract. Assumes nothing.
 use Rattle.lookups.proofs.laws.Area.{sum-16, sum-4}
 use borrow.Author.Needs.{needs}
 use Rattle.lookups.proofs.area.sum_at.Statement.{statement}

@@ -1,4 +1,4 @@
--- `evaluate::area::take_sums` meets its contract. Assumes nothing.
+-- `lookups::area::take_sums` meets its contract. Assumes nothing.
 use mathlib.Core.Path.{ap}
 use Prim.Native.Nat.{_+_, _-_, _*_, _/_, _%_}
 use Rattle.bits.specs.Lists.{at}

@@ -1,4 +1,4 @@
--- `evaluate::area::with_half` meets its contract. Assumes nothing.
+-- `lookups::area::with_half` meets its contract. Assumes nothing.
 use borrow.Author.Tests.{eq-eqb, ne-eqb}
 use borrow.Author.Needs.{needs}
 use Rattle.lookups.proofs.area.with_half.Statement.{statement}

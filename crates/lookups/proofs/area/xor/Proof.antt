@@ -1,4 +1,4 @@
--- `evaluate::area::xor` meets its contract. Assumes nothing.
+-- `lookups::area::xor` meets its contract. Assumes nothing.
 use Rattle.bits.specs.Nibbles.{nibble, setNibble}
 use borrow.Author.Needs.{needs}
 use Rattle.lookups.proofs.area.xor.Statement.{statement}

@@ -1,4 +1,4 @@
--- `evaluate::area::xor_byte` meets its contract. Assumes nothing.
+-- `lookups::area::xor_byte` meets its contract. Assumes nothing.
 use Rattle.lookups.specs.InPlace.{xorByte}
 use borrow.Author.Needs.{needs}
 use Rattle.lookups.proofs.area.xor_byte.Statement.{statement}

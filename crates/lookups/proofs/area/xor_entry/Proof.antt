@@ -1,4 +1,4 @@
--- `evaluate::area::xor_entry` meets its contract. Assumes nothing.
+-- `lookups::area::xor_entry` meets its contract. Assumes nothing.
 use Rattle.bits.specs.Nibbles.{nibble}
 use borrow.Author.Needs.{needs}
 use Rattle.lookups.proofs.area.xor_entry.Statement.{statement}

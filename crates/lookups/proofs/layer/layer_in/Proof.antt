@@ -1,4 +1,4 @@
--- `evaluate::layer::layer_in` meets its contract. Assumes nothing.
+-- `lookups::layer::layer_in` meets its contract. Assumes nothing.
 use mathlib.Core.Path.{sym, subst}
 use Prim.Native.Nat.{ℕ, _+_, _≤_}
 use Rattle.network.specs.Sizes.{layerBytes}

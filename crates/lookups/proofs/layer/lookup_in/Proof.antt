@@ -1,4 +1,4 @@
--- `evaluate::layer::lookup_in` meets its contract. Assumes nothing.
+-- `lookups::layer::lookup_in` meets its contract. Assumes nothing.
 use mathlib.Core.Path.{sym, ap, _∙_, subst}
 use Prim.Native.Nat.{ℕ, _-_}
 use native.Mathlib.Numerals.{add-one}

@@ -1,4 +1,4 @@
--- `evaluate::layer::lookups_of` meets its contract. Assumes nothing.
+-- `lookups::layer::lookups_of` meets its contract. Assumes nothing.
 use mathlib.Core.Logic.{⊎-elim}
 use mathlib.Core.Path.{sym, ap, _∙_}
 use Rattle.network.specs.Order.{layerLookups}

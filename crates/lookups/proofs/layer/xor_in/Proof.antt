@@ -1,4 +1,4 @@
--- `evaluate::layer::xor_in` meets its contract. Assumes nothing.
+-- `lookups::layer::xor_in` meets its contract. Assumes nothing.
 use mathlib.Core.Path.{_∙_}
 use Rattle.lookups.proofs.laws.Layers.{below-480, xor-16, is-4, xor-4}
 use native.Mathlib.Omega.{arith}

@@ -1,4 +1,4 @@
--- `evaluate::layer::xor_pair_in` meets its contract. Assumes nothing.
+-- `lookups::layer::xor_pair_in` meets its contract. Assumes nothing.
 use mathlib.Core.Path.{_∙_}
 use Prim.Native.Nat.{_+_, _*_}
 use Rattle.lookups.proofs.laws.Layers.{below-480, xor-pair-16, is-4, xor-pair-4}

@@ -1,4 +1,4 @@
--- `bits::matrix::multiply` meets its contract. Assumes nothing.
+-- `matrices::matrix::multiply` meets its contract. Assumes nothing.
 use mathlib.Core.Path.{_≡_, refl, sym, ap, ap₂, _∙_, subst}
 use Prim.Native.Nat.{ℕ, _+_, _-_, _*_, _^_, _≤_, _<_}
 use native.Mathlib.Nat.{lt-of-lt-of-le}

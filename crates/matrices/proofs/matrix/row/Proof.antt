@@ -1,4 +1,4 @@
--- `bits::matrix::row` meets its contract. Assumes nothing.
+-- `matrices::matrix::row` meets its contract. Assumes nothing.
 use Rattle.bits.specs.Words.{wide}
 use Rattle.matrices.specs.Rows.{rowAt}
 use borrow.Author.Needs.{needs}

@@ -1,4 +1,4 @@
--- `bits::matrix::set_row` meets its contract. Assumes nothing.
+-- `matrices::matrix::set_row` meets its contract. Assumes nothing.
 use Rattle.matrices.proofs.laws.Rows.{set-words}
 use native.Mathlib.Omega.{arith}
 use borrow.Author.Needs.{needs}

@@ -1,4 +1,4 @@
--- `aes::key::expand_key` meets its contract. The invariant: the first 4 + n words are the key expanded by n words. Assumes nothing.
+-- `round::key::expand_key` meets its contract. The invariant: the first 4 + n words are the key expanded by n words. Assumes nothing.
 use mathlib.Core.Path.{_≡_, refl}
 use Prim.Native.Nat.{_+_, _-_, _*_, _≤_}
 use lib.ListN.{length, take, length-set}

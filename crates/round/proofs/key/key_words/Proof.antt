@@ -1,4 +1,4 @@
--- `aes::key::key_words` meets its contract: byte after byte. Assumes nothing.
+-- `round::key::key_words` meets its contract: byte after byte. Assumes nothing.
 use mathlib.Core.Path.{_≡_, refl}
 use Prim.Native.Nat.{_-_, _≤_}
 use lib.ListN.{length, take, length-set}

@@ -1,4 +1,4 @@
--- `aes::key::rcon_at` meets its contract: the table that it reads is the one that the rule was tested on. Assumes nothing.
+-- `round::key::rcon_at` meets its contract: the table that it reads is the one that the rule was tested on. Assumes nothing.
 use Rattle.round.proofs.laws.Key.{rconTable, rcon-at}
 use borrow.Author.Needs.{needs}
 use Rattle.round.proofs.key.rcon_at.Statement.{statement}

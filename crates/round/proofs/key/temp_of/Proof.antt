@@ -1,4 +1,4 @@
--- `aes::key::temp_of` meets its contract, in each branch by its test. Assumes nothing.
+-- `round::key::temp_of` meets its contract, in each branch by its test. Assumes nothing.
 use mathlib.Core.Path.{sym}
 use Rattle.round.proofs.laws.Key.{temp-turn, temp-keep}
 use borrow.Author.Needs.{needs}

@@ -1,4 +1,4 @@
--- `aes::key::word_at` meets its contract. Assumes nothing.
+-- `round::key::word_at` meets its contract. Assumes nothing.
 use Rattle.round.proofs.laws.Key.{word-is}
 use borrow.Author.Needs.{needs}
 use Rattle.round.proofs.key.word_at.Statement.{statement}

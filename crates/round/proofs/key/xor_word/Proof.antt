@@ -1,4 +1,4 @@
--- `aes::key::xor_word` meets its contract. Assumes nothing.
+-- `round::key::xor_word` meets its contract. Assumes nothing.
 use mathlib.Core.Path.{refl}
 use Rattle.bits.specs.Lists.{tabulate}
 use Rattle.round.specs.Key.{xorWord}

@@ -1,4 +1,4 @@
--- `aes::state::add_round_key` meets its contract: byte after byte, the xor with the byte of the round key. Assumes nothing.
+-- `round::state::add_round_key` meets its contract: byte after byte, the xor with the byte of the round key. Assumes nothing.
 use mathlib.Core.Path.{refl, sym, ap, ap₂, _∙_}
 use Prim.Native.Nat.{_-_, _/_, _%_}
 use lib.Bits.{bitXor}

@@ -1,4 +1,4 @@
--- `aes::state::inv_mix_columns` meets its contract: its matrix is that of the definition. Assumes nothing.
+-- `round::state::inv_mix_columns` meets its contract: its matrix is that of the definition. Assumes nothing.
 use Rattle.round.specs.State.{InvMixColumns, invMixRows}
 use borrow.Author.Needs.{needs}
 use Rattle.round.proofs.state.inv_mix_columns.Statement.{statement}

@@ -1,4 +1,4 @@
--- `aes::state::inv_shift_rows` meets its contract: the places that the rows are turned by are those of the definition. Assumes nothing.
+-- `round::state::inv_shift_rows` meets its contract: the places that the rows are turned by are those of the definition. Assumes nothing.
 use mathlib.Core.Path.{_∙_}
 use Rattle.round.proofs.laws.State.{turn-right}
 use borrow.Author.Needs.{needs}

@@ -1,4 +1,4 @@
--- `aes::state::inv_sub_bytes` meets its contract: byte after byte, invSboxOf of the byte of the state. Assumes nothing.
+-- `round::state::inv_sub_bytes` meets its contract: byte after byte, invSboxOf of the byte of the state. Assumes nothing.
 use mathlib.Core.Path.{refl}
 use Prim.Native.Nat.{_-_, _/_, _%_}
 use Rattle.field.specs.Sbox.{invSboxOf}

@@ -1,4 +1,4 @@
--- `aes::state::mix_by` meets its contract: byte after byte, its row of the matrix times its column. Assumes nothing.
+-- `round::state::mix_by` meets its contract: byte after byte, its row of the matrix times its column. Assumes nothing.
 use mathlib.Core.Path.{refl}
 use Prim.Native.Nat.{_-_, _/_, _%_}
 use Rattle.bits.specs.Groups.{xorAll}

@@ -1,4 +1,4 @@
--- `aes::state::mix_columns` meets its contract: its matrix is that of the definition. Assumes nothing.
+-- `round::state::mix_columns` meets its contract: its matrix is that of the definition. Assumes nothing.
 use Rattle.round.specs.State.{MixColumns, mixRows}
 use borrow.Author.Needs.{needs}
 use Rattle.round.proofs.state.mix_columns.Statement.{statement}

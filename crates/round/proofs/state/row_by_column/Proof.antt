@@ -1,4 +1,4 @@
--- `aes::state::row_by_column` meets its contract. The invariant: the sum of the first q products. Assumes nothing.
+-- `round::state::row_by_column` meets its contract. The invariant: the sum of the first q products. Assumes nothing.
 use mathlib.Core.Path.{_≡_, refl, ap₂}
 use Prim.Native.Nat.{_-_, _≤_}
 use native.Mathlib.Numerals.{add-one}

@@ -1,4 +1,4 @@
--- `aes::state::shift_rows` meets its contract: the places that the rows are turned by are those of the definition. Assumes nothing.
+-- `round::state::shift_rows` meets its contract: the places that the rows are turned by are those of the definition. Assumes nothing.
 use mathlib.Core.Path.{_∙_}
 use Rattle.round.proofs.laws.State.{turn-left}
 use borrow.Author.Needs.{needs}

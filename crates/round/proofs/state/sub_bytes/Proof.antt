@@ -1,4 +1,4 @@
--- `aes::state::sub_bytes` meets its contract: byte after byte, sboxOf of the byte of the state. Assumes nothing.
+-- `round::state::sub_bytes` meets its contract: byte after byte, sboxOf of the byte of the state. Assumes nothing.
 use mathlib.Core.Path.{refl}
 use Prim.Native.Nat.{_-_, _/_, _%_}
 use Rattle.field.specs.Sbox.{sboxOf}

@@ -1,4 +1,4 @@
--- `aes::state::turn_rows` meets its contract: byte after byte, from the column that the row is turned by. Assumes nothing.
+-- `round::state::turn_rows` meets its contract: byte after byte, from the column that the row is turned by. Assumes nothing.
 use mathlib.Core.Path.{refl}
 use Prim.Native.Nat.{_+_, _-_, _*_, _/_, _%_}
 use Rattle.bits.proofs.laws.Filled.{Filled, filled-none, filled-more, filled-all}

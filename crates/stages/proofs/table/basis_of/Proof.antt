@@ -1,6 +1,7 @@
--- `tables::table::basis_of` meets its contract. Assumes nothing.
+-- `stages::table::basis_of` meets its contract. Assumes nothing.
 use mathlib.Core.Path.{sym, ap, _∙_, subst}
-use Prim.Native.Nat.{_+_, _-_, _*_, _/_, _^_, _<_}
+use Prim.Native.Nat.{ℕ, _-_, _^_, _<_}
+use Rattle.bundle.specs.Format.{columnMatrixPart}
 use Rattle.matrices.proofs.laws.Rows.{stored-same}
 use Rattle.layers.specs.Layers.{roundOf, InverseFor, wordNumber}
 use Rattle.layers.proofs.laws.Code.{frame-of, column-part-long, output-part-long}
@@ -26,24 +27,16 @@ spread-basis-requires c κs =
 enum-known-s : tie.Need-enum-known-s
 enum-known-s c = search needs
 
-sub-n : tie.Need-sub-n
-sub-n c = omega (arith, ap roundOf (c .before .s .given .1), (c .before .before .before .before .before .before .pre) .2, (c .before .before .before .before .before .before .pre) .3, (c .before .before .before .before .before .before .pre) .4)
-
-mul-n : tie.Need-mul-n
-mul-n c = omega (arith, ap roundOf (c .before .s .given .1), (c .before .before .before .before .before .before .pre) .2, (c .before .before .before .before .before .before .pre) .3, (c .before .before .before .before .before .before .pre) .4)
-
-add-n : tie.Need-add-n
-add-n c = omega (arith, ap roundOf (c .before .s .given .1), (c .before .before .before .before .before .before .pre) .2, (c .before .before .before .before .before .before .pre) .3, (c .before .before .before .before .before .before .pre) .4)
+column-number-requires : tie.Need-column-number-requires
+column-number-requires c κs = omega (arith, ap roundOf (c .before .s .given .1), c .before .before .before .before .before .before .pre .2, c .before .before .before .before .before .before .pre .3, c .before .before .before .before .before .before .pre .4)
 
 column-matrix-part-requires : tie.Need-column-matrix-part-requires
 column-matrix-part-requires c κs = search needs
 
 mixed-basis-requires : tie.Need-mixed-basis-requires
 mixed-basis-requires c κs =
-    let p = c .before .before .before .before .before .before .before .before .pre in
-    let R = ap roundOf (c .before .before .before .s .given .1) in
-    let small : 4 * ((c .before .before .before .s .given .0 .0) - 1) + c .before .before .before .before .before .before .before .before .args .p / 4 < 36 = omega (arith, R, p .2, p .3, p .4) in
-    (omega (arith, column-part-long _ _ (frame-of _ (p .0)) _ small (c .before .column-matrix-part .ensures)), omega arith, p .5)
+    let p = c .before .before .before .before .before .before .before .before .before .pre in
+    (omega (arith, column-part-long _ _ (frame-of _ (p .0)) _ (c .before .before .column-number .ensures .1) (c .before .column-matrix-part .ensures)), omega arith, p .5)
 
 enum-known-s-2 : tie.Need-enum-known-s-2
 enum-known-s-2 c = search needs
@@ -98,16 +91,15 @@ same-length-2 c = search needs
 
 returns-2 : tie.Need-returns-2
 returns-2 c =
-    let A = c .before .before .before .before .before .before .before .before .before .before .before .args in
-    let p = c .before .before .before .before .before .before .before .before .before .before .before .pre in
+    let A = c .before .before .before .before .before .before .before .before .before .before .before .before .args in
     let l = A .bundle .now in
-    let r = c .before .before .before .before .before .before .s .given .0 .0 in
-    let small : 4 * (r - 1) + A .p / 4 < 36 = omega (arith, ap roundOf (c .before .before .before .before .before .before .s .given .1), p .2, p .3, p .4) in
+    let n = c .before .before .before .before .before .column-number .ensures in
     λ w.
     c .before .before .mixed-basis .ensures
     ∙ stored-same 8 _ _ _ (λ k h.
-    first-code l w (A .p) (2 ^ k) r _ small (c .before .before .before .before .column-matrix-part .ensures)
-    ∙ ap (λ (t : Stage). wordNumber (forward 10 w) (codingsOf 10 l) t (A .p) (2 ^ k)) (sym (c .before .before .before .before .before .before .s .given .1)))
+    first-code l w (A .p) (2 ^ k) (c .before .before .before .before .before .before .before .s .given .0 .0) _ (subst (λ (x : ℕ). x < 36) (n .0) (n .1))
+    (c .before .before .before .before .column-matrix-part .ensures ∙ ap (columnMatrixPart 10 l) (n .0))
+    ∙ ap (λ (t : Stage). wordNumber (forward 10 w) (codingsOf 10 l) t (A .p) (2 ^ k)) (sym (c .before .before .before .before .before .before .before .s .given .1)))
 
 same-length-3 : tie.Need-same-length-3
 same-length-3 c = search needs
@@ -148,9 +140,7 @@ basis-of-spec =
     enum-told
     spread-basis-requires
     enum-known-s
-    sub-n
-    mul-n
-    add-n
+    column-number-requires
     column-matrix-part-requires
     mixed-basis-requires
     enum-known-s-2

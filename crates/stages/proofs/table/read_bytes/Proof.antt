@@ -1,4 +1,4 @@
--- `tables::table::read_bytes` meets its contract. Assumes nothing.
+-- `stages::table::read_bytes` meets its contract. Assumes nothing.
 use mathlib.Core.List.{List}
 use mathlib.Core.Path.{sym, ap, ap₂, _∙_, subst}
 use Prim.Native.Nat.{ℕ, _+_, _*_, _/_, _%_}

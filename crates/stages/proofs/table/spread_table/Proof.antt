@@ -1,4 +1,4 @@
--- `tables::table::spread_table` meets its contract. Assumes nothing.
+-- `stages::table::spread_table` meets its contract. Assumes nothing.
 use mathlib.Core.List.{List}
 use mathlib.Core.Path.{sym, ap, ap₂, _∙_}
 use Prim.Native.Nat.{ℕ, _+_, _*_}

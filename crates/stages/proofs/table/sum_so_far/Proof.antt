@@ -1,4 +1,4 @@
--- `tables::table::sum_so_far` meets its contract. Assumes nothing.
+-- `stages::table::sum_so_far` meets its contract. Assumes nothing.
 use mathlib.Core.Path.{refl}
 use borrow.Author.Tests.{eq-eqb, ne-eqb}
 use Rattle.stages.proofs.table.sum_so_far.Statement.{statement}

@@ -1,4 +1,4 @@
--- `tables::table::values_of` meets its contract. Assumes nothing.
+-- `stages::table::values_of` meets its contract. Assumes nothing.
 use mathlib.Core.Path.{refl, sym, ap, _∙_}
 use lib.ListN.{length}
 use Rattle.bits.specs.Lists.{tabulate}

@@ -1,4 +1,4 @@
--- `tables::table::write` meets its contract. Assumes nothing.
+-- `stages::table::write` meets its contract. Assumes nothing.
 use mathlib.Core.Path.{sym, ap₂, _∙_, subst}
 use Prim.Native.Nat.{ℕ, _+_, _-_, _≤_, _<_}
 use borrow.Author.Tests.{lt-ltb, le-ltb}

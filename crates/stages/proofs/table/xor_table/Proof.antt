@@ -1,4 +1,4 @@
--- `tables::table::xor_table` meets its contract. Assumes nothing.
+-- `stages::table::xor_table` meets its contract. Assumes nothing.
 use mathlib.Core.Path.{_∙_}
 use Rattle.entries.specs.Encodings.{encodingIn}
 use Rattle.stages.proofs.laws.Encodings.{whole-encodings, encodings-in}
