@@ -127,6 +127,3 @@ pub xor-placed : (k n : ℕ) (f : ℕ → ℕ) → ((i : ℕ) → i < n → f i 
 xor-placed k n f b =
     sym (joined-xorAll k n n (λ j i. cond (eqb j i) (f i) 0) (λ j i h l. cond-lt (eqb j i) (f i) (2 ^ k) (pow-pos k) (b i l)))
     ∙ joined-same k n _ f (λ j h. xorAll-one n j f h)
-
-pub placed-lt : (k n i x : ℕ) → x < 2 ^ k → joined k n (λ j. cond (eqb j i) x 0) < 2 ^ (k * n)
-placed-lt k n i x h = joined-lt k n _ (λ j l. cond-lt (eqb j i) x (2 ^ k) (pow-pos k) h)

@@ -3,8 +3,7 @@
 use mathlib.Core.List.{List}
 use mathlib.Core.Logic.{⊎-elim, _⊎_, inl, inr}
 use mathlib.Core.Path.{_≡_, refl, sym, ap, ap₂, _∙_, subst}
-use Prim.Native.Nat.{ℕ, zero, suc, _+_, _-_, _/_, _%_, _≤_, _<_}
-use native.Mathlib.Decide.{decLt}
+use Prim.Native.Nat.{ℕ, zero, suc, _+_, _-_, _≤_, _<_}
 use native.Mathlib.Numerals.{add-one}
 use native.Mathlib.Omega.{arith}
 use lib.ListN.{take, drop}
@@ -13,10 +12,10 @@ use Rattle.network.specs.Order.{xors, layerLookups}
 use Rattle.network.specs.Sizes.{sizeOf, offsetOf, layerBytes}
 use Rattle.network.specs.Stages.{widthOf, shapeAt, shapes, shifted, lookups, tableSize, tableOffset, stageOf, indexOf, firstLookup, firstByte}
 use Rattle.network.specs.declared.stage.Stage.{Stage}
-use Rattle.network.specs.declared.stage.Stage.the-variants.{First, Second}
+use Rattle.network.specs.declared.stage.Stage.the-variants.{Entry, First, Second, Exit}
 use Rattle.network.proofs.laws.Cases.{starred}
 use Rattle.network.proofs.laws.Order.{layer-lookups}
-use Rattle.network.proofs.laws.Ranges.{stage-entry, stage-first, stage-second, stage-exit, by-stage}
+use Rattle.network.proofs.laws.Ranges.{stage-entry, stage-exit, first-here, second-here, by-range, by-stage}
 use Rattle.network.proofs.laws.Stages.{lookups-16, lookups-4, bytes-16, bytes-4}
 use Rattle.whitebox.specs.Calls.{advance}
 use Rattle.lookups.specs.InPlace.{tableFrom, spreadsIn, xorsIn, sumsIn}
@@ -31,58 +30,30 @@ pub record InStage (n : ℕ) (s : Stage) : Type 0 where
   pub bytes : firstByte 10 s + layerBytes (widthOf s) ≤ 770048
   pub same : (k : ℕ) → firstLookup 10 s ≤ k → k < firstLookup 10 s + layerLookups (widthOf s) → stageOf 10 k ≡ s
 
-in-round : (n : ℕ) → 496 ≤ n → n < 2512 → InStage n (stageOf 10 n)
-in-round n lo hi = elim (decLt ((n - 496) % 224) 112) [
-  | yes d ↦ subst (InStage n) (sym (stage-first 10 n lo hi d))
-      (record {
-        width = inl refl;
-        from = omega arith;
-        within = omega (arith, lookups-4);
-        room = omega (arith, lookups-4);
-        bytes = omega (arith, bytes-4);
-        same =
-            λ k a b.
-            let e : (k - 496) / 224 ≡ (n - 496) / 224 = omega (arith, lookups-4) in
-            stage-first 10 k (omega arith) (omega (arith, lookups-4)) (omega (arith, lookups-4)) ∙ ap (λ (x : ℕ). First (x + 1)) e;
-      })
-  | no d ↦ subst (InStage n) (sym (stage-second 10 n lo hi (omega arith)))
-      (record {
-        width = inl refl;
-        from = omega arith;
-        within = omega (arith, lookups-4);
-        room = omega (arith, lookups-4);
-        bytes = omega (arith, bytes-4);
-        same =
-            λ k a b.
-            let e : (k - 496) / 224 ≡ (n - 496) / 224 = omega (arith, lookups-4) in
-            stage-second 10 k (omega arith) (omega (arith, lookups-4)) (omega (arith, lookups-4)) ∙ ap (λ (x : ℕ). Second (x + 1)) e;
-      })
-]
+in-layer : (n : ℕ) (s : Stage) (count size : ℕ) → (widthOf s ≡ 4) ⊎ (widthOf s ≡ 16) → layerLookups (widthOf s) ≡ count → layerBytes (widthOf s) ≡ size
+    → firstLookup 10 s ≤ n → n < firstLookup 10 s + count → firstLookup 10 s + count ≤ 3008 → firstByte 10 s + size ≤ 770048
+    → ((k : ℕ) → firstLookup 10 s ≤ k → k < firstLookup 10 s + count → stageOf 10 k ≡ s) → InStage n s
+in-layer n s count size w c d lo hi room bytes same =
+    record {
+      width = w;
+      from = lo;
+      within = omega (arith, c);
+      room = omega (arith, c);
+      bytes = omega (arith, d);
+      same = λ k a b. same k a (omega (arith, c));
+    }
 
 pub in-stage : (n : ℕ) → n < 3008 → InStage n (stageOf 10 n)
-in-stage n h = elim (decLt n 496) [
-  | yes a ↦ subst (InStage n) (sym (stage-entry 10 n a))
-      (record {
-        width = inr refl;
-        from = omega arith;
-        within = omega (arith, lookups-16);
-        room = omega (arith, lookups-16);
-        bytes = omega (arith, bytes-16);
-        same = λ k a b. stage-entry 10 k (omega (arith, lookups-16));
-      })
-  | no a ↦ elim (decLt n 2512) [
-    | yes b ↦ in-round n (omega arith) b
-    | no b ↦ subst (InStage n) (sym (stage-exit 10 n (omega arith) h))
-        (record {
-          width = inr refl;
-          from = omega arith;
-          within = omega (arith, lookups-16);
-          room = omega (arith, lookups-16);
-          bytes = omega (arith, bytes-16);
-          same = λ k a b. stage-exit 10 k (omega arith) (omega (arith, lookups-16));
-        })
-  ]
-]
+in-stage n h =
+    by-range 10 n h (InStage n)
+    (λ a. in-layer n Entry 496 126976 (inr refl) lookups-16 bytes-16 (omega arith) (omega arith) (omega arith) (omega arith)
+    (λ k p q. stage-entry 10 k (omega arith)))
+    (λ r lo hi a b. in-layer n (First r) 112 28672 (inl refl) lookups-4 bytes-4 a (omega arith) (omega arith) (omega arith)
+    (λ k p q. first-here 10 r k lo hi p (omega arith)))
+    (λ r lo hi a b. in-layer n (Second r) 112 28672 (inl refl) lookups-4 bytes-4 a (omega arith) (omega arith) (omega arith)
+    (λ k p q. second-here 10 r k lo hi p (omega arith)))
+    (λ a. in-layer n Exit 496 126976 (inr refl) lookups-16 bytes-16 a (omega arith) (omega arith) (omega arith)
+    (λ k p q. stage-exit 10 k (omega arith) (omega arith)))
 
 -- ---- the walk in two parts, and its last lookup
 abbrev held : ℕ → List ℕ → List ℕ → Walk

@@ -145,25 +145,6 @@ unique n m b c fits cfits long e =
           sym (U .left (product n c w) (product-lt n (at c) w)) ∙ ap (product n b) (right w hw)),
     )
 
--- ---- what the code shows: rows that are an inverse of m, or a vector other than 0 that m takes to 0
-pub inverted : (n : ℕ) (m : List ℕ) (b : ℕ → ℕ) → RowsFit n (at m) → Inverse n (product n m) b → invert n m ≡ inverse (tabulate n b)
-inverted n m b fits B = go (exact n m fits (productBy n b, B .left))
-  where
-    go : (c : List ℕ) × (invert n m ≡ inverse c) → invert n m ≡ inverse (tabulate n b)
-    go (c, e) =
-        let U = answered n m c fits e in
-        let same : (w : ℕ) → w < 2 ^ n → productBy n b w ≡ product n c w =
-        λ w hw. ap (productBy n b) (sym (U .right w hw)) ∙ B .left (product n c w) (product-lt n (at c) w) in
-        e ∙ ap inverse (ext-at n c (tabulate n b) (U .long) (length-tabulate n b) (λ i h.
-        sym (rows-same n b (at c) (B .fits) (U .fits) same i h) ∙ sym (at-tabulate n b i h)))
-
-pub not-inverted : (n : ℕ) (m : List ℕ) (v : ℕ) → RowsFit n (at m) → Kernel n (product n m) v → invert n m ≡ singular
-not-inverted n m v fits K = go (invert n m) refl
-  where
-    go : (r : Inversion) → invert n m ≡ r → r ≡ singular
-    go (inverse b) e = absurd (no-kernel n (at m) v K (product n b) (answered n m b fits e .left))
-    go singular e = refl
-
 -- ---- the rows of the inverse, of a matrix that has one
 pub inverse-undoes : (n : ℕ) (m : List ℕ) → RowsFit n (at m) → Invertible n m → UndoesBothWays n m (inverseOf n m)
 unfolding inverseOf

@@ -13,7 +13,7 @@ use lib.Seq.{getD-set-same, getD-set-other}
 use Rattle.bits.specs.Lists.{at, tabulate}
 use Rattle.matrices.specs.Rows.{rowAt, rowsOf, setRow, stored}
 use Rattle.bits.specs.Words.{wide}
-use Rattle.bits.proofs.laws.Lists.{tabulate-ext, length-tabulate, at-tabulate}
+use Rattle.bits.proofs.laws.Lists.{tabulate-ext, at-tabulate}
 use Rattle.bits.proofs.laws.Words.{wide-split, wide-high, wide-low}
 
 pub row-set-same : (m : List ℕ) (i v : ℕ) → 2 * i + 1 < length m → rowAt (setRow m i v) i ≡ v
@@ -73,10 +73,6 @@ unfolding stored
 stored-same zero f g m e = refl
 stored-same (suc n) f g m e =
     ap₂ (λ (x : List ℕ) (y : ℕ). setRow x n y) (stored-same n f g m (λ i h. e i (omega arith))) (e n (omega arith))
-
-pub rowsOf-length : (n : ℕ) (m : List ℕ) → length (rowsOf n m) ≡ n
-unfolding rowsOf
-rowsOf-length n m = length-tabulate n (rowAt m)
 
 pub at-rowsOf : (n : ℕ) (m : List ℕ) (i : ℕ) → i < n → at (rowsOf n m) i ≡ rowAt m i
 unfolding rowsOf

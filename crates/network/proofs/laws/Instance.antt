@@ -1,23 +1,19 @@
 -- Laws, not definitions: a network with a layer for each stage: its shapes, its walk from any 16 bytes, and its set.
 -- Assumes nothing.
 use mathlib.Core.List.{List, [], _∷_, _++_, map, map-map}
-use mathlib.Core.Path.{_≡_, sym, ap, _∙_, subst, fun-ext}
+use mathlib.Core.Path.{_≡_, ap, _∙_, subst, fun-ext}
 use Prim.Native.Nat.{ℕ, zero, suc, _+_, _-_, _≤_, _<_}
 use native.Mathlib.Nat.{le-refl}
 use lib.ListN.{length, take, drop}
-use Rattle.bits.specs.Bytes.{Block}
 use Rattle.bits.specs.Lists.{concat}
-use Rattle.network.specs.Due.{closed, decoded}
-use Rattle.network.specs.Lookups.{Shape, zeroArea, walked}
-use Rattle.network.specs.Numbers.{startNumbers, numbersAfter}
+use Rattle.network.specs.Lookups.{Shape}
+use Rattle.network.specs.Numbers.{startNumbers}
 use Rattle.network.specs.Sizes.{lookupsIn, sizeIn, offsetIn}
 use Rattle.network.specs.Stages.{rounds, stages, widthOf, shapeAt, shapes, widths, lookups, setBytes, tableSize, tableOffset}
 use Rattle.network.specs.Tables.{Layer, Good, AllGood, shapeOf, shapesOf, widthsOf, tableAt}
-use Rattle.network.specs.Theorems.{Permutations}
 use Rattle.network.specs.declared.stage.Stage.{Stage}
 use Rattle.network.specs.declared.stage.Stage.the-variants.{Entry, First, Second, Exit}
 use Rattle.network.proofs.laws.Layers.{offset-none}
-use Rattle.network.proofs.laws.Network.{from-any-layer}
 use Rattle.network.proofs.laws.Parts.{offset-mono}
 use Rattle.network.proofs.laws.Sizes.{offset-zero, offset-suc, length-table, set-length, set-part}
 
@@ -72,14 +68,3 @@ module _ (F : Stage → Layer) where
   pub stage-table-length : ((s : Stage) → F s .width ≡ widthOf s) → (E : ℕ → List ℕ) (nr k : ℕ) → length (tableAt E (map F (stages nr)) startNumbers k) ≡ tableSize nr k
   unfolding tableSize
   stage-table-length e E nr k = length-table E (map F (stages nr)) startNumbers k ∙ ap (λ (ms : List ℕ). sizeIn ms k) (stage-widths e nr)
-
-  -- a walk over its tables, from any 16 bytes
-  pub stage-walked : (reads : ℕ → ℕ) → ((s : Stage) → shapeOf (F s) ≡ shapeAt reads s) → (E : ℕ → List ℕ) → Permutations E
-      → (nr : ℕ) → AllGood (map F (stages nr)) → (b : List ℕ) → Block b → (n : ℕ) → n ≤ lookups nr
-      → walked (shapes reads nr) (tableAt E (map F (stages nr)) startNumbers) n (record { count = 0; standing = b; area = zeroArea })
-      ≡ closed E (map F (stages nr)) startNumbers (decoded E (startNumbers .standing) b) 0 n
-  unfolding lookups lookupsIn numbersAfter
-  stage-walked reads e E perm nr g b block n h =
-      ap (λ (Ss : List Shape). walked Ss (tableAt E (map F (stages nr)) startNumbers) n (record { count = 0; standing = b; area = zeroArea })) (sym (stage-shapes reads e nr))
-      ∙ from-any-layer E perm [] (map F (stages nr)) g b block n
-      (subst (λ (ms : List ℕ). n ≤ lookupsIn ms) (sym (stage-widths (λ s. ap (λ (S : Shape). S .width) (e s)) nr)) h)

@@ -2,7 +2,7 @@
 -- Assumes nothing.
 use mathlib.Core.List.{List, _∷_, _++_, map, map-map, map-append}
 use mathlib.Core.Path.{_≡_, refl, sym, ap, ap₂, _∙_, subst, fun-ext}
-use Prim.Native.Nat.{ℕ, suc, _+_, _-_, _*_, _/_, _%_, _≤_, _<_}
+use Prim.Native.Nat.{ℕ, _+_, _-_, _*_, _/_, _%_, _≤_, _<_}
 use native.Mathlib.Decide.{decLt}
 use native.Mathlib.Omega.{arith}
 use borrow.Author.Tests.{lt-ltb, le-ltb}
@@ -42,34 +42,62 @@ unfolding stageOf
 stage-beyond nr k lo =
     rw (le-ltb k 496 (omega arith), le-ltb k (496 + 224 * (nr - 1)) (omega arith), le-ltb k (992 + 224 * (nr - 1)) lo)
 
+-- ---- by the round's number
+module _ (nr r k : ℕ) (low : 1 ≤ r) (high : r < nr) where
+  pub first-here : 496 + 224 * (r - 1) ≤ k → k < 608 + 224 * (r - 1) → stageOf nr k ≡ First r
+  first-here a b =
+      let e : (k - 496) / 224 + 1 ≡ r = omega arith in
+      stage-first nr k (omega arith) (omega arith) (omega arith) ∙ ap First e
+
+  pub second-here : 608 + 224 * (r - 1) ≤ k → k < 720 + 224 * (r - 1) → stageOf nr k ≡ Second r
+  second-here a b =
+      let e : (k - 496) / 224 + 1 ≡ r = omega arith in
+      stage-second nr k (omega arith) (omega arith) (omega arith) ∙ ap Second e
+
+-- What holds of the stage or half of lookup k, range by range.
+pub by-range : (nr k : ℕ) → k < 992 + 224 * (nr - 1) → (P : Stage → Type 0)
+    → (k < 496 → P Entry)
+    → ((r : ℕ) → 1 ≤ r → r < nr → 496 + 224 * (r - 1) ≤ k → k < 608 + 224 * (r - 1) → P (First r))
+    → ((r : ℕ) → 1 ≤ r → r < nr → 608 + 224 * (r - 1) ≤ k → k < 720 + 224 * (r - 1) → P (Second r))
+    → (496 + 224 * (nr - 1) ≤ k → P Exit)
+    → P (stageOf nr k)
+by-range nr k h P entry first second exit = elim (decLt k 496) [
+  | yes a ↦ subst P (sym (stage-entry nr k a)) (entry a)
+  | no a ↦ elim (decLt k (496 + 224 * (nr - 1))) [
+    | no b ↦ subst P (sym (stage-exit nr k (omega arith) h)) (exit (omega arith))
+    | yes b ↦ elim (decLt ((k - 496) % 224) 112) [
+      | yes d ↦ subst P (sym (stage-first nr k (omega arith) b d))
+          (first ((k - 496) / 224 + 1) (omega arith) (omega arith) (omega arith) (omega arith))
+      | no d ↦ subst P (sym (stage-second nr k (omega arith) b (omega arith)))
+          (second ((k - 496) / 224 + 1) (omega arith) (omega arith) (omega arith) (omega arith))
+    ]
+  ]
+]
+
 -- ---- lookup k is in the layer of its stage
 record In (nr k : ℕ) (s : Stage) : Type 0 where
   found : Found nr s
   from : firstLookup nr s ≤ k
   within : k - firstLookup nr s < layerLookups (widthOf s)
 
-in-rounds : (nr k : ℕ) → 496 ≤ k → k < 496 + 224 * (nr - 1) → In nr k (stageOf nr k)
-in-rounds nr k lo hi = elim (decLt ((k - 496) % 224) 112) [
-  | yes h ↦ subst (In nr k) (sym (stage-first nr k lo hi h))
-      (record { found = found-first nr i less; from = omega arith; within = omega (arith, lookups-4) })
-  | no h ↦ subst (In nr k) (sym (stage-second nr k lo hi (omega arith)))
-      (record { found = found-second nr i less; from = omega arith; within = omega (arith, lookups-4) })
-]
-  where
-    i : ℕ
-    i = (k - 496) / 224
-
-    less : suc i < nr
-    less = omega arith
-
 in-stage : (nr k : ℕ) → k < 992 + 224 * (nr - 1) → In nr k (stageOf nr k)
-in-stage nr k h = go (decLt k 496) (decLt k (496 + 224 * (nr - 1)))
+in-stage nr k h =
+    by-range nr k h (In nr k)
+    (λ a. record { found = found-entry nr; from = omega arith; within = omega (arith, lookups-16) })
+    (λ r lo hi a b. record {
+      found = subst (λ (x : ℕ). Found nr (First x)) (back r lo) (found-first nr (r - 1) (omega arith));
+      from = a;
+      within = omega (arith, lookups-4);
+    })
+    (λ r lo hi a b. record {
+      found = subst (λ (x : ℕ). Found nr (Second x)) (back r lo) (found-second nr (r - 1) (omega arith));
+      from = a;
+      within = omega (arith, lookups-4);
+    })
+    (λ a. record { found = found-exit nr; from = a; within = omega (arith, lookups-16) })
   where
-    go : Dec (k < 496) → Dec (k < 496 + 224 * (nr - 1)) → In nr k (stageOf nr k)
-    go (yes a) b = subst (In nr k) (sym (stage-entry nr k a)) (record { found = found-entry nr; from = omega arith; within = omega (arith, lookups-16) })
-    go (no a) (yes b) = in-rounds nr k (omega arith) b
-    go (no a) (no b) =
-        subst (In nr k) (sym (stage-exit nr k (omega arith) h)) (record { found = found-exit nr; from = omega arith; within = omega (arith, lookups-16) })
+    back : (r : ℕ) → 1 ≤ r → r - 1 + 1 ≡ r
+    back r lo = omega arith
 
 -- ---- what is said by going through the layers
 module _ (nr k : ℕ) (s : Stage) (at : In nr k s) where

@@ -4,7 +4,7 @@
 use mathlib.Core.Bool.{Bool, true, false, cond}
 use mathlib.Core.List.{List, [], _∷_}
 use mathlib.Core.Path.{_≡_, refl, sym, ap, _∙_}
-use Prim.Native.Nat.{ℕ, zero, suc, _+_, _-_, _≤_, _<_}
+use Prim.Native.Nat.{ℕ, zero, suc, _+_, _-_, _<_}
 use native.Mathlib.Decide.{decLt}
 use native.Mathlib.Nat.{not-suc-le-zero}
 use native.Mathlib.Omega.{arith}
@@ -34,13 +34,6 @@ count-at (S ∷ Ss) k t w h = elim (decLt k (layerLookups (S .width))) [
 ]
 
 module _ (Ss : List Shape) where
-  pub walked-count : (t : ℕ → List ℕ) (n : ℕ) (w : Walk) → w .count + n ≤ lookupsIn (widthsIn Ss) → walked Ss t n w .count ≡ w .count + n
-  unfolding walked lookup
-  walked-count t zero w h = omega arith
-  walked-count t (suc n) w h =
-      let c : lookupAt Ss (w .count) (t (w .count)) w .count ≡ suc (w .count) = count-at Ss (w .count) (t (w .count)) w (omega arith) in
-      walked-count t n (lookupAt Ss (w .count) (t (w .count)) w) (omega arith) ∙ omega arith
-
   -- ---- one walk after another
   pub walked-add : (t : ℕ → List ℕ) (a b : ℕ) (w : Walk) → walked Ss t (a + b) w ≡ walked Ss t b (walked Ss t a w)
   unfolding walked

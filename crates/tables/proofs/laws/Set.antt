@@ -1,8 +1,7 @@
 -- Laws, not definitions: a table by its number, and where it stands in the set.
 -- Assumes nothing.
-use mathlib.Core.Path.{_≡_, refl, sym, subst}
-use Prim.Native.Nat.{ℕ, suc, _+_, _-_, _%_, _≤_, _<_}
-use native.Mathlib.Decide.{decLt}
+use mathlib.Core.Path.{_≡_, refl}
+use Prim.Native.Nat.{ℕ, suc, _+_, _-_, _≤_, _<_}
 use native.Mathlib.Omega.{arith}
 use Rattle.layers.specs.Layers.{roundOf}
 use Rattle.network.specs.Order.{layerLookups}
@@ -11,7 +10,7 @@ use Rattle.network.specs.Stages.{stageOf, indexOf, widthOf, firstLookup, lookup
 use Rattle.network.specs.Tables.{tableIn}
 use Rattle.network.specs.declared.stage.Stage.{Stage}
 use Rattle.network.proofs.laws.Instance.{next-offset, offset-within}
-use Rattle.network.proofs.laws.Ranges.{stage-entry, stage-first, stage-second, stage-exit, lookups-are, by-stage}
+use Rattle.network.proofs.laws.Ranges.{by-range, lookups-are, by-stage}
 use Rattle.network.proofs.laws.Stages.{lookups-16, lookups-4}
 use Rattle.whitebox.specs.Codings.{Codings}
 use Rattle.whitebox.specs.Parts.{Parts}
@@ -22,16 +21,12 @@ abbrev pub In : ℕ → Stage → Type 0
 In k s = (1 ≤ roundOf s) × (roundOf s ≤ 9) × (k - firstLookup 10 s < layerLookups (widthOf s))
 
 pub in-stage : (k : ℕ) → k < 3008 → In k (stageOf 10 k)
-in-stage k h = elim (decLt k 496) [
-  | yes a ↦ subst (In k) (sym (stage-entry 10 k a)) (omega arith, omega arith, omega (arith, lookups-16))
-  | no a ↦ elim (decLt k 2512) [
-    | no b ↦ subst (In k) (sym (stage-exit 10 k (omega arith) h)) (omega arith, omega arith, omega (arith, lookups-16))
-    | yes b ↦ elim (decLt ((k - 496) % 224) 112) [
-      | yes d ↦ subst (In k) (sym (stage-first 10 k (omega arith) b d)) (omega arith, omega arith, omega (arith, lookups-4))
-      | no d ↦ subst (In k) (sym (stage-second 10 k (omega arith) b (omega arith))) (omega arith, omega arith, omega (arith, lookups-4))
-    ]
-  ]
-]
+in-stage k h =
+    by-range 10 k h (In k)
+    (λ a. (omega arith, omega arith, omega (arith, lookups-16)))
+    (λ r lo hi a b. (lo, omega arith, omega (arith, lookups-4)))
+    (λ r lo hi a b. (lo, omega arith, omega (arith, lookups-4)))
+    (λ a. (omega arith, omega arith, omega (arith, lookups-16)))
 
 in-set : (k : ℕ) → k < 3008 → k < lookups 10
 in-set k h = omega (arith, lookups-are 10)

@@ -15,7 +15,7 @@ use Rattle.round.specs.Key.{keyOf}
 use Rattle.round.specs.State.{state, entry, mixRows, mixBy, SubBytes, ShiftRows, MixColumns, AddRoundKey}
 use Rattle.round.proofs.laws.Key.{key-bytes}
 use Rattle.round.proofs.laws.State.{place}
-use Rattle.bits.specs.Bytes.{Bytes, Block}
+use Rattle.bits.specs.Bytes.{Bytes}
 use Rattle.bits.specs.Lists.{at, tabulate}
 use Rattle.bits.proofs.laws.Checked as checked
 use Rattle.bits.proofs.laws.XorAll.{xorAll-lt, xorAll-same}
@@ -50,11 +50,6 @@ module _ (P : Parts) (fine : Fine P) where
   unfolding stateAfter
   state-bytes b h zero = h
   state-bytes b h (suc r) = mixed-bytes (keyed P (suc r) (stateAfter P b r))
-
-  pub result-block : (nr : ℕ) (b : List ℕ) → Bytes b → Block (result P nr b)
-  unfolding result
-  result-block nr b h =
-      record { long = (unfold keyed in length-tabulate 16 _); bytes = keyed-bytes nr (stateAfter P b (nr - 1)) (state-bytes b h (nr - 1)) }
 
 -- ---- the forward parts
 mix-bytes : Bytes mixRows
