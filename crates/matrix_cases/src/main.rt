@@ -20,19 +20,21 @@ fn show(b: &[u8]) {
     io::write_all(STDOUT_FILENO, b"\n");
 }
 
-// The product and the inverse of a matrix that is given by its bytes; `line` and `bytes` are room for them.
-fn answer(s: &[u8], v: &[u8], line: &mut [u8], bytes: &mut [u8], w: usize)
-    requires { ⌜ (w ≤ 16) × (length (now s) ≡ 8 * w * w) × (length (now v) ≡ w) × (length (now line) ≡ w) × (length (now bytes) ≡ 8 * w * w) ⌝ }
+// Reads a matrix of 8 w rows into `m` and a vector into `v`, and writes their product and the matrix's inverse, each from the same room.
+fn answer(m: &mut [u8], v: &mut [u8], w: usize)
+    requires { ⌜ (w ≤ 16) × (length (now m) ≡ 8 * w * w) × (length (now v) ≡ w) ⌝ }
 {
-    let mut m = [0u64; 256];
+    let mut rows = [0u64; 256];
     let mut inverse = [0u64; 256];
-    matrix::read(s, &mut m, w);
-    let p = matrix::multiply(&m, 8 * w, vector::read(v, 0, w));
-    vector::write(p, line);
-    show(line);
-    if inversion::invert(&m, &mut inverse, 8 * w) {
-        matrix::write(&inverse, bytes, w);
-        show(bytes);
+    io::read_full(0, m);
+    io::read_full(0, v);
+    matrix::read(m, &mut rows, w);
+    let p = matrix::multiply(&rows, 8 * w, vector::read(v, 0, w));
+    vector::write(p, v);
+    show(v);
+    if inversion::invert(&rows, &mut inverse, 8 * w) {
+        matrix::write(&inverse, m, w);
+        show(m);
         return;
     }
     io::write_all(STDOUT_FILENO, b"singular\n");
@@ -41,31 +43,19 @@ fn answer(s: &[u8], v: &[u8], line: &mut [u8], bytes: &mut [u8], w: usize)
 fn byte_matrix() {
     let mut m = [0u8; 8];
     let mut v = [0u8; 1];
-    let mut line = [0u8; 1];
-    let mut bytes = [0u8; 8];
-    io::read_full(0, &mut m);
-    io::read_full(0, &mut v);
-    answer(&m, &v, &mut line, &mut bytes, 1);
+    answer(&mut m, &mut v, 1);
 }
 
 fn column_matrix() {
     let mut m = [0u8; 128];
     let mut v = [0u8; 4];
-    let mut line = [0u8; 4];
-    let mut bytes = [0u8; 128];
-    io::read_full(0, &mut m);
-    io::read_full(0, &mut v);
-    answer(&m, &v, &mut line, &mut bytes, 4);
+    answer(&mut m, &mut v, 4);
 }
 
 fn block_matrix() {
     let mut m = [0u8; 2048];
     let mut v = [0u8; 16];
-    let mut line = [0u8; 16];
-    let mut bytes = [0u8; 2048];
-    io::read_full(0, &mut m);
-    io::read_full(0, &mut v);
-    answer(&m, &v, &mut line, &mut bytes, 16);
+    answer(&mut m, &mut v, 16);
 }
 
 fn main() {
