@@ -1,5 +1,5 @@
 -- The cipher's state from its parts. For the forward parts it is FIPS 197's, read off between the rounds: behind MixColumns, before the
--- round key is added (Theorems.antt). Definitions only.
+-- round key is added (Ciphers.antt). Definitions only.
 use mathlib.Core.List.{List}
 use Prim.Native.Nat.{ℕ, zero, suc, _+_, _-_, _*_, _/_, _%_}
 use lib.Bits.{bitXor}
