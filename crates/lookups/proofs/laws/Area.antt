@@ -10,6 +10,7 @@ use lib.ListN.{length, getD, set, drop, replicate, length-drop}
 use lib.Seq.{getD-drop, getD-set-same, getD-set-other, set-set, paste, paste-suc}
 use Rattle.bits.specs.Lists.{at, tabulate}
 use Rattle.bits.specs.Nibbles.{pack, nibble, setNibble}
+use Rattle.bits.proofs.laws.Nibbles.{nibble-even, nibble-odd}
 use Rattle.lookups.specs.InPlace.{xorByte}
 
 -- One turn of a copy of t, from `from` on, to place `to` of d.
@@ -38,21 +39,7 @@ pub sum-4 : (m q : ℕ) → (m ≡ 4) ⊎ (m ≡ 16) → (m ≡ 16 → ⊥) → 
 sum-4 m q k n h =
     ⊎-elim (λ e. subst (λ (m : ℕ). SumAt m q (q / 4 * 16 + q % 4)) (sym e) (omega arith, omega arith)) (λ e. absurd (n e)) k
 
--- ---- the nibbles of byte i
-nibble-high : (l : List ℕ) (i : ℕ) → nibble l (2 * i) ≡ at l i / 16
-unfolding nibble
-nibble-high l i =
-    let e : 2 * i % 2 ≡ 0 = omega arith in
-    let f : 2 * i / 2 ≡ i = omega arith in
-    rw (e, f)
-
-nibble-low : (l : List ℕ) (i : ℕ) → nibble l (2 * i + 1) ≡ at l i % 16
-unfolding nibble
-nibble-low l i =
-    let e : (2 * i + 1) % 2 ≡ 1 = omega arith in
-    let f : (2 * i + 1) / 2 ≡ i = omega arith in
-    rw (e, f)
-
+-- ---- one nibble of byte i replaced
 set-high : (l : List ℕ) (i v : ℕ) → setNibble l (2 * i) v ≡ set l i (pack v (at l i % 16))
 unfolding setNibble
 set-high l i v =
@@ -77,7 +64,7 @@ module _ (high low a : List ℕ) (s d : ℕ) (h : s < length a) (n : d ≡ s →
 
   high-done : setNibble a (2 * s) (nibble high (pack (nibble a (2 * s)) (nibble a (2 * d)))) ≡ b
   unfolding v b
-  high-done = rw (nibble-high a s, nibble-high a d) (set-high a s v)
+  high-done = rw (nibble-even a s, nibble-even a d) (set-high a s v)
 
   sum-now : at b s ≡ pack v (at a s % 16)
   unfolding b
@@ -93,7 +80,7 @@ module _ (high low a : List ℕ) (s d : ℕ) (h : s < length a) (n : d ≡ s →
       let w : ℕ = nibble low (pack (at a s % 16) (at a d % 16)) in
       let e : pack v (at a s % 16) / 16 ≡ v = omega arith in
       let f : pack v (at a s % 16) % 16 ≡ at a s % 16 = omega arith in
-      rw (nibble-low b s, nibble-low b d, sum-now, added-now, f)
+      rw (nibble-odd b s, nibble-odd b d, sum-now, added-now, f)
       (set-low b s w ∙ rw (sum-now, e) (unfold v b in set-set a s (pack v (at a s % 16)) (pack v w)))
 
   pub xor-both : (c : List ℕ) → c ≡ setNibble a (2 * s) (nibble high (pack (nibble a (2 * s)) (nibble a (2 * d))))
