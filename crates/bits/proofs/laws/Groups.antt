@@ -1,6 +1,6 @@
 -- Laws, not definitions: numbers as n groups of k bits, over any k and n.
 -- Assumes nothing.
-use mathlib.Core.Bool.{Bool, true, false, cond}
+use mathlib.Core.Bool.{cond}
 use mathlib.Core.Logic.{_⊎_, inl, inr, ⊎-elim}
 use mathlib.Core.Path.{_≡_, refl, sym, ap, ap₂, _∙_, subst}
 use Prim.Native.Nat.{ℕ, zero, suc, _+_, _-_, _*_, _/_, _%_, _^_, _<_}
@@ -14,6 +14,7 @@ use lib.Dec.{eqb}
 use lib.Pow.{pow-pos, pow-add, shr-shr, shr-lt, high, low, split}
 use Rattle.bits.specs.Groups.{joined, group, xorAll}
 use Rattle.bits.proofs.laws.XorAll.{xorAll-lt, xorAll-one}
+use Rattle.bits.proofs.laws.Xor.{cond-lt}
 
 pub below-suc : {i n : ℕ} → i < suc n → (i < n) ⊎ (i ≡ n)
 below-suc {i} {n} h = elim (decLt i n) [ yes p ↦ inl p | no q ↦ inr (omega arith) ]
@@ -116,10 +117,6 @@ joined-xorAll k n zero f b = joined-zero k n _ (λ i h. refl)
 joined-xorAll k n (suc m) f b =
     joined-xor k n (λ i. xorAll m (f i)) (λ i. f i m) (λ i h. xorAll-lt k m (f i) (λ j l. b i j h (omega arith))) (λ i h. b i m h (omega arith))
     ∙ ap (λ (x : ℕ). bitXor x (joined k n (λ i. f i m))) (joined-xorAll k n m f (λ i j h l. b i j h (omega arith)))
-
-cond-lt : (b : Bool) (x y : ℕ) → 0 < y → x < y → cond b x 0 < y
-cond-lt true x y p h = h
-cond-lt false x y p h = p
 
 -- n groups are the xor of them, each placed alone.
 pub xor-placed : (k n : ℕ) (f : ℕ → ℕ) → ((i : ℕ) → i < n → f i < 2 ^ k)

@@ -8,6 +8,7 @@ use native.Mathlib.Omega.{arith}
 use lib.Arith.{bin-ind, lt-one}
 use lib.Bits.{bitAnd, bitXor, and-step, xor-add-and, xor-shr, and-shr, xor-self, xor-zero-r, xor-shifted, xor-comm, and-le-l, and-le-r}
 use lib.Count.{ones, ones-step}
+use mathlib.Core.Bool.{Bool, true, false, cond}
 
 -- A number below 2 is 0 or 1.
 pub two {ℓ} : (P : ℕ → Type ℓ) → P 0 → P 1 → (x : ℕ) → x < 2 → P x
@@ -123,3 +124,12 @@ agree f g lf lg k b x h =
     xor-zero-eq (f x) (g x)
     (null (λ y. bitXor (f y) (g y)) (λ y z. ap₂ bitXor (lf y z) (lg y z) ∙ xor-four (f y) (f z) (g y) (g z)) k
     (λ j p. ap (λ (z : ℕ). bitXor z (g (2 ^ j))) (b j p) ∙ xor-self (g (2 ^ j))) x h)
+
+-- ---- a number by a test, or 0
+pub cond-lt : (b : Bool) (x y : ℕ) → 0 < y → x < y → cond b x 0 < y
+cond-lt true x y p h = h
+cond-lt false x y p h = p
+
+pub cond-xor : (b : Bool) (x y : ℕ) → cond b (bitXor x y) 0 ≡ bitXor (cond b x 0) (cond b y 0)
+cond-xor true x y = refl
+cond-xor false x y = refl

@@ -9,7 +9,7 @@ use lib.Dec.{T, eqb, ltb, eqb→eq, lit<}
 use lib.Bits.{bitXor, xor-lt, xor-zero-r, xor-self, xor-mod, xor-shr, xor-block}
 use borrow.Author.Tests.{ltb-true, ltb-false}
 use Rattle.bits.proofs.laws.Checked.{all, all-at}
-use Rattle.bits.proofs.laws.Xor.{two, odd-lt, xor-odd, xor-half, xor-four}
+use Rattle.bits.proofs.laws.Xor.{two, odd-lt, xor-odd, xor-half, xor-four, cond-xor}
 use Rattle.field.specs.Field.{xtime, times, mul}
 use Rattle.field.specs.Theorems.{Closed, Commutative, Associative, OneNeutral, Distributive}
 use Rattle.field.proofs.laws.OnBytes.{OnBytes, same}
@@ -105,15 +105,11 @@ xtime-xor a b ha hb =
     ∙ sym (ap₂ bitXor (xtime-is a ha) (xtime-is b hb))
 
 -- ---- The product is linear on the left.
-bit-xor : (c : Bool) (a b : ℕ) → cond c (bitXor a b) 0 ≡ bitXor (cond c a 0) (cond c b 0)
-bit-xor true a b = refl
-bit-xor false a b = refl
-
 times-left : (k a b x : ℕ) → a < 256 → b < 256 → times k (bitXor a b) x ≡ bitXor (times k a x) (times k b x)
 unfolding times
 times-left zero a b x ha hb = refl
 times-left (suc k) a b x ha hb =
-    ap₂ bitXor (bit-xor (eqb (x % 2) 1) a b)
+    ap₂ bitXor (cond-xor (eqb (x % 2) 1) a b)
     (ap (λ (z : ℕ). times k z (x / 2)) (xtime-xor a b ha hb) ∙ times-left k (xtime a) (xtime b) (x / 2) (xtime-lt a ha) (xtime-lt b hb))
     ∙ xor-four (cond (eqb (x % 2) 1) a 0) (cond (eqb (x % 2) 1) b 0) (times k (xtime a) (x / 2)) (times k (xtime b) (x / 2))
 

@@ -13,7 +13,7 @@ use lib.Bits.{bitXor, xor-lt}
 use lib.Dec.{eqb}
 use lib.ListN.{length, take, drop, set, replicate, length-append, length-replicate, getD-replicate}
 use lib.Pow.{pow-lt}
-use lib.Seq.{getD-take, getD-drop, getD-set-same, getD-set-other, take-at, drop-at, length-take-le}
+use lib.Seq.{getD-take, getD-set-same, getD-set-other, take-at, drop-at, length-take-le}
 use Rattle.round.specs.Key.{keyOf}
 use Rattle.bits.specs.Bytes.{Bytes, number, placed}
 use Rattle.inversion.specs.Elimination.{Inversion, inverse, singular, invert, rowsIn, inverseOf, hasInverse, withInverse}
@@ -41,6 +41,7 @@ use Rattle.network.specs.Stages.{shifted, afterRound}
 use Rattle.whitebox.specs.Bundles.{codingsOf}
 use Rattle.whitebox.specs.Parts.{forward}
 use Rattle.whitebox.specs.Words.{substituted}
+use Rattle.round.proofs.laws.Key.{key-at}
 
 -- ---- inverses
 inverse-stored : (n : ℕ) (m b b′ : List ℕ) → RowsFit n (at m) → 2 * n ≤ length b → (r : Inversion) → invert n m ≡ r → hasInverse r ≡ true
@@ -188,10 +189,6 @@ pub after-later : (r q : ℕ) → 2 ≤ r → sumNumber 4 (1248 + 448 * (r - 2))
 after-later r q h = let e : suc (r - 2) ≡ r - 1 = omega arith in ap (λ (k : ℕ). afterRound k q) e
 
 -- ---- keys
-pub key-at : (w : List ℕ) (r p : ℕ) → p < 16 → at (keyOf w r) p ≡ at w (16 * r + p)
-unfolding keyOf
-key-at w r p h = getD-take 16 (drop (16 * r) w) p 0 h ∙ getD-drop (16 * r) w p 0
-
 -- The byte behind the S-box, from the rows of the inverse and the two key bytes.
 pub behind-is : (l keys m : List ℕ) (r p j before behind : ℕ) → 1 ≤ r → r ≤ 10 → j ≡ shifted p → j < 16
     → m ≡ inverseOf 8 (byteMatrix 10 l (16 * (r - 1) + j)) → before ≡ at keys (16 * (r - 1) + j) → behind ≡ cond (eqb r 10) (at (keyOf keys 10) p) 0

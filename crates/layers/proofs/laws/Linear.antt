@@ -2,10 +2,9 @@
 -- Assumes nothing.
 use mathlib.Core.Bool.{Bool, true, false, cond}
 use mathlib.Core.List.{List}
-use mathlib.Core.Path.{_≡_, refl, ap, _∙_}
+use mathlib.Core.Path.{_≡_, ap, _∙_}
 use Prim.Native.Nat.{ℕ, _-_, _*_, _/_, _%_, _^_, _<_}
 use native.Mathlib.Omega.{arith}
-use lib.Bits.{bitXor}
 use lib.Dec.{eqb, eqb→eq}
 use Rattle.bits.specs.Bytes.{number, byte, placed}
 use Rattle.bits.specs.Lists.{at}
@@ -13,7 +12,7 @@ use Rattle.matrices.specs.Matrices.{product}
 use Rattle.bits.proofs.laws.Checked.{all, all-at}
 use Rattle.bits.proofs.laws.Groups.{joined-same, joined-xor, group-xor}
 use Rattle.matrices.proofs.laws.Matrices.{product-lt, product-xor}
-use Rattle.bits.proofs.laws.Xor.{Linear}
+use Rattle.bits.proofs.laws.Xor.{Linear, cond-xor, cond-lt}
 use Rattle.bits.proofs.laws.XorAll.{xorAll-same, xorAll-one}
 use Rattle.entries.specs.Spread.{combined}
 use Rattle.entries.proofs.laws.Combined.{combined-linear}
@@ -42,19 +41,11 @@ pub by-powers : (W f : ℕ → ℕ) → OnBytes W → ((j : ℕ) → j < 8 → f
 by-powers W f lin e = same (combined f) W (λ x y h k. combined-linear f x y) lin (λ j h. combined-power f j h ∙ e j h)
 
 -- ---- the three forms of a word
-cond-xor : (b : Bool) (x y : ℕ) → cond b (bitXor x y) 0 ≡ bitXor (cond b x 0) (cond b y 0)
-cond-xor true x y = refl
-cond-xor false x y = refl
-
-cond-lt : (b : Bool) (x : ℕ) → x < 256 → cond b x 0 < 256
-cond-lt true x h = h
-cond-lt false x h = omega arith
-
 pub placed-xor : (n i : ℕ) → OnBytes (placed n i)
 unfolding placed
 placed-xor n i x y h k =
     joined-same 8 n _ _ (λ j g. cond-xor (eqb j i) x y)
-    ∙ joined-xor 8 n (λ j. cond (eqb j i) x 0) (λ j. cond (eqb j i) y 0) (λ j g. cond-lt (eqb j i) x h) (λ j g. cond-lt (eqb j i) y k)
+    ∙ joined-xor 8 n (λ j. cond (eqb j i) x 0) (λ j. cond (eqb j i) y 0) (λ j g. cond-lt (eqb j i) x 256 (omega arith) h) (λ j g. cond-lt (eqb j i) y 256 (omega arith) k)
 
 -- A linear map of n bytes, then each byte by a matrix.
 bytes-xor : (n : ℕ) (B : ℕ → List ℕ) → Linear (λ v. number n (λ j. product 8 (B j) (byte n j v)))

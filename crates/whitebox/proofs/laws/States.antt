@@ -1,6 +1,5 @@
 -- Laws, not definitions: the cipher's states are bytes, and the forward parts give FIPS 197's cipher.
 -- Assumes nothing.
-use mathlib.Core.Bool.{Bool, true, false, cond}
 use mathlib.Core.List.{List}
 use mathlib.Core.Path.{_≡_, refl, sym, ap, _∙_}
 use Prim.Native.Nat.{ℕ, zero, suc, _+_, _-_, _*_, _/_, _%_, _<_}
@@ -28,6 +27,7 @@ use Rattle.network.specs.Stages.{shifted}
 use Rattle.whitebox.specs.Ciphers.{ForwardCipher, ForwardRounds, ForwardFine}
 use Rattle.whitebox.specs.Parts.{Parts, Fine, forward}
 use Rattle.whitebox.specs.States.{keyed, mixed, stateAfter, result}
+use Rattle.bits.proofs.laws.Xor.{cond-lt}
 
 -- ---- states are bytes
 module _ (P : Parts) (fine : Fine P) where
@@ -58,10 +58,6 @@ mix-bytes i = elim (decLt i 16) [
   | no h ↦ rw (at-past mixRows i (unfold mixRows in omega arith)) (lit< tt)
 ]
 
-cond-lt : (t : Bool) (x : ℕ) → x < 256 → cond t x 0 < 256
-cond-lt true x h = h
-cond-lt false x h = lit< tt
-
 pub forward-fine : ForwardFine
 unfolding forward shifted
 forward-fine nr w h =
@@ -70,7 +66,7 @@ forward-fine nr w h =
       reads-lt = λ p b. omega arith;
       coefficient-lt = λ t q. mix-bytes (4 * t + q);
       before-lt = λ r j. key-bytes w h (r - 1) j;
-      behind-lt = λ r p. cond-lt (eqb r nr) (at (keyOf w nr) p) (key-bytes w h nr p);
+      behind-lt = λ r p. cond-lt (eqb r nr) (at (keyOf w nr) p) 256 (lit< tt) (key-bytes w h nr p);
     }
 
 at-state : (f : ℕ → ℕ → ℕ) (i : ℕ) → i < 16 → at (state f) i ≡ f (i % 4) (i / 4)

@@ -1,7 +1,7 @@
 -- `layers::values::key_behind` meets its contract. Assumes nothing.
 use mathlib.Core.Path.{refl, sym}
 use borrow.Author.Tests.{eq-eqb, ne-eqb}
-use Rattle.layers.proofs.laws.Code.{key-at}
+use Rattle.round.proofs.laws.Key.{key-at}
 use native.Mathlib.Omega.{arith}
 use borrow.Author.Needs.{needs}
 use Rattle.layers.proofs.values.key_behind.Statement.{statement}
