@@ -1,5 +1,6 @@
 pub mod Lists
 pub mod Filled
+pub mod Multiples
 pub mod Xor
 pub mod Checked
 pub mod XorAll

@@ -29,16 +29,6 @@ pub record Framed (nr : ℕ) (l : List ℕ) : Type 0 where
   pub range : InRange nr l
   pub pairs : (i : ℕ) → i < 5 → PairRight nr l i
 
--- ---- a count of numbers
--- All numbers below a count are good; and n is the first that is not.
-abbrev pub All : ℕ → (ℕ → Type 0) → Type 0
-All count Good = (i : ℕ) → i < count → Good i
-
-pub record FirstBad (count : ℕ) (Good : ℕ → Type 0) (n : ℕ) : Type 0 where
-  pub below : n < count
-  pub before : All n Good
-  pub here : Good n → ⊥
-
 -- ---- sections
 -- Sections stand behind the pairs and in order: none overlaps another.
 abbrev pub Apart : Type 0

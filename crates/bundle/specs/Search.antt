@@ -1,6 +1,6 @@
--- The first number that a test picks, looking forward. Definitions only.
+-- The first number that a test picks, looking forward, and what it is without the search. Definitions only.
 use mathlib.Core.Bool.{Bool, true, false}
-use Prim.Native.Nat.{ℕ, zero, suc}
+use Prim.Native.Nat.{ℕ, zero, suc, _<_}
 use Rattle.bundle.specs.declared.answer.Found.{Found}
 use Rattle.bundle.specs.declared.answer.Found.the-variants.{At, Nothing}
 
@@ -16,3 +16,12 @@ firstFrom (suc k) n p = let r = firstFrom k (suc n) p in pick (p n) (At n) r
 -- The first number below a count that p picks.
 unfoldable pub first : ℕ → (ℕ → Bool) → Found
 first count p = firstFrom count 0 p
+
+-- All numbers below a count are good; and n is the first that is not.
+abbrev pub All : ℕ → (ℕ → Type 0) → Type 0
+All count Good = (i : ℕ) → i < count → Good i
+
+pub record FirstBad (count : ℕ) (Good : ℕ → Type 0) (n : ℕ) : Type 0 where
+  pub below : n < count
+  pub before : All n Good
+  pub here : Good n → ⊥

@@ -4,10 +4,10 @@ use mathlib.Core.List.{List}
 use mathlib.Core.Path.{_≡_}
 use Prim.Native.Nat.{ℕ, _+_, _-_}
 use Rattle.bits.specs.Bytes.{Block, numberOf, bytesOf}
-use Rattle.inversion.specs.Elimination.{inverseOf}
 use Rattle.bits.specs.Encodings.{encode, decode}
-use Rattle.matrices.specs.Matrices.{product}
 use Rattle.bits.specs.Nibbles.{nibble, packed}
+use Rattle.matrices.specs.Matrices.{product}
+use Rattle.inversion.specs.Elimination.{inverseOf}
 use Rattle.bundle.specs.Format.{encodings, encodingOf, inputMatrix, outputMatrix}
 
 -- ---- encodings on the 32 nibbles (half-bytes) of a block, and off them: nibble q has encoding first + q, and E n is encoding n

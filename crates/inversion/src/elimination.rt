@@ -3,10 +3,10 @@
 ghost use mathlib.Core.Path.{_≡_};
 ghost use Prim.Native.Nat.{_+_, _-_, _*_, _<_, _≤_};
 ghost use lib.ListN.{length};
-ghost use Rattle.inversion.specs.Elimination.{addRow, pivotBy, clearBy, pivotFrom, columns};
 ghost use Rattle.bits.specs.Lists.{tabulate};
 ghost use Rattle.matrices.specs.Matrices.{identity};
 ghost use Rattle.matrices.specs.Rows.{rowsOf, stored};
+ghost use Rattle.inversion.specs.Elimination.{addRow, pivotBy, clearBy, pivotFrom, columns};
 ghost use Rattle.inversion.specs.Work.{leftAt, rightAt, lefts, rights, addedTo, ended};
 use bits::vector;
 use matrices::matrix::row;

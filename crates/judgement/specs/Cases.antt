@@ -7,12 +7,12 @@ use Rattle.bits.specs.Bytes.{Bytes}
 use Rattle.bits.specs.Encodings.{encode}
 use Rattle.bits.specs.Lists.{at}
 use Rattle.bundle.specs.Format.{encodingOf, byteMatrix}
-use Rattle.judgement.specs.Judge.{judge}
 use Rattle.bundle.specs.Frames.{Framed}
-use Rattle.judgement.specs.Judgements.{GoodEncodings, GoodByteMatrix, GoodColumnMatrices, GoodInputMatrix, GoodOutputMatrix}
 use Rattle.bundle.specs.Refusals.{causeOf, secondOf}
 use Rattle.bundle.specs.declared.answer.Judgement.the-variants.{Refused}
 use Rattle.bundle.specs.declared.answer.Refusal.{Refusal}
+use Rattle.judgement.specs.Judge.{judge}
+use Rattle.judgement.specs.Judgements.{GoodEncodings, GoodByteMatrix, GoodColumnMatrices, GoodInputMatrix, GoodOutputMatrix}
 
 -- A bundle is refused with document 01's two numbers.
 pub record RefusedWith (l : List ℕ) (cause second : ℕ) : Type 0 where

@@ -7,13 +7,14 @@ use Rattle.bits.specs.Bytes.{Bytes}
 use Rattle.bits.specs.Encodings.{Permutation}
 use Rattle.matrices.specs.Matrices.{Invertible}
 use Rattle.bundle.specs.Format.{encodings, byteMatrices, columnMatrices, partCount, partSize, offset, PairRight, partAt, encodingOf, byteMatrix, columnMatrix, inputMatrix, outputMatrix}
-use Rattle.bundle.specs.Frames.{InRange, Framed, All, FirstBad}
-use Rattle.judgement.specs.Judge.{judge}
+use Rattle.bundle.specs.Frames.{InRange, Framed}
+use Rattle.bundle.specs.Search.{All, FirstBad}
 use Rattle.bundle.specs.Refusals.{causeOf}
 use Rattle.bundle.specs.declared.answer.Judgement.{Judgement}
 use Rattle.bundle.specs.declared.answer.Judgement.the-variants.{Accepted, Refused}
 use Rattle.bundle.specs.declared.answer.Refusal.{Refusal}
 use Rattle.bundle.specs.declared.answer.Refusal.the-variants.{Length, Pair, Encoding, ByteMatrix, ColumnMatrix, InputMatrix, OutputMatrix}
+use Rattle.judgement.specs.Judge.{judge}
 
 -- ---- what each cause asks; for causes 2 and 3 see Frames.antt of crate bundle
 -- Cause 4: list n is a permutation. Causes 5 to 7: some map undoes the product by the matrix.

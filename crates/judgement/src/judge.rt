@@ -2,9 +2,9 @@
 ghost use mathlib.Core.Path.{_≡_};
 ghost use Prim.Native.Nat.{_*_, _<_, _≤_};
 ghost use Rattle.bundle.specs.Format.{partCount, partSize, partAt, frame};
-ghost use Rattle.judgement.specs.Judge.{noInverse, judgeEncodings, judgeMatrices, judge};
 ghost use Rattle.bundle.specs.Search.{first};
 ghost use Rattle.bundle.specs.declared.answer.Judgement.the-variants.{Accepted};
+ghost use Rattle.judgement.specs.Judge.{noInverse, judgeEncodings, judgeMatrices, judge};
 use crate::search;
 use bundle::answer::Found;
 use bundle::answer::Judgement;

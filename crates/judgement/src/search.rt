@@ -7,8 +7,8 @@ ghost use lib.Dec.{eqb};
 ghost use lib.ListN.{length};
 ghost use Rattle.bits.specs.Vectors.{bit, unit};
 ghost use Rattle.bundle.specs.Format.{partOf, tenEncodings};
-ghost use Rattle.judgement.specs.Judge.{noPermutation, noInverse};
 ghost use Rattle.bundle.specs.Search.{first};
+ghost use Rattle.judgement.specs.Judge.{noPermutation, noInverse};
 use bundle::answer::Found;
 use matrices::matrix;
 

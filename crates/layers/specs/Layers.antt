@@ -4,13 +4,13 @@ use mathlib.Core.Path.{_≡_}
 use Prim.Native.Nat.{ℕ, _+_, _-_, _*_, _/_, _%_, _≤_, _<_}
 use lib.ListN.{length, take, drop}
 use Rattle.bits.specs.Bytes.{numberOf}
-use Rattle.inversion.specs.Elimination.{inverseOf}
 use Rattle.bits.specs.Encodings.{decode}
 use Rattle.bits.specs.Nibbles.{pack}
 use Rattle.matrices.specs.Rows.{rowsOf}
+use Rattle.inversion.specs.Elimination.{inverseOf}
 use Rattle.bundle.specs.Format.{encodingOf, columnMatrix, inputMatrix}
-use Rattle.judgement.specs.Judge.{judge}
 use Rattle.bundle.specs.declared.answer.Judgement.the-variants.{Accepted}
+use Rattle.judgement.specs.Judge.{judge}
 use Rattle.network.specs.Stages.{widthOf, shifted, sourceOf, standingNumber}
 use Rattle.network.specs.declared.stage.Stage.{Stage}
 use Rattle.network.specs.declared.stage.Stage.the-variants.{Entry, First, Second, Exit, Beyond}

@@ -2,20 +2,19 @@
 ghost use mathlib.Core.Path.{_≡_};
 ghost use Prim.Native.Nat.{_+_, _*_, _^_, _<_, _≤_};
 ghost use lib.ListN.{length};
-ghost use Rattle.round.specs.State.{mixRows, entry};
 ghost use Rattle.bits.specs.Bytes.{number, byte, placed};
-ghost use Rattle.matrices.specs.Matrices.{product, matrixOf};
 ghost use Rattle.bits.specs.Words.{value};
+ghost use Rattle.matrices.specs.Matrices.{product, matrixOf};
 ghost use Rattle.matrices.specs.Rows.{rowsOf, stored};
+ghost use Rattle.field.specs.Field.{mul};
+ghost use Rattle.round.specs.State.{mixRows, entry};
 ghost use Rattle.bundle.specs.Format.{byteMatrix, frame, partOf};
 ghost use Rattle.bundle.specs.declared.answer.Judgement.the-variants.{Accepted};
-ghost use Rattle.field.specs.Field.{mul};
 use bits::vector;
 use bits::vector::Vector;
 use bundle::sections;
 use matrices::matrix;
-
-const MIX: [u8; 16] = [2, 3, 1, 1, 1, 2, 3, 1, 1, 1, 2, 3, 3, 1, 1, 2];
+use round::state::MIX;
 
 // Row t, column q of MixColumns.
 fn coefficient(t: usize, q: usize) -> u8

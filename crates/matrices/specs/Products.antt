@@ -6,9 +6,9 @@ use Prim.Native.Nat.{ℕ, _*_, _^_, _<_}
 use lib.Bits.{bitXor}
 use Rattle.bits.specs.Bytes.{byte, placed}
 use Rattle.bits.specs.Groups.{xorAll}
-use Rattle.matrices.specs.Matrices.{product, identity}
 use Rattle.bits.specs.Vectors.{bit, dot}
 use Rattle.bits.specs.Lists.{at}
+use Rattle.matrices.specs.Matrices.{product, identity}
 
 -- Bit i of a product is the parity of row i and the vector, for each of the n rows; and a product is a vector of n bits.
 abbrev pub Bits : Type 0

@@ -7,7 +7,7 @@ ghost use Rattle.round.specs.State.{cell, state, entry, mixBy, SubBytes,
 ghost use Rattle.round.specs.Key.{keyOf};
 
 // The matrices of MixColumns and InvMixColumns, row after row.
-const MIX: [u8; 16] = [2, 3, 1, 1, 1, 2, 3, 1, 1, 1, 2, 3, 3, 1, 1, 2];
+pub const MIX: [u8; 16] = [2, 3, 1, 1, 1, 2, 3, 1, 1, 1, 2, 3, 3, 1, 1, 2];
 
 const INV_MIX: [u8; 16] = [14, 11, 13, 9, 9, 14, 11, 13, 13, 9, 14, 11, 11, 13, 9, 14];
 

@@ -4,9 +4,9 @@ use mathlib.Core.List.{List}
 use Prim.Native.Nat.{ℕ, suc, _+_, _-_, _*_, _/_, _%_}
 use lib.Bits.{bitXor}
 use Rattle.bits.specs.Bytes.{number, byte, bytesOf, placed}
-use Rattle.inversion.specs.Elimination.{inverseOf}
 use Rattle.bits.specs.Lists.{tabulate}
 use Rattle.matrices.specs.Matrices.{product}
+use Rattle.inversion.specs.Elimination.{inverseOf}
 use Rattle.field.specs.Field.{mul}
 use Rattle.whitebox.specs.Codings.{Codings, byteMatrixAt, columnMatrixAt}
 use Rattle.whitebox.specs.Parts.{Parts}

@@ -6,11 +6,11 @@ use Prim.Native.Nat.{ℕ, zero, suc, _-_}
 use Rattle.bits.specs.Bytes.{Bytes, Block}
 use Rattle.round.specs.State.{SubBytes, ShiftRows, MixColumns, AddRoundKey, InvSubBytes, InvShiftRows, InvMixColumns}
 use Rattle.round.specs.Key.{keyOf, KeyExpansion, roundsOf}
-use Rattle.aes.specs.Cipher.{rounds, Cipher, invRounds, InvCipher, encipherOf, decipherOf}
-use Rattle.aes.specs.Theorems.{CipherBlock, InvCipherBlock, InvCipherCipher, CipherInvCipher, DecipherEncipher, EncipherDecipher}
 use Rattle.round.proofs.laws.State.{sub-block, inv-sub-block, inv-sub, sub-inv, shift-block, inv-shift-block, inv-shift, shift-inv, add-block, add-back}
 use Rattle.round.proofs.laws.Mix.{mix-block, inv-mix-block, inv-mix, mix-inv}
 use Rattle.round.proofs.laws.Key.{key-bytes, round-key-bytes}
+use Rattle.aes.specs.Cipher.{rounds, Cipher, invRounds, InvCipher, encipherOf, decipherOf}
+use Rattle.aes.specs.Theorems.{CipherBlock, InvCipherBlock, InvCipherCipher, CipherInvCipher, DecipherEncipher, EncipherDecipher}
 
 -- The first two steps of a round, and what undoes them.
 first : List ℕ → List ℕ

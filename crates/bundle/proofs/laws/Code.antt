@@ -4,7 +4,7 @@ use mathlib.Core.Bool.{true, false, not}
 use mathlib.Core.List.{List, []}
 use mathlib.Core.Path.{_≡_, refl, sym, ap, _∙_}
 use Prim.Native.Nat.{ℕ, zero, suc, _+_, _-_, _*_, _/_, _≤_, _<_}
-use native.Mathlib.Nat.{mul-le-mul, mul-le-mul-right, suc-mul, zero-mul, mul-div-cancel}
+use native.Mathlib.Nat.{mul-le-mul-right, zero-mul}
 use native.Mathlib.Omega.{arith}
 use lib.ListN.{length, take, drop}
 use borrow.Author.Tests.{eq-eqb, ne-eqb, lt-ltb, le-ltb}
@@ -12,6 +12,7 @@ use Rattle.bits.specs.Bytes.{Bytes, number}
 use Rattle.bits.specs.Lists.{at}
 use Rattle.bits.specs.Words.{wide}
 use Rattle.bits.proofs.laws.Groups.{joined-lt}
+use Rattle.bits.proofs.laws.Multiples.{multiple-of}
 use Rattle.bundle.specs.Format.{partAt, partCount, partSize, sectionLength, shortest, longest, numberAt, offset, stated, endBefore, pairBad, lengthBad, frame, sectionOf, partOf}
 use Rattle.bundle.specs.Refusals.{unlessAt}
 use Rattle.bundle.specs.Search.{first}
@@ -23,18 +24,12 @@ use Rattle.bundle.proofs.laws.Frame.{right-good, range-good, section-is
 use Rattle.bundle.proofs.laws.Parts.{part-none, part-long}
 
 -- ---- sizes and numbers
-pub product-le : (a b c d : ℕ) → a ≤ c → b ≤ d → a * b ≤ c * d
-product-le a b c d h k = mul-le-mul h k
-
 -- The number of four bytes lies in the low word.
 pub low-word : (l : List ℕ) (a hi lo : ℕ) → Bytes l → wide hi lo ≡ number 4 (λ j. at l (a + j)) → (lo ≡ numberAt l a) × (lo < 4294967296)
 unfolding wide numberAt
 low-word l a hi lo b e =
     let n : number 4 (λ j. at l (a + j)) < 4294967296 = joined-lt 8 4 (λ j. at l (a + j)) (λ i h. b (a + i)) in
     (omega arith, omega arith)
-
-pub multiple-of : (count size x : ℕ) → 0 < size → x ≡ count * size → x / size * size ≡ x
-multiple-of count size x p e = rw e (ap (λ (y : ℕ). y * size) (mul-div-cancel count p))
 
 -- ---- pairs
 pub before-first : (l : List ℕ) (i : ℕ) → i ≡ 0 → 40 ≡ endBefore l i
@@ -94,12 +89,6 @@ module _ (nr : ℕ) (l : List ℕ) where
 
   pub multiple : (s : ℕ) → s < 5 → 0 < partSize s → length (sectionOf nr l s) / partSize s * partSize s ≡ length (sectionOf nr l s)
   multiple s h p = multiple-by s h p (frame nr l) refl
-
-pub inside : (size x n : ℕ) → x / size * size ≡ x → n < x / size → n * size + size ≤ x
-inside size x n e h =
-    let m : suc n * size ≤ x / size * size = mul-le-mul-right size h in
-    let k : suc n * size ≡ n * size + size = suc-mul n size in
-    omega arith
 
 pub past : (size : ℕ) (s : List ℕ) (n : ℕ) → length s / size * size ≡ length s → length s / size ≤ n → [] ≡ partOf size s n
 past size s n e h =

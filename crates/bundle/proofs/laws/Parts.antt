@@ -2,14 +2,15 @@
 -- Assumes nothing.
 use mathlib.Core.List.{List, []}
 use mathlib.Core.Path.{_≡_, refl, sym, ap, _∙_}
-use Prim.Native.Nat.{ℕ, suc, _+_, _-_, _*_, _≤_, _<_}
+use Prim.Native.Nat.{ℕ, _+_, _-_, _*_, _≤_, _<_}
 use native.Mathlib.Decide.{decLt}
-use native.Mathlib.Nat.{mul-le-mul-right, suc-mul}
+use native.Mathlib.Nat.{mul-le-mul-right}
 use native.Mathlib.Omega.{arith}
 use lib.ListN.{length, take, drop, length-take, length-drop, drop-of-length-le}
 use lib.Seq.{take-nil, drop-nil, drop-drop, ext-getD, getD-take, getD-drop}
 use Rattle.bits.specs.Bytes.{Bytes}
 use Rattle.bits.proofs.laws.Lists.{at-past}
+use Rattle.bits.proofs.laws.Multiples.{row-inside}
 use Rattle.bundle.specs.Format.{partCount, partSize, sectionLength, offset, frame, whenAccepted, sectionOf, partOf, partAt}
 use Rattle.bundle.specs.declared.answer.Judgement.{Judgement}
 use Rattle.bundle.specs.declared.answer.Judgement.the-variants.{Accepted, Refused}
@@ -34,13 +35,6 @@ take-inside size a m l h k =
     let q : i < size = omega (arith, length-take size (drop a (take m l))) in
     getD-take size (drop a (take m l)) i 0 q ∙ getD-drop a (take m l) i 0 ∙ getD-take m l (a + i) 0 (omega arith)
     ∙ sym (getD-take size (drop a l) i 0 q ∙ getD-drop a l i 0))
-
--- n parts of one size, and one more
-pub parts-within : (size n count x : ℕ) → n < count → count * size ≤ x → n * size + size ≤ x
-parts-within size n count x h e =
-    let m : suc n * size ≤ count * size = mul-le-mul-right size h in
-    let q : suc n * size ≡ n * size + size = suc-mul n size in
-    omega arith
 
 -- ---- parts of one size
 module _ (size : ℕ) (s : List ℕ) (n : ℕ) where
@@ -95,7 +89,7 @@ module _ (nr : ℕ) (l : List ℕ) (s n : ℕ) where
     module _ (f : frame nr l ≡ Accepted) (b : n < partCount nr s) where
       pub part-room : n * partSize s + partSize s ≤ sectionLength nr s
       unfolding sectionLength
-      part-room = parts-within (partSize s) n (partCount nr s) (partCount nr s * partSize s) b (omega arith)
+      part-room = row-inside n (partSize s) (partCount nr s) b
 
       pub part-here : partAt nr l s n ≡ take (partSize s) (drop (offset l s + n * partSize s) l)
       unfolding partAt partOf

@@ -6,8 +6,7 @@ use Prim.Native.Nat.{ℕ, zero, suc, _+_, _-_, _≤_, _<_}
 use native.Mathlib.Decide.{ℕ-discrete, decLt}
 use native.Mathlib.Numerals.{add-one}
 use native.Mathlib.Omega.{arith}
-use Rattle.bundle.specs.Frames.{All, FirstBad}
-use Rattle.bundle.specs.Search.{pick, firstFrom, first}
+use Rattle.bundle.specs.Search.{All, FirstBad, pick, firstFrom, first}
 use Rattle.bundle.specs.declared.answer.Found.{Found}
 use Rattle.bundle.specs.declared.answer.Found.the-variants.{At, Nothing}
 use Rattle.bundle.proofs.laws.Tests.{clash, not-false-true}

@@ -16,7 +16,7 @@ use Rattle.bits.proofs.laws.Bytes.{at-bytesOf, length-bytesOf}
 use Rattle.bits.proofs.laws.Groups.{group-xor}
 use Rattle.bits.proofs.laws.Lists.{at-concat, at-tabulate, length-tabulate, tabulate-ext, ext-at}
 use Rattle.bits.proofs.laws.Vectors.{dot-power, dot-xor, dot-lt}
-use Rattle.matrices.proofs.laws.Rows.{row-inside}
+use Rattle.bits.proofs.laws.Multiples.{row-inside}
 use Rattle.bits.proofs.laws.Xor.{Linear, two}
 use Rattle.bits.proofs.laws.XorAll.{linear-xorAll}
 use Rattle.entries.specs.Spread.{combined, nibbleByte, summed}

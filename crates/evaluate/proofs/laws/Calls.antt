@@ -18,9 +18,9 @@ use Rattle.network.proofs.laws.Instance.{offset-within}
 use Rattle.network.proofs.laws.Order.{layer-lookups}
 use Rattle.network.proofs.laws.Ranges.{by-stage}
 use Rattle.whitebox.specs.Calls.{Reply, Call, accepted, refused, lowest, judgeStart, started, judgeStop, judgeOne, judgeFetch, toStop, oneLookup, fetch, advance, reply, handed, blockLeft}
-use Rattle.evaluate.specs.Advanced.{Advanced}
 use Rattle.lookups.specs.InPlace.{Fits, LookedUp, sumsIn}
 use Rattle.lookups.proofs.laws.Whole.{length-sums-in}
+use Rattle.evaluate.specs.Advanced.{Advanced}
 use Rattle.evaluate.proofs.laws.Stages.{in-stage, advance-split, layer-walk, layer-within}
 
 -- ---- the place of a lookup

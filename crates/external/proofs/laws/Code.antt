@@ -10,27 +10,27 @@ use lib.Dec.{eqb}
 use lib.ListN.{length}
 use borrow.Author.Tests.{eq-eqb, ne-eqb, eqb-true}
 use Rattle.bits.specs.Bytes.{Bytes, number, bytesOf}
-use Rattle.inversion.specs.Elimination.{Inversion, inverse, singular, invert, rowsIn, inverseOf, hasInverse, withInverse}
 use Rattle.bits.specs.Encodings.{encode, decode}
 use Rattle.bits.specs.Lists.{at, tabulate}
-use Rattle.matrices.specs.Matrices.{product, RowsFit, Invertible, matrixOf}
 use Rattle.bits.specs.Nibbles.{pack, nibble, packed}
-use Rattle.matrices.specs.Rows.{rowsOf}
-use Rattle.matrices.proofs.laws.Stored.{matrixOf-fits}
 use Rattle.bits.proofs.laws.Groups.{joined-same}
-use Rattle.inversion.proofs.laws.Inverses.{answered, exact}
 use Rattle.bits.proofs.laws.Lists.{tabulate-at, tabulate-ext, length-tabulate}
 use Rattle.bits.proofs.laws.Nibbles.{nibble-even, nibble-odd}
+use Rattle.matrices.specs.Matrices.{product, RowsFit, Invertible, matrixOf}
+use Rattle.matrices.specs.Rows.{rowsOf}
+use Rattle.matrices.proofs.laws.Stored.{matrixOf-fits}
 use Rattle.matrices.proofs.laws.Rows.{rows-stored}
+use Rattle.inversion.specs.Elimination.{Inversion, inverse, singular, invert, rowsIn, inverseOf, hasInverse, withInverse}
+use Rattle.inversion.proofs.laws.Inverses.{answered, exact}
 use Rattle.bundle.specs.Format.{encodings, frame, partAt, inputMatrixPart, outputMatrixPart}
-use Rattle.judgement.specs.Judge.{judge}
 use Rattle.bundle.specs.declared.answer.Judgement.{Judgement}
 use Rattle.bundle.specs.declared.answer.Judgement.the-variants.{Accepted, Refused}
 use Rattle.bundle.specs.declared.answer.Refusal.{Refusal}
 use Rattle.bundle.proofs.laws.Code.{block-room}
-use Rattle.judgement.proofs.laws.Judgements.{accepted-sound}
 use Rattle.bundle.proofs.laws.Parts.{at-bytes}
 use Rattle.bundle.proofs.laws.Tests.{first-accepted}
+use Rattle.judgement.specs.Judge.{judge}
+use Rattle.judgement.proofs.laws.Judgements.{accepted-sound}
 use Rattle.external.specs.Calls.{answer, unlessRefused, written}
 use Rattle.external.specs.Coding.{encodeNibbles, decodeNibbles, multiply, encodeBy, decodeBy, outputFirst}
 use Rattle.external.specs.declared.coding.Coded.{Coded}

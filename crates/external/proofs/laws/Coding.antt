@@ -5,24 +5,24 @@ use mathlib.Core.Logic.{⊎-elim}
 use mathlib.Core.Path.{_≡_, sym, ap, _∙_}
 use Prim.Native.Nat.{ℕ, _+_, _*_, _/_, _≤_, _<_}
 use native.Mathlib.Omega.{arith}
-use Rattle.inversion.specs.Elimination.{inverseOf}
 use Rattle.bits.specs.Bytes.{Bytes, Block, numberOf, bytesOf}
 use Rattle.bits.specs.Encodings.{encode, decode, Permutation}
-use Rattle.inversion.specs.Inverses.{UndoesBothWays}
 use Rattle.bits.specs.Lists.{at}
-use Rattle.matrices.specs.Matrices.{product, Undoes}
 use Rattle.bits.specs.Nibbles.{nibble, packed}
 use Rattle.bits.proofs.laws.Bytes.{numberOf-lt, bytesOf-block, numberOf-bytesOf, bytesOf-numberOf}
-use Rattle.matrices.proofs.laws.Stored.{matrixOf-fits}
 use Rattle.bits.proofs.laws.Encodings as single
-use Rattle.inversion.proofs.laws.Inverses.{inverse-undoes}
-use Rattle.matrices.proofs.laws.Matrices.{product-lt}
 use Rattle.bits.proofs.laws.Nibbles.{length-packed, at-packed, packed-ext, packed-nibbles, packed-bytes, nibble-lt, parity}
+use Rattle.matrices.specs.Matrices.{product, Undoes}
+use Rattle.matrices.proofs.laws.Stored.{matrixOf-fits}
+use Rattle.matrices.proofs.laws.Matrices.{product-lt}
+use Rattle.inversion.specs.Elimination.{inverseOf}
+use Rattle.inversion.specs.Inverses.{UndoesBothWays}
+use Rattle.inversion.proofs.laws.Inverses.{inverse-undoes}
 use Rattle.bundle.specs.Format.{encodings, encodingOf, inputMatrix, outputMatrix, inputMatrixPart, outputMatrixPart}
-use Rattle.judgement.specs.Judge.{judge}
 use Rattle.bundle.specs.declared.answer.Judgement.the-variants.{Accepted}
-use Rattle.judgement.proofs.laws.Judgements.{accepted-sound}
 use Rattle.bundle.proofs.laws.Parts.{at-bytes}
+use Rattle.judgement.specs.Judge.{judge}
+use Rattle.judgement.proofs.laws.Judgements.{accepted-sound}
 use Rattle.external.specs.Coding.{encodeNibbles, decodeNibbles, multiply, encodeBy, decodeBy, encodeInput, decodeInput, outputFirst, encodeOutput, decodeOutput}
 use Rattle.external.specs.Undoing.{Undoing}
 

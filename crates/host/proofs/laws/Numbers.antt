@@ -10,7 +10,6 @@ use Rattle.aes.specs.Answers as aes
 use Rattle.aes.specs.declared.Answer.{Answer}
 use Rattle.aes.specs.declared.Answer.the-variants as answers
 use Rattle.bundle.specs.Format.{encodings, byteMatrices, columnMatrices, frame, pairBad, lengthBad, inputMatrixPart, outputMatrixPart}
-use Rattle.judgement.specs.Judge.{noInverse, encodingBad, byteMatrixBad, columnMatrixBad, judgeEncodings, judgeMatrices, judge}
 use Rattle.bundle.specs.Refusals as refusals
 use Rattle.bundle.specs.Refusals.{andThen}
 use Rattle.bundle.specs.Search.{first}
@@ -21,11 +20,12 @@ use Rattle.bundle.specs.declared.answer.Refusal.{Refusal}
 use Rattle.bundle.specs.declared.answer.Refusal.the-variants.{Length, Pair, Encoding, ByteMatrix, ColumnMatrix, InputMatrix, OutputMatrix}
 use Rattle.bundle.proofs.laws.Search.{at-bad}
 use Rattle.bundle.proofs.laws.Tests.{by-unless, by-unlessAt}
-use Rattle.network.specs.Stages.{lookups, setBytes, tableSize}
+use Rattle.judgement.specs.Judge.{noInverse, encodingBad, byteMatrixBad, columnMatrixBad, judgeEncodings, judgeMatrices, judge}
 use Rattle.external.specs.Calls as external
 use Rattle.external.specs.Calls.{unlessRefused}
 use Rattle.external.specs.declared.coding.Coded.{Coded}
 use Rattle.external.specs.declared.coding.Coded.the-variants.{Done, Bundle, BlockLength}
+use Rattle.network.specs.Stages.{lookups, setBytes, tableSize}
 use Rattle.tables.specs.Calls as tables
 use Rattle.tables.specs.declared.calls.Made.{Made}
 use Rattle.tables.specs.declared.calls.Made.the-variants as made

@@ -1,7 +1,7 @@
 -- `inversion::invert` meets its contract. Assumes nothing.
 use mathlib.Core.Path.{ap, _∙_}
-use Rattle.inversion.specs.Elimination.{Inversion, hasInverse, withInverse}
 use Rattle.matrices.specs.Rows.{rowsOf}
+use Rattle.inversion.specs.Elimination.{Inversion, hasInverse, withInverse}
 use Rattle.inversion.specs.Work.{rights}
 use Rattle.inversion.proofs.laws.Work.{none-found, one-found, taken}
 use borrow.Author.Needs.{needs}

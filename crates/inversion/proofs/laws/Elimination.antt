@@ -10,11 +10,11 @@ use native.Mathlib.Omega.{arith}
 use lib.Bits.{bitXor, xor-lt}
 use lib.Pow.{pow-pos}
 use Rattle.bits.specs.Vectors.{bit, unit, dot, delta}
-use Rattle.matrices.specs.Matrices.{productBy}
-use Rattle.inversion.specs.Elimination.{addRow, pivotBy, clearBy, pivoted, leftStep, rightStep}
 use Rattle.bits.proofs.laws.Xor.{two, xor-zero-eq}
 use Rattle.bits.proofs.laws.Vectors.{dot-lt, dot-comm, dot-xor, xor-dot, dot-scale, delta-same, delta-eq, delta-other, delta-lt, bit-lt, bit-xor, bit-scale, bit-zero, unit-dot, dot-unit, unit-lt, bit-unit-same, bit-unit-other, bit-ext}
+use Rattle.matrices.specs.Matrices.{productBy}
 use Rattle.matrices.proofs.laws.Matrices.{product-lt, bit-product}
+use Rattle.inversion.specs.Elimination.{addRow, pivotBy, clearBy, pivoted, leftStep, rightStep}
 
 -- ---- the step
 -- x is 0 or 1, so nothing is lost by `% 2`

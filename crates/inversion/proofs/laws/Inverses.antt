@@ -9,12 +9,12 @@ use lib.ListN.{length}
 use lib.Pow.{pow-pos}
 use Rattle.bits.specs.Lists.{at, tabulate}
 use Rattle.bits.specs.Vectors.{bit, unit}
-use Rattle.matrices.specs.Matrices.{productBy, product, identity, RowsFit, Undoes, Invertible}
-use Rattle.inversion.specs.Elimination.{leftStep, rightStep, choose, pivotFrom, Inversion, inverse, singular, unlessZero, columns, invert, inverseOf}
-use Rattle.inversion.specs.Inverses.{UndoesBothWays, Answered, Refused, Exact, Unique}
 use Rattle.bits.proofs.laws.Lists.{at-tabulate, length-tabulate, ext-at}
 use Rattle.bits.proofs.laws.Vectors.{bit-lt, dot-unit, unit-lt, bit-ext}
+use Rattle.matrices.specs.Matrices.{productBy, product, identity, RowsFit, Undoes, Invertible}
 use Rattle.matrices.proofs.laws.Matrices.{product-lt, bit-product, product-zero, identity-length}
+use Rattle.inversion.specs.Elimination.{leftStep, rightStep, choose, pivotFrom, Inversion, inverse, singular, unlessZero, columns, invert, inverseOf}
+use Rattle.inversion.specs.Inverses.{UndoesBothWays, Answered, Refused, Exact, Unique}
 use Rattle.inversion.proofs.laws.Elimination.{Inv, inv-same, inv-start, Solved, step-inv, step-solved, left-inverse, right-inverse, Kernel, kernel, kern}
 
 -- ---- the pivot

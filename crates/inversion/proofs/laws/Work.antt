@@ -13,14 +13,14 @@ use lib.Bits.{bitXor, xor-zero-r}
 use lib.ListN.{length}
 use Rattle.bits.specs.Lists.{at, tabulate}
 use Rattle.bits.specs.Vectors.{bit, unit, delta}
-use Rattle.matrices.specs.Matrices.{identity}
-use Rattle.inversion.specs.Elimination.{addRow, pivotBy, clearBy, leftStep, rightStep, pivoted, choose, pivotFrom, Inversion, inverse, singular, unlessZero, columns, invert}
-use Rattle.matrices.specs.Rows.{rowAt, setRow, stored}
-use Rattle.inversion.specs.Work.{leftAt, rightAt, lefts, rights, addedTo, ended}
 use Rattle.bits.proofs.laws.Lists.{tabulate-ext, at-tabulate}
 use Rattle.bits.proofs.laws.Vectors.{delta-same, delta-other, bit-lt, bit-shift}
-use Rattle.inversion.proofs.laws.Inverses.{pivot-found}
+use Rattle.matrices.specs.Matrices.{identity}
+use Rattle.matrices.specs.Rows.{rowAt, setRow, stored}
 use Rattle.matrices.proofs.laws.Rows.{row-set-same, row-set-other, length-setRow, stored-same}
+use Rattle.inversion.specs.Elimination.{addRow, pivotBy, clearBy, leftStep, rightStep, pivoted, choose, pivotFrom, Inversion, inverse, singular, unlessZero, columns, invert}
+use Rattle.inversion.specs.Work.{leftAt, rightAt, lefts, rights, addedTo, ended}
+use Rattle.inversion.proofs.laws.Inverses.{pivot-found}
 
 -- ---- c times row s added to row i
 pub record Added (f : ℕ → ℕ) (i s c : ℕ) (g : ℕ → ℕ) : Type 0 where

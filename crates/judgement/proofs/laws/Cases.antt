@@ -5,9 +5,7 @@ use mathlib.Core.Path.{_≡_, refl, sym, _∙_, subst}
 use Prim.Native.Nat.{ℕ, _≤_, _<_}
 use native.Mathlib.Omega.{arith}
 use Rattle.matrices.proofs.laws.Stored.{matrixOf-fits}
-use Rattle.judgement.specs.Cases.{NoneBelow4, List0, Byte159}
 use Rattle.bundle.specs.Format.{encodings, byteMatrices, lengthBad, pairBad, frame, byteMatrix, byteMatrixPart}
-use Rattle.judgement.specs.Judge.{judge}
 use Rattle.bundle.specs.Frames.{Framed}
 use Rattle.bundle.specs.Refusals.{causeOf, unlessAt}
 use Rattle.bundle.specs.Search.{first}
@@ -16,10 +14,12 @@ use Rattle.bundle.specs.declared.answer.Judgement.the-variants.{Accepted, Refus
 use Rattle.bundle.specs.declared.answer.Refusal.{Refusal}
 use Rattle.bundle.specs.declared.answer.Refusal.the-variants.{Length, Pair, Encoding, ByteMatrix}
 use Rattle.bundle.proofs.laws.Frame.{framed}
-use Rattle.judgement.proofs.laws.Judgements.{only}
-use Rattle.judgement.proofs.laws.Matrices.{equal-rows}
 use Rattle.bundle.proofs.laws.Parts.{at-bytes}
 use Rattle.bundle.proofs.laws.Tests.{by-unless, by-unlessAt}
+use Rattle.judgement.specs.Cases.{NoneBelow4, List0, Byte159}
+use Rattle.judgement.specs.Judge.{judge}
+use Rattle.judgement.proofs.laws.Judgements.{only}
+use Rattle.judgement.proofs.laws.Matrices.{equal-rows}
 
 -- ---- where no cause below 4 is given, the frame is right
 abbrev Low : Judgement → Type 0

@@ -22,8 +22,8 @@ use Rattle.bits.proofs.laws.Images.{image-at, images-long}
 use Rattle.bits.proofs.laws.Nibbles.{nibble-lt, nibble-even, nibble-odd}
 use Rattle.bits.proofs.laws.Vectors.{bit-lt, bit-xor, bit-zero, bit-unit-same, bit-unit-other}
 use Rattle.bundle.specs.Format.{partOf}
-use Rattle.judgement.specs.Judge.{among, repeats, noPermutation}
 use Rattle.bundle.proofs.laws.Tests.{or-left, or-right, neither}
+use Rattle.judgement.specs.Judge.{among, repeats, noPermutation}
 
 -- ---- the numbers seen so far, as the bits of a number: bit y says whether y is among the first i
 abbrev pub Seen : ℕ → (ℕ → ℕ) → ℕ → Type 0

@@ -7,9 +7,7 @@ use Prim.Native.Nat.{ℕ, _≤_}
 use native.Mathlib.Omega.{arith}
 use Rattle.bits.specs.Bytes.{Bytes}
 use Rattle.bundle.specs.Format.{encodings, byteMatrices, columnMatrices, PairRight, pairBad, lengthBad, frame, encodingPart, byteMatrixPart, columnMatrixPart, inputMatrixPart, outputMatrixPart}
-use Rattle.judgement.specs.Judge.{noInverse, encodingBad, byteMatrixBad, columnMatrixBad, judgeEncodings, judgeMatrices, judge}
 use Rattle.bundle.specs.Frames.{Framed}
-use Rattle.judgement.specs.Judgements.{GoodEncoding, GoodByteMatrix, GoodColumnMatrix, GoodInputMatrix, GoodOutputMatrix, GoodEncodings, GoodByteMatrices, GoodColumnMatrices, Sound, Why, Reasoned, Only, AcceptedExactly, Parts}
 use Rattle.bundle.specs.Refusals.{causeOf, unlessAt, andThen}
 use Rattle.bundle.specs.Search.{first}
 use Rattle.bundle.specs.declared.answer.Found.the-variants.{Nothing}
@@ -17,12 +15,14 @@ use Rattle.bundle.specs.declared.answer.Judgement.{Judgement}
 use Rattle.bundle.specs.declared.answer.Judgement.the-variants.{Accepted, Refused}
 use Rattle.bundle.specs.declared.answer.Refusal.{Refusal}
 use Rattle.bundle.specs.declared.answer.Refusal.the-variants.{Length, Pair, Encoding, ByteMatrix, ColumnMatrix, InputMatrix, OutputMatrix}
-use Rattle.judgement.proofs.laws.Encodings.{good-permutation, permutation-good}
 use Rattle.bundle.proofs.laws.Frame.{pair-good, right-good, length-good, range-good, framed, frame-accepted}
-use Rattle.judgement.proofs.laws.Matrices.{good-invertible, invertible-good}
 use Rattle.bundle.proofs.laws.Parts.{at-bytes, part-refused, part-behind, part-here, part-long}
 use Rattle.bundle.proofs.laws.Search.{none-all, all-none, at-bad, bad-at}
 use Rattle.bundle.proofs.laws.Tests.{clash, not-false-true, by-unless, by-unlessAt, by-andThen}
+use Rattle.judgement.specs.Judge.{noInverse, encodingBad, byteMatrixBad, columnMatrixBad, judgeEncodings, judgeMatrices, judge}
+use Rattle.judgement.specs.Judgements.{GoodEncoding, GoodByteMatrix, GoodColumnMatrix, GoodInputMatrix, GoodOutputMatrix, GoodEncodings, GoodByteMatrices, GoodColumnMatrices, Sound, Why, Reasoned, Only, AcceptedExactly, Parts}
+use Rattle.judgement.proofs.laws.Encodings.{good-permutation, permutation-good}
+use Rattle.judgement.proofs.laws.Matrices.{good-invertible, invertible-good}
 
 module _ (nr : ℕ) (l : List ℕ) (bytes : Bytes l) where
   -- ---- the tests are exact

@@ -6,11 +6,10 @@ use mathlib.Core.Path.{_≡_, sym, ap, _∙_}
 use Prim.Native.Nat.{ℕ, _+_, _-_, _*_, _≤_, _<_}
 use native.Mathlib.Omega.{arith}
 use lib.ListN.{length, take, drop}
-use Rattle.inversion.specs.Elimination.{invert, hasInverse}
 use Rattle.matrices.specs.Matrices.{matrixOf}
 use Rattle.matrices.specs.Rows.{rowsOf}
+use Rattle.inversion.specs.Elimination.{invert, hasInverse}
 use Rattle.bundle.specs.Format.{encodings, byteMatrices, columnMatrices, partCount, partSize, sectionLength, frame, sectionOf, partOf, partAt, inputMatrixPart, outputMatrixPart}
-use Rattle.judgement.specs.Judge.{noPermutation, noInverse, byteMatrixBad, columnMatrixBad, judgeEncodings, judgeMatrices, judge}
 use Rattle.bundle.specs.Refusals.{unlessAt}
 use Rattle.bundle.specs.Search.{first}
 use Rattle.bundle.specs.declared.answer.Found.{Found}
@@ -20,6 +19,7 @@ use Rattle.bundle.specs.declared.answer.Refusal.{Refusal}
 use Rattle.bundle.specs.declared.answer.Refusal.the-variants.{Encoding, ByteMatrix, ColumnMatrix, InputMatrix, OutputMatrix}
 use Rattle.bundle.proofs.laws.Frame.{section-length}
 use Rattle.bundle.proofs.laws.Parts.{part-cut}
+use Rattle.judgement.specs.Judge.{noPermutation, noInverse, byteMatrixBad, columnMatrixBad, judgeEncodings, judgeMatrices, judge}
 
 -- ---- matrices
 pub inverse-told : (w : ℕ) (p : List ℕ) (m : List ℕ) (r : Bool) → rowsOf (8 * w) m ≡ matrixOf w p → r ≡ hasInverse (invert (8 * w) (rowsOf (8 * w) m))

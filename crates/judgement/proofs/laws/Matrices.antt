@@ -7,14 +7,14 @@ use mathlib.Core.Path.{_≡_, refl, sym, ap, _∙_}
 use Prim.Native.Nat.{ℕ, _*_, _<_}
 use native.Mathlib.Omega.{arith}
 use Rattle.bits.specs.Bytes.{Bytes}
-use Rattle.inversion.specs.Elimination.{Inversion, inverse, singular, invert, hasInverse}
 use Rattle.bits.specs.Lists.{at}
-use Rattle.matrices.specs.Matrices.{product, RowsFit, Invertible, matrixOf}
 use Rattle.bits.specs.Vectors.{bit, unit, dot}
-use Rattle.matrices.proofs.laws.Stored.{matrixOf-fits}
-use Rattle.inversion.proofs.laws.Inverses.{answered, refused, exact}
-use Rattle.matrices.proofs.laws.Matrices.{bit-product}
 use Rattle.bits.proofs.laws.Vectors.{unit-lt, bit-unit-same, bit-unit-other}
+use Rattle.matrices.specs.Matrices.{product, RowsFit, Invertible, matrixOf}
+use Rattle.matrices.proofs.laws.Stored.{matrixOf-fits}
+use Rattle.matrices.proofs.laws.Matrices.{bit-product}
+use Rattle.inversion.specs.Elimination.{Inversion, inverse, singular, invert, hasInverse}
+use Rattle.inversion.proofs.laws.Inverses.{answered, refused, exact}
 use Rattle.judgement.specs.Judge.{noInverse}
 
 module _ (n : ℕ) (m : List ℕ) (fits : RowsFit n (at m)) where

@@ -14,34 +14,34 @@ use lib.Dec.{eqb}
 use lib.ListN.{length, take, drop, set, replicate, length-append, length-replicate, getD-replicate}
 use lib.Pow.{pow-lt}
 use lib.Seq.{getD-take, getD-set-same, getD-set-other, take-at, drop-at, length-take-le}
-use Rattle.round.specs.Key.{keyOf}
 use Rattle.bits.specs.Bytes.{Bytes, number, placed}
-use Rattle.inversion.specs.Elimination.{Inversion, inverse, singular, invert, rowsIn, inverseOf, hasInverse, withInverse}
 use Rattle.bits.specs.Groups.{joined}
 use Rattle.bits.specs.Lists.{at, tabulate}
+use Rattle.bits.proofs.laws.Groups.{joined-same}
+use Rattle.bits.proofs.laws.Lists.{at-tabulate, tabulate-at, at-past}
 use Rattle.matrices.specs.Matrices.{product, productBy, matrixOf, RowsFit, Invertible}
 use Rattle.matrices.specs.Rows.{rowsOf}
 use Rattle.matrices.proofs.laws.Stored.{matrixOf-at, matrixOf-fits}
-use Rattle.bits.proofs.laws.Groups.{joined-same}
-use Rattle.inversion.proofs.laws.Inverses.{answered, exact}
-use Rattle.bits.proofs.laws.Lists.{at-tabulate, tabulate-at, at-past}
 use Rattle.matrices.proofs.laws.Matrices.{product-lt, product-rows, product-xor}
 use Rattle.matrices.proofs.laws.Rows.{rows-stored}
+use Rattle.inversion.specs.Elimination.{Inversion, inverse, singular, invert, rowsIn, inverseOf, hasInverse, withInverse}
+use Rattle.inversion.proofs.laws.Inverses.{answered, exact}
+use Rattle.field.specs.Sbox.{sboxOf}
+use Rattle.round.specs.Key.{keyOf}
+use Rattle.round.proofs.laws.Key.{key-at}
 use Rattle.bundle.specs.Format.{byteMatrices, columnMatrices, partCount, partSize, sectionLength, frame, sectionOf, partOf, partAt, byteMatrixPart, columnMatrixPart, inputMatrixPart, outputMatrixPart, byteMatrix, columnMatrix}
-use Rattle.judgement.specs.Judge.{judge}
 use Rattle.bundle.specs.declared.answer.Judgement.the-variants.{Accepted}
 use Rattle.bundle.proofs.laws.Frame.{section-length}
 use Rattle.bundle.proofs.laws.Parts.{part-long, take-inside}
 use Rattle.bundle.proofs.laws.Tests.{first-accepted}
-use Rattle.entries.specs.Spread.{nibbleByte}
-use Rattle.entries.proofs.laws.Combined.{by-nibbles}
-use Rattle.field.specs.Sbox.{sboxOf}
+use Rattle.judgement.specs.Judge.{judge}
 use Rattle.network.specs.Numbers.{encodingNumber, sumNumber}
 use Rattle.network.specs.Stages.{shifted, afterRound}
 use Rattle.whitebox.specs.Bundles.{codingsOf}
 use Rattle.whitebox.specs.Parts.{forward}
 use Rattle.whitebox.specs.Words.{substituted}
-use Rattle.round.proofs.laws.Key.{key-at}
+use Rattle.entries.specs.Spread.{nibbleByte}
+use Rattle.entries.proofs.laws.Combined.{by-nibbles}
 
 -- ---- inverses
 inverse-stored : (n : ℕ) (m b b′ : List ℕ) → RowsFit n (at m) → 2 * n ≤ length b → (r : Inversion) → invert n m ≡ r → hasInverse r ≡ true

@@ -2,10 +2,10 @@
 -- Assumes nothing.
 use mathlib.Core.Path.{refl}
 use lib.Count.{ones}
-use Rattle.matrices.specs.Cases.{Cases}
 use Rattle.bits.specs.Groups.{joined}
-use Rattle.matrices.specs.Matrices.{productBy}
 use Rattle.bits.specs.Vectors.{dot}
+use Rattle.matrices.specs.Cases.{Cases}
+use Rattle.matrices.specs.Matrices.{productBy}
 
 pub cases : Cases
 unfolding productBy joined dot ones

@@ -8,10 +8,10 @@ use lib.ListN.{length}
 use Rattle.bits.specs.Lists.{at, tabulate}
 use Rattle.bits.specs.Groups.{joined}
 use Rattle.bits.specs.Vectors.{bit, unit, dot}
-use Rattle.matrices.specs.Matrices.{productBy, product, identity}
 use Rattle.bits.proofs.laws.Lists.{at-tabulate, length-tabulate}
 use Rattle.bits.proofs.laws.Groups.{joined-same, joined-zero}
 use Rattle.bits.proofs.laws.Vectors.{dot-lt, dot-xor, dot-zero-r, bit-xor, bit-ext, bit-vector, vector-lt, unit-dot}
+use Rattle.matrices.specs.Matrices.{productBy, product, identity}
 
 pub product-lt : (n : ℕ) (f : ℕ → ℕ) (v : ℕ) → productBy n f v < 2 ^ n
 unfolding productBy

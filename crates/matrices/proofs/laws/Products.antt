@@ -1,8 +1,8 @@
 -- Laws, not definitions: the theorems of specs/Products.antt.
 -- Assumes nothing.
 use Rattle.bits.specs.Lists.{at}
-use Rattle.matrices.specs.Products.{Bits, Bounded, Linear, Neutral, Placed}
 use Rattle.bits.proofs.laws.Bytes.{xor-of-placed}
+use Rattle.matrices.specs.Products.{Bits, Bounded, Linear, Neutral, Placed}
 use Rattle.matrices.proofs.laws.Matrices.{bit-product, product-lt, product-xor, product-identity}
 
 pub bits : Bits

@@ -2,19 +2,18 @@
 -- Assumes nothing.
 use mathlib.Core.List.{List}
 use mathlib.Core.Logic.{_≢_}
-use mathlib.Core.Path.{_≡_, refl, sym, ap, ap₂, _∙_, subst}
+use mathlib.Core.Path.{_≡_, refl, sym, ap, ap₂, _∙_}
 use Prim.Native.Nat.{ℕ, zero, suc, _+_, _*_, _/_, _%_, _^_, _≤_, _<_}
 use native.Mathlib.Decide.{ℕ-discrete}
-use native.Mathlib.Nat.{suc-mul, mul-le-mul-right}
 use native.Mathlib.Numerals.{add-one}
 use native.Mathlib.Omega.{arith}
 use lib.ListN.{length, set, length-set}
 use lib.Seq.{getD-set-same, getD-set-other}
 use Rattle.bits.specs.Lists.{at, tabulate}
-use Rattle.matrices.specs.Rows.{rowAt, rowsOf, setRow, stored}
 use Rattle.bits.specs.Words.{wide}
 use Rattle.bits.proofs.laws.Lists.{tabulate-ext, at-tabulate}
 use Rattle.bits.proofs.laws.Words.{wide-split, wide-high, wide-low}
+use Rattle.matrices.specs.Rows.{rowAt, rowsOf, setRow, stored}
 
 pub row-set-same : (m : List ℕ) (i v : ℕ) → 2 * i + 1 < length m → rowAt (setRow m i v) i ≡ v
 unfolding rowAt setRow
@@ -77,7 +76,3 @@ stored-same (suc n) f g m e =
 pub at-rowsOf : (n : ℕ) (m : List ℕ) (i : ℕ) → i < n → at (rowsOf n m) i ≡ rowAt m i
 unfolding rowsOf
 at-rowsOf n m i h = at-tabulate n (rowAt m) i h
-
--- Row i of n rows of w bytes lies within them.
-pub row-inside : (i w n : ℕ) → i < n → i * w + w ≤ n * w
-row-inside i w n h = subst (λ (x : ℕ). x ≤ n * w) (suc-mul i w) (mul-le-mul-right w h)

@@ -8,12 +8,12 @@ use native.Mathlib.Omega.{arith}
 use lib.ListN.{length}
 use Rattle.bits.specs.Bytes.{Bytes, number, byte, bytesOf}
 use Rattle.bits.specs.Lists.{at}
-use Rattle.matrices.specs.Rows.{rowsOf, stored}
-use Rattle.matrices.proofs.laws.Rows.{rows-stored}
-use Rattle.matrices.specs.Matrices.{RowsFit, matrixOf, matrixBytes}
 use Rattle.bits.proofs.laws.Bytes.{length-bytesOf, at-bytesOf}
 use Rattle.bits.proofs.laws.Groups.{joined-lt, joined-same, joined-group, group-joined}
 use Rattle.bits.proofs.laws.Lists.{tabulate-at, length-tabulate, at-tabulate, ext-at, length-concat, at-concat}
+use Rattle.matrices.specs.Rows.{rowsOf, stored}
+use Rattle.matrices.proofs.laws.Rows.{rows-stored}
+use Rattle.matrices.specs.Matrices.{RowsFit, matrixOf, matrixBytes}
 
 pub matrixOf-length : (w : ℕ) (s : List ℕ) → length (matrixOf w s) ≡ 8 * w
 unfolding matrixOf

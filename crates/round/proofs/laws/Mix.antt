@@ -11,9 +11,9 @@ use Rattle.bits.specs.Groups.{xorAll}
 use Rattle.bits.specs.Bytes.{Block}
 use Rattle.bits.proofs.laws.Checked.{all, all-at}
 use Rattle.bits.proofs.laws.Xor.{Linear, agree}
+use Rattle.bits.proofs.laws.XorAll.{xorAll-same, xorAll-lt, xorAll-swap, linear-xorAll, xorAll-one, xorAll-linear}
 use Rattle.field.specs.Field.{xtime, times, mul}
 use Rattle.field.proofs.laws.Field.{mul-xor, mul-lt}
-use Rattle.bits.proofs.laws.XorAll.{xorAll-same, xorAll-lt, xorAll-swap, linear-xorAll, xorAll-one, xorAll-linear}
 use Rattle.round.specs.State.{cell, entry, mixBy, mixRows, invMixRows, MixColumns, InvMixColumns}
 use Rattle.round.proofs.laws.State.{cell-state, is-block, block}
 

@@ -12,8 +12,8 @@ use Rattle.bits.specs.Lists.{at}
 use Rattle.bits.specs.Bytes.{Bytes, Block}
 use Rattle.bits.proofs.laws.Lists.{length-tabulate, at-tabulate, tabulate-ext, tabulate-at, tabulate-below}
 use Rattle.bits.proofs.laws.Xor.{xor-back}
-use Rattle.field.specs.Sbox.{sboxOf, invSboxOf}
 use Rattle.bits.proofs.laws.Filled.{Filled, filled-more}
+use Rattle.field.specs.Sbox.{sboxOf, invSboxOf}
 use Rattle.field.proofs.laws.Sbox.{sbox-lt, inv-sbox-lt, inv-sbox-sbox, sbox-inv-sbox}
 use Rattle.round.specs.State.{cell, state, SubBytes, ShiftRows, AddRoundKey, InvSubBytes, InvShiftRows}
 

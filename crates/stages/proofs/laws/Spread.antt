@@ -8,27 +8,24 @@ use native.Mathlib.Omega.{arith}
 use lib.ListN.{take}
 use lib.Seq.{getD-take}
 use Rattle.bits.specs.Bytes.{Bytes, number, byte, bytesOf, placed}
-use Rattle.inversion.specs.Elimination.{inverseOf}
 use Rattle.bits.specs.Encodings.{decode}
 use Rattle.bits.specs.Lists.{at, tabulate, concat}
-use Rattle.matrices.specs.Matrices.{product}
 use Rattle.bits.specs.Nibbles.{pack, nibble, packed}
 use Rattle.bits.proofs.laws.Bytes.{bytesOf-numberOf, numberOf-bytesOf, length-bytesOf}
 use Rattle.bits.proofs.laws.Encodings.{decode-lt}
 use Rattle.bits.proofs.laws.Groups.{joined-same}
 use Rattle.bits.proofs.laws.Lists.{at-tabulate, length-tabulate, ext-at, length-concat, at-concat, concat-same, tabulate-ext}
-use Rattle.matrices.proofs.laws.Matrices.{product-lt}
 use Rattle.bits.proofs.laws.Nibbles.{length-packed, at-packed, packed-ext, nibble-lt}
-use Rattle.bundle.specs.Format.{encodings, encodingOf}
-use Rattle.judgement.specs.Judge.{judge}
-use Rattle.bundle.specs.declared.answer.Judgement.the-variants.{Accepted}
 use Rattle.bits.proofs.laws.Images.{images-long}
-use Rattle.judgement.proofs.laws.Judgements.{accepted-sound}
-use Rattle.entries.specs.Spread.{combined, encodedBytes, encodedWord}
+use Rattle.matrices.specs.Matrices.{product}
+use Rattle.matrices.proofs.laws.Matrices.{product-lt}
+use Rattle.inversion.specs.Elimination.{inverseOf}
 use Rattle.field.specs.Field.{mul}
 use Rattle.field.proofs.laws.OnBytes.{OnBytes}
-use Rattle.layers.specs.Layers.{roundOf, acted, linearWord, wordNumber, readByte}
-use Rattle.layers.proofs.laws.Linear.{by-powers, spread-xor, mixed-xor, exit-xor}
+use Rattle.bundle.specs.Format.{encodings, encodingOf}
+use Rattle.bundle.specs.declared.answer.Judgement.the-variants.{Accepted}
+use Rattle.judgement.specs.Judge.{judge}
+use Rattle.judgement.proofs.laws.Judgements.{accepted-sound}
 use Rattle.network.specs.Numbers.{encodingNumber}
 use Rattle.network.specs.Stages.{widthOf, shifted, sourceOf, firstNumber, afterRound, standingNumber, numbersOf}
 use Rattle.network.specs.Tables.{spreadEntry, spreadTable}
@@ -43,6 +40,9 @@ use Rattle.whitebox.specs.Words.{entryWord, mixedWord, secondWord, placedWord, 
 use Rattle.whitebox.proofs.laws.Bundles.{encoding-is}
 use Rattle.whitebox.proofs.laws.States.{forward-fine, substituted-lt}
 use Rattle.whitebox.proofs.laws.Values.{entry-bytes, mixed-word-bytes, second-bytes, placed-word-bytes}
+use Rattle.entries.specs.Spread.{combined, encodedBytes, encodedWord}
+use Rattle.layers.specs.Layers.{roundOf, acted, linearWord, wordNumber, readByte}
+use Rattle.layers.proofs.laws.Linear.{by-powers, spread-xor, mixed-xor, exit-xor}
 
 -- ---- 256 words of m bytes, one after the other
 module _ (m : ℕ) (f : ℕ → ℕ → ℕ) (pos : 0 < m) where

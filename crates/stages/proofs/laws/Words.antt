@@ -6,24 +6,24 @@ use Prim.Native.Nat.{ℕ, suc, _+_, _-_, _*_, _/_, _%_, _≤_, _<_}
 use native.Mathlib.Omega.{arith}
 use lib.ListN.{take}
 use lib.Seq.{getD-take}
-use Rattle.round.specs.State.{mixRows, entry}
 use Rattle.bits.specs.Bytes.{Bytes, number, byte, placed}
-use Rattle.inversion.specs.Elimination.{inverseOf}
 use Rattle.bits.specs.Lists.{at, concat}
-use Rattle.matrices.specs.Matrices.{product, matrixOf}
 use Rattle.bits.proofs.laws.Groups.{joined-same}
 use Rattle.bits.proofs.laws.Lists.{at-concat}
-use Rattle.bundle.specs.Format.{encodingPart, encodingOf, byteMatrix, columnMatrix, columnMatrixPart, inputMatrix, outputMatrixPart}
 use Rattle.bits.proofs.laws.Images.{images-long}
-use Rattle.bundle.proofs.laws.Parts.{at-bytes}
-use Rattle.entries.proofs.laws.Entries.{images-below}
+use Rattle.matrices.specs.Matrices.{product, matrixOf}
+use Rattle.inversion.specs.Elimination.{inverseOf}
 use Rattle.field.specs.Field.{mul}
-use Rattle.layers.specs.Layers.{wordNumber}
-use Rattle.layers.proofs.laws.Code.{byte-is, column-is}
+use Rattle.round.specs.State.{mixRows, entry}
+use Rattle.bundle.specs.Format.{encodingPart, encodingOf, byteMatrix, columnMatrix, columnMatrixPart, inputMatrix, outputMatrixPart}
+use Rattle.bundle.proofs.laws.Parts.{at-bytes}
 use Rattle.network.specs.declared.stage.Stage.the-variants.{Entry, First, Second, Exit}
-use Rattle.stages.proofs.laws.Spread.{entry-form, first-form, second-form, exit-form}
 use Rattle.whitebox.specs.Bundles.{codingsOf}
 use Rattle.whitebox.specs.Parts.{forward}
+use Rattle.entries.proofs.laws.Entries.{images-below}
+use Rattle.layers.specs.Layers.{wordNumber}
+use Rattle.layers.proofs.laws.Code.{byte-is, column-is}
+use Rattle.stages.proofs.laws.Spread.{entry-form, first-form, second-form, exit-form}
 
 module _ (l w : List ℕ) (p y : ℕ) where
   pub entry-code : (m : List ℕ) → m ≡ inverseOf 128 (inputMatrix 10 l)

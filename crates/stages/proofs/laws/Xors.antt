@@ -12,11 +12,10 @@ use lib.Dec.{eqb}
 use Rattle.bits.specs.Encodings.{encode, decode}
 use Rattle.bits.specs.Nibbles.{packed}
 use Rattle.bits.proofs.laws.Nibbles.{packed-ext}
+use Rattle.bits.proofs.laws.Multiples.{product-le}
 use Rattle.bundle.specs.Format.{encodings, encodingOf}
-use Rattle.bundle.proofs.laws.Code.{product-le}
 use Rattle.network.specs.Numbers.{encodingNumber, layerResults}
 use Rattle.network.specs.Order.{GoodWidth, xors, turnOf, groupOf, nibbleOf, addedOf, sumOf}
-use Rattle.layers.specs.Layers.{roundOf}
 use Rattle.network.specs.Stages.{widthOf, firstNumber}
 use Rattle.network.specs.Tables.{xorEntry, xorTable}
 use Rattle.network.specs.declared.stage.Stage.{Stage}
@@ -26,6 +25,7 @@ use Rattle.network.proofs.laws.Order.{sum-div, added-lt, nibble-in, added-word-
 use Rattle.network.proofs.laws.Stages.{good-16, good-4, results-16, results-4}
 use Rattle.whitebox.specs.Bundles.{codingsOf}
 use Rattle.whitebox.proofs.laws.Bundles.{encoding-is}
+use Rattle.layers.specs.Layers.{roundOf}
 
 module _ (m : ℕ) (good : GoodWidth m) (first x : ℕ) where
   pub result-is : first + 16 * (2 * m) + x ≡ encodingNumber m first (sumOf m x) (suc (addedOf m x)) (nibbleOf m x)

@@ -9,10 +9,10 @@ use native.Mathlib.Omega.{arith}
 use lib.Dec.{eqb, ltb}
 use lib.ListN.{length, take, drop, length-take, length-drop}
 use borrow.Author.Tests.{eq-eqb, ne-eqb, lt-ltb, le-ltb, ltb-false}
+use Rattle.bits.proofs.laws.Multiples.{multiple-of}
 use Rattle.bundle.specs.Format.{partCount, partSize, sectionLength, offset, frame}
 use Rattle.bundle.specs.declared.answer.Judgement.the-variants.{Accepted, Refused}
 use Rattle.bundle.specs.declared.answer.Refusal.{Refusal}
-use Rattle.bundle.proofs.laws.Code.{multiple-of}
 use Rattle.bundle.proofs.laws.Frame.{sizes, framed}
 use Rattle.bundle.proofs.laws.Tests.{or-right}
 use Rattle.view.specs.Views.{startOf, startsOf, emptyWhen, sectionFrom}

@@ -11,19 +11,19 @@ use lib.Dec.{ltb}
 use Rattle.bits.specs.Bytes.{Bytes}
 use Rattle.bits.specs.Encodings.{decode, Permutation}
 use Rattle.bits.specs.Lists.{tabulate}
-use Rattle.matrices.specs.Matrices.{identity}
 use Rattle.bits.specs.Vectors.{unit}
-use Rattle.matrices.proofs.laws.Stored.{matrixOf-fits}
 use Rattle.bits.proofs.laws.Encodings.{permutation-by-test}
 use Rattle.bits.proofs.laws.Lists.{at-tabulate}
-use Rattle.matrices.proofs.laws.Matrices.{product-identity}
 use Rattle.bits.proofs.laws.Vectors.{unit-lt}
+use Rattle.matrices.specs.Matrices.{identity}
+use Rattle.matrices.proofs.laws.Stored.{matrixOf-fits}
+use Rattle.matrices.proofs.laws.Matrices.{product-identity}
 use Rattle.bundle.specs.Format.{encodings, byteMatrices, columnMatrices, encodingOf, byteMatrix, columnMatrix, byteMatrixPart, columnMatrixPart, inputMatrixPart, outputMatrixPart}
+use Rattle.bundle.specs.declared.answer.Judgement.the-variants.{Accepted}
+use Rattle.bundle.proofs.laws.Parts.{at-bytes}
 use Rattle.judgement.specs.Judge.{judge}
 use Rattle.judgement.specs.Judgements as judgements
-use Rattle.bundle.specs.declared.answer.Judgement.the-variants.{Accepted}
 use Rattle.judgement.proofs.laws.Judgements.{accepted-sound}
-use Rattle.bundle.proofs.laws.Parts.{at-bytes}
 use Rattle.network.specs.Stages as stages
 use Rattle.network.proofs.laws.Ranges.{by-stage}
 use Rattle.whitebox.specs.Bundles.{plainEncoding, codingsOf}

@@ -10,23 +10,23 @@ use borrow.Author.Tests.{lt-ltb, le-ltb}
 use lib.Bits.{bitXor, xor-zero-r}
 use lib.Dec.{ltb, lit<}
 use lib.ListN.{length, replicate, length-append, List·getD-append}
-use Rattle.round.specs.Key.{KeyExpansion, expand, nextWord}
-use Rattle.round.specs.State.{mixRows}
-use Rattle.round.proofs.laws.Key.{key-at}
 use Rattle.bits.specs.Bytes.{bytesOf}
 use Rattle.bits.specs.Encodings.{encode, decode}
 use Rattle.bits.specs.Groups.{joined, group}
 use Rattle.bits.specs.Lists.{at, tabulate}
-use Rattle.matrices.specs.Matrices.{identity}
 use Rattle.bits.specs.Nibbles.{pack, nibble}
+use Rattle.bits.proofs.laws.Nibbles.{at-packed}
+use Rattle.matrices.specs.Matrices.{identity}
 use Rattle.matrices.proofs.laws.Cases as bits
 use Rattle.matrices.proofs.laws.Matrices.{product-zero, product-identity}
-use Rattle.bits.proofs.laws.Nibbles.{at-packed}
-use Rattle.bundle.specs.Format.{encodings, byteMatrices, columnMatrices, encodingOf, byteMatrix, columnMatrix}
-use Rattle.judgement.proofs.laws.Cases as bundle
 use Rattle.field.specs.Field.{xtime, times, mul}
 use Rattle.field.specs.Sbox.{sboxOf}
 use Rattle.field.proofs.laws.Cases as field
+use Rattle.round.specs.Key.{KeyExpansion, expand, nextWord}
+use Rattle.round.specs.State.{mixRows}
+use Rattle.round.proofs.laws.Key.{key-at}
+use Rattle.bundle.specs.Format.{encodings, byteMatrices, columnMatrices, encodingOf, byteMatrix, columnMatrix}
+use Rattle.judgement.proofs.laws.Cases as bundle
 use Rattle.network.specs.Numbers.{Numbers}
 use Rattle.network.specs.Stages.{shifted, lookups, stageOf, indexOf, numbersOf}
 use Rattle.network.specs.Tables.{spreadEntry, spreadTable, xorEntry, xorTable, tableIn}

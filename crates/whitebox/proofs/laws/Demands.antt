@@ -8,15 +8,15 @@ use native.Mathlib.Decide.{ℕ-discrete}
 use native.Mathlib.Omega.{arith}
 use borrow.Author.Tests.{eq-eqb, ne-eqb}
 use lib.ListN.{length, take, drop, replicate}
-use Rattle.aes.specs.Cipher.{encipherOf, decipherOf}
-use Rattle.round.specs.Key.{KeyExpansion, roundsOf}
-use Rattle.aes.proofs.laws.Cipher.{encipher-block, decipher-encipher}
-use Rattle.round.proofs.laws.Key.{round-key-bytes}
 use Rattle.bits.specs.Bytes.{Block}
-use Rattle.inversion.specs.Elimination.{inverseOf}
 use Rattle.bits.specs.Encodings.{encode, decode}
 use Rattle.bits.specs.Nibbles.{nibble}
 use Rattle.bits.proofs.laws.Nibbles.{packed-ext}
+use Rattle.inversion.specs.Elimination.{inverseOf}
+use Rattle.round.specs.Key.{KeyExpansion, roundsOf}
+use Rattle.round.proofs.laws.Key.{round-key-bytes}
+use Rattle.aes.specs.Cipher.{encipherOf, decipherOf}
+use Rattle.aes.proofs.laws.Cipher.{encipher-block, decipher-encipher}
 use Rattle.bundle.specs.Format.{encodings, encodingOf, inputMatrix, outputMatrix}
 use Rattle.external.specs.Coding.{encodeNibbles, decodeNibbles, multiply, encodeBy, decodeBy, encodeInput, decodeInput, outputFirst, encodeOutput, decodeOutput}
 use Rattle.external.specs.Undoing.{Undone}

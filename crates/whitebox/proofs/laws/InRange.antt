@@ -10,12 +10,12 @@ use borrow.Author.Tests.{lt-ltb, le-ltb}
 use lib.Bits.{bitXor}
 use lib.Dec.{ltb}
 use Rattle.bits.specs.Bytes.{number, byte, bytesOf, placed}
-use Rattle.inversion.specs.Elimination.{inverseOf}
 use Rattle.bits.specs.Encodings.{encode, decode}
-use Rattle.matrices.specs.Matrices.{product}
 use Rattle.bits.specs.Nibbles.{pack, nibble}
 use Rattle.bits.proofs.laws.Lists.{concat-same, tabulate-ext}
 use Rattle.bits.proofs.laws.Nibbles.{packed-ext}
+use Rattle.matrices.specs.Matrices.{product}
+use Rattle.inversion.specs.Elimination.{inverseOf}
 use Rattle.field.specs.Field.{mul}
 use Rattle.network.specs.Numbers.{Numbers, startNumbers, nextNumbers, encodingNumber}
 use Rattle.network.specs.Order.{layerLookups}

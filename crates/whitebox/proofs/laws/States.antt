@@ -9,25 +9,25 @@ use borrow.Author.Tests.{eq-eqb, ne-eqb}
 use lib.Bits.{bitXor, xor-lt, xor-zero-r}
 use lib.Dec.{eqb, ltb, ltb→lt, lit<}
 use lib.ListN.{length}
-use Rattle.aes.specs.Cipher.{rounds, Cipher}
-use Rattle.round.specs.Key.{keyOf}
-use Rattle.round.specs.State.{state, entry, mixRows, mixBy, SubBytes, ShiftRows, MixColumns, AddRoundKey}
-use Rattle.round.proofs.laws.Key.{key-bytes}
-use Rattle.round.proofs.laws.State.{place}
 use Rattle.bits.specs.Bytes.{Bytes}
 use Rattle.bits.specs.Lists.{at, tabulate}
 use Rattle.bits.proofs.laws.Checked as checked
 use Rattle.bits.proofs.laws.XorAll.{xorAll-lt, xorAll-same}
 use Rattle.bits.proofs.laws.Lists.{at-tabulate, at-past, length-tabulate, tabulate-below, tabulate-ext}
+use Rattle.bits.proofs.laws.Xor.{cond-lt}
 use Rattle.field.specs.Field.{mul}
 use Rattle.field.specs.Sbox.{sboxOf}
 use Rattle.field.proofs.laws.Field.{mul-lt}
 use Rattle.field.proofs.laws.Sbox.{sbox-lt}
+use Rattle.round.specs.Key.{keyOf}
+use Rattle.round.specs.State.{state, entry, mixRows, mixBy, SubBytes, ShiftRows, MixColumns, AddRoundKey}
+use Rattle.round.proofs.laws.Key.{key-bytes}
+use Rattle.round.proofs.laws.State.{place}
+use Rattle.aes.specs.Cipher.{rounds, Cipher}
 use Rattle.network.specs.Stages.{shifted}
 use Rattle.whitebox.specs.Ciphers.{ForwardCipher, ForwardRounds, ForwardFine}
 use Rattle.whitebox.specs.Parts.{Parts, Fine, forward}
 use Rattle.whitebox.specs.States.{keyed, mixed, stateAfter, result}
-use Rattle.bits.proofs.laws.Xor.{cond-lt}
 
 -- ---- states are bytes
 module _ (P : Parts) (fine : Fine P) where

@@ -8,17 +8,17 @@ use Prim.Native.Nat.{ℕ, suc, _+_, _-_, _*_, _/_, _%_, _^_, _<_}
 use native.Mathlib.Omega.{arith}
 use lib.Bits.{bitXor}
 use Rattle.bits.specs.Bytes.{Bytes, Block, number, byte, numberOf, bytesOf, placed}
-use Rattle.inversion.specs.Elimination.{inverseOf}
 use Rattle.bits.specs.Groups.{xorAll}
 use Rattle.bits.specs.Lists.{at}
-use Rattle.matrices.specs.Matrices.{product}
 use Rattle.bits.proofs.laws.Bytes.{at-bytesOf, numberOf-lt, xor-of-placed}
 use Rattle.bits.proofs.laws.Groups.{group-xor, group-joined, joined-lt, joined-same, joined-xorAll, xor-placed}
 use Rattle.bits.proofs.laws.XorAll.{xorAll-same, xorAll-linear}
-use Rattle.inversion.proofs.laws.Inverses.{inverse-undoes}
 use Rattle.bits.proofs.laws.Lists.{at-tabulate, tabulate-ext}
-use Rattle.matrices.proofs.laws.Matrices.{product-lt, product-xor}
 use Rattle.bits.proofs.laws.Xor.{Linear}
+use Rattle.matrices.specs.Matrices.{product}
+use Rattle.matrices.proofs.laws.Matrices.{product-lt, product-xor}
+use Rattle.inversion.specs.Elimination.{inverseOf}
+use Rattle.inversion.proofs.laws.Inverses.{inverse-undoes}
 use Rattle.field.specs.Field.{mul}
 use Rattle.field.proofs.laws.Field.{mul-lt}
 use Rattle.external.specs.Coding.{multiply}

@@ -2,7 +2,7 @@
 use mathlib.Core.Path.{ap₂}
 use Prim.Native.Nat.{_*_}
 use Rattle.bundle.specs.Format.{sectionLength}
-use Rattle.bundle.proofs.laws.Code.{product-le}
+use Rattle.bits.proofs.laws.Multiples.{product-le}
 use native.Mathlib.Omega.{arith}
 use borrow.Author.Needs.{needs}
 use Rattle.bundle.proofs.layout.section_length.Statement.{statement}

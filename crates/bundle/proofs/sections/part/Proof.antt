@@ -1,5 +1,7 @@
 -- `bundle::sections::part` meets its contract. Assumes nothing.
-use Rattle.bundle.proofs.laws.Code.{inside, past}
+use lib.ListN.{length}
+use Rattle.bits.proofs.laws.Multiples.{parts-within}
+use Rattle.bundle.proofs.laws.Code.{past}
 use Rattle.bundle.proofs.laws.Parts.{part-cut}
 use native.Mathlib.Omega.{arith}
 use borrow.Author.Needs.{needs}
@@ -10,10 +12,10 @@ div-if1 : tie.Need-div-if1
 div-if1 c = search needs
 
 mul-a : tie.Need-mul-a
-mul-a c = omega (arith, inside (c .before .args .size) _ (c .before .args .n) (c .before .pre .1) (c .if1 .taken))
+mul-a c = omega (arith, parts-within (c .before .args .size) (c .before .args .n) _ (length (c .before .args .s .now)) (c .if1 .taken) (omega (arith, c .before .pre .1)))
 
 add-e : tie.Need-add-e
-add-e c = omega (arith, inside (c .before .args .size) _ (c .before .args .n) (c .before .pre .1) (c .if1 .taken))
+add-e c = omega (arith, parts-within (c .before .args .size) (c .before .args .n) _ (length (c .before .args .s .now)) (c .if1 .taken) (omega (arith, c .before .pre .1)))
 
 sub-result : tie.Need-sub-result
 sub-result c = search needs
@@ -22,7 +24,7 @@ part-result-start : tie.Need-part-result-start
 part-result-start c = search needs
 
 part-result-end : tie.Need-part-result-end
-part-result-end c = inside (c .before .args .size) _ (c .before .args .n) (c .before .pre .1) (c .if1 .taken)
+part-result-end c = parts-within (c .before .args .size) (c .before .args .n) _ (length (c .before .args .s .now)) (c .if1 .taken) (omega (arith, c .before .pre .1))
 
 sub-result-2 : tie.Need-sub-result-2
 sub-result-2 c = search needs

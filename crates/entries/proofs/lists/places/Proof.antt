@@ -9,11 +9,11 @@ use Rattle.bits.specs.Nibbles.{nibble}
 use Rattle.bits.proofs.laws.Lists.{at-tabulate, length-tabulate, tabulate-ext}
 use Rattle.entries.proofs.laws.Places.{sought, sought-none, sought-next}
 use native.Mathlib.Omega.{arith}
+use Rattle.bits.proofs.encoding.nibble.Reads as nibble-reads
+use Rattle.bits.proofs.encoding.widened.Reads as widened-reads
 use Rattle.entries.proofs.lists.places.Statement.{statement}
 use Rattle.entries.proofs.lists.places.Tie as tie
-use Rattle.bits.proofs.encoding.nibble.Reads as nibble-reads
 use Rattle.entries.proofs.lists.no_places.Reads as no-places-reads
-use Rattle.bits.proofs.encoding.widened.Reads as widened-reads
 
 abbrev Inv-loop : tie.InvT-loop
 Inv-loop p dst₀ v₀ dst v = (v ≤ 16) × (length dst ≡ 16) × (dst ≡ tabulate 16 (sought (imagesOf p) v))

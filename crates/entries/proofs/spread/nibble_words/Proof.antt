@@ -6,14 +6,14 @@ use native.Mathlib.Nat.{zero-mul, one-mul, add-mul}
 use lib.ListN.{length, take, drop, length-take, length-drop}
 use Rattle.bits.specs.Bytes.{bytesOf}
 use Rattle.bits.specs.Lists.{concat}
-use Rattle.matrices.specs.Rows.{rowAt}
 use Rattle.bits.proofs.laws.Lists.{concat-next, take-put}
-use Rattle.matrices.proofs.laws.Rows.{row-inside}
+use Rattle.bits.proofs.laws.Multiples.{row-inside}
+use Rattle.matrices.specs.Rows.{rowAt}
 use Rattle.entries.specs.Spread.{combined, nibbleByte}
 use native.Mathlib.Omega.{arith}
+use Rattle.bits.proofs.vector.write.Reads as write-reads
 use Rattle.entries.proofs.spread.nibble_words.Statement.{statement}
 use Rattle.entries.proofs.spread.nibble_words.Tie as tie
-use Rattle.bits.proofs.vector.write.Reads as write-reads
 use Rattle.entries.proofs.spread.nibble_byte.Reads as nibble-byte-reads
 use Rattle.entries.proofs.spread.word.Reads as word-reads
 

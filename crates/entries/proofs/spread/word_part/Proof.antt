@@ -2,7 +2,7 @@
 use mathlib.Core.Path.{_≡_, ap}
 use Prim.Native.Nat.{ℕ, _+_, _-_, _*_}
 use lib.ListN.{take, drop, length-take, length-drop}
-use Rattle.matrices.proofs.laws.Rows.{row-inside}
+use Rattle.bits.proofs.laws.Multiples.{row-inside}
 use native.Mathlib.Omega.{arith}
 use Rattle.entries.proofs.spread.word_part.Statement.{statement}
 use Rattle.entries.proofs.spread.word_part.Tie as tie

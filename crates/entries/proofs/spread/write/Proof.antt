@@ -1,8 +1,8 @@
 -- `entries::spread::write` meets its contract. Assumes nothing.
 use mathlib.Core.Path.{ap, _∙_}
 use Rattle.bits.specs.Lists.{at}
-use Rattle.matrices.specs.Rows.{rowAt}
 use Rattle.bits.proofs.laws.Lists.{concat-same}
+use Rattle.matrices.specs.Rows.{rowAt}
 use Rattle.entries.specs.Spread.{encodedBytes}
 use Rattle.entries.proofs.laws.Combined.{summed-is}
 use native.Mathlib.Omega.{arith}

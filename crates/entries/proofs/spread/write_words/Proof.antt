@@ -8,13 +8,13 @@ use lib.Bits.{bitXor}
 use lib.Seq.{take-all}
 use Rattle.bits.specs.Lists.{at, tabulate, concat}
 use Rattle.bits.proofs.laws.Lists.{concat-next, take-put}
-use Rattle.matrices.proofs.laws.Rows.{row-inside}
+use Rattle.bits.proofs.laws.Multiples.{row-inside}
 use Rattle.entries.specs.Spread.{encodedBytes, summed}
 use Rattle.entries.proofs.laws.Combined.{summed-parts}
 use native.Mathlib.Omega.{arith}
+use Rattle.bits.proofs.encoding.widened.Reads as widened-reads
 use Rattle.entries.proofs.spread.write_words.Statement.{statement}
 use Rattle.entries.proofs.spread.write_words.Tie as tie
-use Rattle.bits.proofs.encoding.widened.Reads as widened-reads
 use Rattle.entries.proofs.spread.word_part.Reads as word-part-reads
 use Rattle.entries.proofs.spread.write_word.Reads as write-word-reads
 

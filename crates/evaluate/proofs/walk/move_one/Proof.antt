@@ -1,8 +1,8 @@
 -- `evaluate::walk::move_one` meets its contract. Assumes nothing.
 use mathlib.Core.Path.{sym, subst}
 use Prim.Native.Nat.{ℕ}
-use Rattle.evaluate.specs.Held.{held}
 use Rattle.lookups.specs.InPlace.{Fits}
+use Rattle.evaluate.specs.Held.{held}
 use Rattle.evaluate.proofs.laws.Calls.{fits-at, no-lookup, wrong-table, one-done}
 use native.Mathlib.Omega.{arith}
 use borrow.Author.Needs.{needs}

@@ -3,8 +3,8 @@ use mathlib.Core.List.{List}
 use mathlib.Core.Path.{_≡_, ap, _∙_}
 use Prim.Native.Nat.{ℕ, _-_, _/_, _%_, _^_}
 use Rattle.bits.specs.Lists.{tabulate}
-use Rattle.inversion.specs.Work.{leftAt, rightAt, lefts, rights}
 use Rattle.bits.proofs.laws.Lists.{tabulate-ext}
+use Rattle.inversion.specs.Work.{leftAt, rightAt, lefts, rights}
 use Rattle.inversion.proofs.laws.Work.{added-left, added-right, pivot-rows}
 use native.Mathlib.Omega.{arith}
 use borrow.Author.Needs.{needs}

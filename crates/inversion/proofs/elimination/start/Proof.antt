@@ -2,10 +2,10 @@
 use mathlib.Core.Path.{_≡_, refl, _∙_}
 use Prim.Native.Nat.{_-_, _≤_}
 use lib.ListN.{length}
+use Rattle.bits.proofs.laws.Lists.{tabulate-ext}
 use Rattle.matrices.specs.Matrices.{identity}
 use Rattle.matrices.specs.Rows.{rowsOf}
 use Rattle.inversion.specs.Work.{lefts, rights}
-use Rattle.bits.proofs.laws.Lists.{tabulate-ext}
 use Rattle.inversion.proofs.laws.Work.{Started, started-none, started-more}
 use native.Mathlib.Omega.{arith}
 use Rattle.inversion.proofs.elimination.start.Statement.{statement}

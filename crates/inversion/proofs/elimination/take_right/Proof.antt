@@ -4,8 +4,8 @@ use mathlib.Core.List.{List}
 use Prim.Native.Nat.{ℕ, _-_, _≤_}
 use lib.ListN.{length}
 use Rattle.matrices.specs.Rows.{setRow, stored}
-use Rattle.inversion.specs.Work.{rightAt}
 use Rattle.matrices.proofs.laws.Rows.{stored-next}
+use Rattle.inversion.specs.Work.{rightAt}
 use native.Mathlib.Omega.{arith}
 use Rattle.inversion.proofs.elimination.take_right.Statement.{statement}
 use Rattle.inversion.proofs.elimination.take_right.Tie as tie

@@ -1,8 +1,8 @@
 -- `judgement::judge::judge_matrices` meets its contract. Assumes nothing.
 use mathlib.Core.Path.{sym, refl, _∙_}
 use Rattle.bundle.specs.Format.{partCount, partSize}
-use Rattle.judgement.proofs.laws.Judging.{matrices-byte, matrices-column, matrices-input, matrices-output, matrices-good}
 use Rattle.bundle.proofs.laws.Code.{block-room}
+use Rattle.judgement.proofs.laws.Judging.{matrices-byte, matrices-column, matrices-input, matrices-output, matrices-good}
 use native.Mathlib.Omega.{arith}
 use borrow.Author.Needs.{needs}
 use Rattle.judgement.proofs.judge.judge_matrices.Statement.{statement}

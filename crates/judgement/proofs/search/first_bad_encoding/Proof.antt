@@ -4,10 +4,10 @@ use Prim.Native.Nat.{ℕ, _+_, _-_, _*_, _%_, _≤_}
 use lib.Bits.{bitXor}
 use Rattle.bits.specs.Lists.{at}
 use Rattle.bits.specs.Vectors.{unit}
-use Rattle.judgement.specs.Judge.{repeats}
 use Rattle.bundle.specs.Search.{first, firstFrom}
-use Rattle.judgement.proofs.laws.Encodings.{imageIn, badIn, in-section, Seen, seen-none, byte-images, byte-repeats, byte-new, repeats-end}
 use Rattle.bundle.proofs.laws.Search.{first-no, first-yes, first-end, first-start}
+use Rattle.judgement.specs.Judge.{repeats}
+use Rattle.judgement.proofs.laws.Encodings.{imageIn, badIn, in-section, Seen, seen-none, byte-images, byte-repeats, byte-new, repeats-end}
 use native.Mathlib.Omega.{arith}
 use Rattle.judgement.proofs.search.first_bad_encoding.Statement.{statement}
 use Rattle.judgement.proofs.search.first_bad_encoding.Tie as tie

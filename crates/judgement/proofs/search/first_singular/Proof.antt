@@ -2,10 +2,10 @@
 use mathlib.Core.Path.{_≡_, sym, _∙_}
 use Prim.Native.Nat.{_-_, _≤_}
 use lib.ListN.{length-take, length-drop}
+use Rattle.bits.proofs.laws.Multiples.{parts-within}
 use Rattle.bundle.specs.Search.{first, firstFrom}
-use Rattle.judgement.proofs.laws.Judging.{singularIn, matrix-cut}
-use Rattle.bundle.proofs.laws.Parts.{parts-within}
 use Rattle.bundle.proofs.laws.Search.{first-no, first-yes, first-end, first-start}
+use Rattle.judgement.proofs.laws.Judging.{singularIn, matrix-cut}
 use native.Mathlib.Omega.{arith}
 use Rattle.judgement.proofs.search.first_singular.Statement.{statement}
 use Rattle.judgement.proofs.search.first_singular.Tie as tie

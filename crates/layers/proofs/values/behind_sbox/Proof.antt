@@ -2,10 +2,10 @@
 use mathlib.Core.List.{List}
 use mathlib.Core.Path.{refl, sym, ap, _∙_, subst}
 use Prim.Native.Nat.{ℕ, _+_, _-_, _*_, _<_}
-use Rattle.inversion.specs.Elimination.{inverseOf}
 use Rattle.bits.specs.Lists.{at}
-use Rattle.matrices.specs.Matrices.{matrixOf, Invertible}
 use Rattle.bits.proofs.laws.Lists.{tabulate-ext}
+use Rattle.matrices.specs.Matrices.{matrixOf, Invertible}
+use Rattle.inversion.specs.Elimination.{inverseOf}
 use Rattle.bundle.specs.Format.{byteMatrices}
 use Rattle.judgement.proofs.laws.Judgements.{accepted-sound}
 use Rattle.layers.proofs.laws.Code.{frame-of, byte-part-long, behind-is}

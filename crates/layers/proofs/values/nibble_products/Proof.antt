@@ -6,9 +6,9 @@ use Rattle.matrices.specs.Rows.{rowsOf}
 use Rattle.bits.proofs.laws.Filled.{Filled, filled-none, filled-more, filled-all}
 use Rattle.entries.specs.Spread.{nibbleByte}
 use native.Mathlib.Omega.{arith}
+use Rattle.entries.proofs.spread.nibble_byte.Reads as nibble-byte-reads
 use Rattle.layers.proofs.values.nibble_products.Statement.{statement}
 use Rattle.layers.proofs.values.nibble_products.Tie as tie
-use Rattle.entries.proofs.spread.nibble_byte.Reads as nibble-byte-reads
 use Rattle.layers.proofs.words.byte_by.Reads as byte-by-reads
 
 abbrev Inv-loop : tie.InvT-loop

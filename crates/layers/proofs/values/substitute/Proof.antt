@@ -3,16 +3,16 @@ use mathlib.Core.Path.{ap, _∙_}
 use Prim.Native.Nat.{ℕ, _-_}
 use lib.Bits.{bitXor}
 use Rattle.bits.specs.Lists.{at}
+use Rattle.bits.proofs.laws.Filled.{Filled, filled-none, filled-more, filled-all}
 use Rattle.matrices.specs.Matrices.{product}
 use Rattle.matrices.specs.Rows.{rowsOf}
-use Rattle.bits.proofs.laws.Filled.{Filled, filled-none, filled-more, filled-all}
 use Rattle.field.specs.Sbox.{sboxOf}
 use Rattle.layers.proofs.laws.Code.{substituted-is}
 use native.Mathlib.Omega.{arith}
-use Rattle.layers.proofs.values.substitute.Statement.{statement}
-use Rattle.layers.proofs.values.substitute.Tie as tie
 use Rattle.bits.proofs.encoding.widened.Reads as widened-reads
 use Rattle.field.proofs.sbox_table.Reads as sbox-table-reads
+use Rattle.layers.proofs.values.substitute.Statement.{statement}
+use Rattle.layers.proofs.values.substitute.Tie as tie
 use Rattle.layers.proofs.values.nibble_products.Reads as nibble-products-reads
 use Rattle.layers.proofs.values.substituted.Reads as substituted-reads
 

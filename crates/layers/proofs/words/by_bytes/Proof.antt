@@ -6,9 +6,9 @@ use lib.ListN.{length, take, length-set}
 use Rattle.bits.specs.Bytes.{byte}
 use Rattle.bits.specs.Groups.{group}
 use Rattle.bits.specs.Lists.{tabulate}
-use Rattle.matrices.specs.Matrices.{product, matrixOf}
 use Rattle.bits.specs.Words.{value}
 use Rattle.bits.proofs.laws.Lists.{fill-more}
+use Rattle.matrices.specs.Matrices.{product, matrixOf}
 use Rattle.bundle.specs.Format.{partOf}
 use Rattle.bundle.proofs.laws.Parts.{part-length}
 use Rattle.layers.proofs.laws.Code.{front-number}

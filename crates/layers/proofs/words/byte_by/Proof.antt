@@ -1,7 +1,7 @@
 -- `layers::words::byte_by` meets its contract. Assumes nothing.
 use mathlib.Core.Path.{ap, _∙_}
-use Rattle.matrices.specs.Matrices.{product}
 use Rattle.bits.specs.Words.{value}
+use Rattle.matrices.specs.Matrices.{product}
 use Rattle.matrices.specs.Rows.{rowsOf}
 use Rattle.layers.proofs.laws.Code.{low-byte}
 use borrow.Author.Needs.{needs}

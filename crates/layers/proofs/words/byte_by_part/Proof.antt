@@ -5,18 +5,18 @@ use native.Mathlib.Nat.{lt-of-lt-of-le}
 use lib.Pow.{pow-mono}
 use Rattle.bits.specs.Groups.{joined}
 use Rattle.bits.specs.Lists.{at}
-use Rattle.matrices.specs.Matrices.{productBy, matrixOf}
 use Rattle.bits.specs.Vectors.{dot}
 use Rattle.bits.specs.Words.{wide, value}
-use Rattle.matrices.proofs.laws.Matrices.{product-lt, product-next}
 use Rattle.bits.proofs.laws.Vectors.{dot-lt}
+use Rattle.matrices.specs.Matrices.{productBy, matrixOf}
+use Rattle.matrices.proofs.laws.Matrices.{product-lt, product-next}
 use Rattle.layers.proofs.laws.Code.{low-byte, part-rows}
 use native.Mathlib.Omega.{arith}
-use Rattle.layers.proofs.words.byte_by_part.Statement.{statement}
-use Rattle.layers.proofs.words.byte_by_part.Tie as tie
 use Rattle.bits.proofs.vector.byte.Reads as byte-reads
 use Rattle.bits.proofs.vector.parity.Reads as parity-reads
 use Rattle.bits.proofs.vector.push_bit.Reads as push-bit-reads
+use Rattle.layers.proofs.words.byte_by_part.Statement.{statement}
+use Rattle.layers.proofs.words.byte_by_part.Tie as tie
 use Rattle.layers.proofs.words.vector_of.Reads as vector-of-reads
 
 abbrev Inv-loop : tie.InvT-loop

@@ -5,12 +5,12 @@ use native.Mathlib.Nat.{lt-of-lt-of-le}
 use lib.Pow.{pow-mono}
 use Rattle.bits.specs.Groups.{joined}
 use Rattle.bits.specs.Lists.{at}
-use Rattle.matrices.specs.Matrices.{productBy}
 use Rattle.bits.specs.Vectors.{dot}
 use Rattle.bits.specs.Words.{wide, value}
+use Rattle.bits.proofs.laws.Vectors.{dot-lt}
+use Rattle.matrices.specs.Matrices.{productBy}
 use Rattle.matrices.specs.Rows.{rowAt, rowsOf}
 use Rattle.matrices.proofs.laws.Matrices.{product-lt, product-next, product-rows}
-use Rattle.bits.proofs.laws.Vectors.{dot-lt}
 use Rattle.matrices.proofs.laws.Rows.{at-rowsOf}
 use native.Mathlib.Omega.{arith}
 use Rattle.matrices.proofs.matrix.multiply.Statement.{statement}

@@ -4,10 +4,11 @@ use mathlib.Core.Path.{_≡_, refl, sym, ap, ap₂, _∙_}
 use Prim.Native.Nat.{ℕ, _-_, _*_, _≤_, _<_}
 use lib.ListN.{length}
 use Rattle.bits.specs.Lists.{at}
+use Rattle.bits.proofs.laws.Multiples.{row-inside}
 use Rattle.matrices.specs.Matrices.{matrixOf}
 use Rattle.matrices.specs.Rows.{setRow, stored}
 use Rattle.matrices.proofs.laws.Stored.{matrixOf-at}
-use Rattle.matrices.proofs.laws.Rows.{stored-next, row-inside}
+use Rattle.matrices.proofs.laws.Rows.{stored-next}
 use native.Mathlib.Omega.{arith}
 use Rattle.matrices.proofs.matrix.read.Statement.{statement}
 use Rattle.matrices.proofs.matrix.read.Tie as tie

@@ -7,10 +7,11 @@ use lib.ListN.{length, take, drop, length-take, length-drop}
 use lib.Seq.{take-all}
 use Rattle.bits.specs.Bytes.{bytesOf}
 use Rattle.bits.specs.Lists.{concat}
+use Rattle.bits.proofs.laws.Lists.{concat-next, concat-same, take-put}
+use Rattle.bits.proofs.laws.Multiples.{row-inside}
 use Rattle.matrices.specs.Matrices.{matrixBytes}
 use Rattle.matrices.specs.Rows.{rowAt}
-use Rattle.bits.proofs.laws.Lists.{concat-next, concat-same, take-put}
-use Rattle.matrices.proofs.laws.Rows.{row-inside, at-rowsOf}
+use Rattle.matrices.proofs.laws.Rows.{at-rowsOf}
 use native.Mathlib.Omega.{arith}
 use Rattle.matrices.proofs.matrix.write.Statement.{statement}
 use Rattle.matrices.proofs.matrix.write.Tie as tie

@@ -2,8 +2,8 @@
 use mathlib.Core.Path.{refl}
 use Prim.Native.Nat.{_-_, _/_, _%_}
 use Rattle.bits.specs.Groups.{xorAll}
-use Rattle.field.specs.Field.{mul}
 use Rattle.bits.proofs.laws.Filled.{Filled, filled-none, filled-more, filled-all}
+use Rattle.field.specs.Field.{mul}
 use Rattle.round.specs.State.{cell, entry, state, mixBy}
 use borrow.Author.Needs.{needs}
 use native.Mathlib.Omega.{arith}

@@ -4,11 +4,11 @@ use mathlib.Core.Path.{sym, ap, ap₂, _∙_}
 use Prim.Native.Nat.{ℕ, _+_, _*_}
 use lib.ListN.{length, take}
 use Rattle.bits.specs.Lists.{at, concat}
-use Rattle.matrices.specs.Rows.{rowAt}
 use Rattle.bits.proofs.laws.Lists.{length-tabulate}
+use Rattle.bits.proofs.laws.Multiples.{product-le}
+use Rattle.matrices.specs.Rows.{rowAt}
 use Rattle.matrices.proofs.laws.Rows.{row-stored}
 use Rattle.bundle.specs.Format.{encodingOf}
-use Rattle.bundle.proofs.laws.Code.{product-le}
 use Rattle.entries.specs.Spread.{combined, encodedWord}
 use Rattle.stages.proofs.laws.Encodings.{whole-encodings, encodings-in}
 use Rattle.stages.proofs.laws.Spread.{spread-is}

@@ -4,9 +4,9 @@ use Rattle.network.specs.declared.stage.Place.{Place}
 use Rattle.tables.proofs.laws.Calls.{judged-done, table-refused, table-number, table-memory, table-done, written-done}
 use native.Mathlib.Omega.{arith}
 use borrow.Author.Needs.{needs}
+use Rattle.network.proofs.stage.place_of.Reads as place-of-reads
 use Rattle.tables.proofs.calls.make_table.Statement.{statement}
 use Rattle.tables.proofs.calls.make_table.Tie as tie
-use Rattle.network.proofs.stage.place_of.Reads as place-of-reads
 use Rattle.tables.proofs.calls.fill_table.Reads as fill-table-reads
 use Rattle.tables.proofs.calls.judged.Reads as judged-reads
 
