@@ -1,10 +1,12 @@
 pub mod Lists
 pub mod Filled
+pub mod Parts
 pub mod Multiples
 pub mod Xor
 pub mod Checked
 pub mod XorAll
 pub mod Groups
+pub mod Joined
 pub mod Vectors
 pub mod Words
 pub mod Bytes

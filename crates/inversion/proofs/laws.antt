@@ -1,3 +1,4 @@
 pub mod Elimination
 pub mod Inverses
 pub mod Work
+pub mod Loops

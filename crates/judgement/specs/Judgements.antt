@@ -6,7 +6,8 @@ use lib.ListN.{length, take, drop}
 use Rattle.bits.specs.Bytes.{Bytes}
 use Rattle.bits.specs.Encodings.{Permutation}
 use Rattle.matrices.specs.Matrices.{Invertible}
-use Rattle.bundle.specs.Format.{encodings, byteMatrices, columnMatrices, partCount, partSize, offset, PairRight, partAt, encodingOf, byteMatrix, columnMatrix, inputMatrix, outputMatrix}
+use Rattle.bundle.specs.Format.{encodings, byteMatrices, columnMatrices, partCount, partSize, offset, PairRight}
+use Rattle.bundle.specs.Format.{partAt, encodingOf, byteMatrix, columnMatrix, inputMatrix, outputMatrix}
 use Rattle.bundle.specs.Frames.{InRange, Framed}
 use Rattle.bundle.specs.Search.{All, FirstBad}
 use Rattle.bundle.specs.Refusals.{causeOf}

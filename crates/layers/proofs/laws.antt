@@ -1,2 +1,7 @@
+pub mod Bases
 pub mod Code
+pub mod Inverses
 pub mod Linear
+pub mod Numbers
+pub mod Values
+pub mod Words

@@ -1,3 +1,4 @@
 pub mod Area
+pub mod Cuts
 pub mod Layers
 pub mod Whole

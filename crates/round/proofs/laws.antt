@@ -1,4 +1,5 @@
 pub mod State
+pub mod Sum
 pub mod Mix
 pub mod Key
 pub mod Expansion

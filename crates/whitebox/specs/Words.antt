@@ -1,7 +1,7 @@
 -- What each spread table makes of the byte that indexes it, decoded: the four kinds of document 01, "Spread tables". Position p = 4c+q.
 -- Definitions only.
 use mathlib.Core.List.{List}
-use Prim.Native.Nat.{ℕ, suc, _+_, _-_, _*_, _/_, _%_}
+use Prim.Native.Nat.{ℕ, suc, _+_, _*_, _/_, _%_}
 use lib.Bits.{bitXor}
 use Rattle.bits.specs.Bytes.{number, byte, bytesOf, placed}
 use Rattle.bits.specs.Lists.{tabulate}

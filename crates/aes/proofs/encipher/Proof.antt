@@ -1,11 +1,28 @@
--- `aes::encipher` meets its contract: a refused call at the first return, an accepted one at the second. Assumes nothing.
-use Rattle.aes.specs.Cipher.{Cipher, encipherOf}
-use Rattle.aes.specs.Answers.{enciphered}
-use Rattle.aes.proofs.laws.Answers.{refused, lent, done}
+-- `aes::encipher` meets its contract. The answer is what `judged` ensures. Any other than Done is returned with the block as it was (`encipher-refused` of
+-- `laws.Answers`). At Done the key and both blocks have 16 bytes, as the calls ask (`lent-key`, `lent-from`, `lent-into`), and the block is that of
+-- the cipher over the expanded key (`encipher-done`); the premises are what the calls ensure.
+-- Assumes nothing.
+use Rattle.aes.proofs.laws.Answers.{lent-key, lent-from, lent-into, encipher-refused, encipher-done}
 use borrow.Author.Needs.{needs}
 use Rattle.aes.proofs.encipher.Statement.{statement}
 use Rattle.aes.proofs.encipher.Tie as tie
 
+returns : tie.Need-returns
+returns c = search encipher-refused
+
+load-requires : tie.Need-load-requires
+load-requires c κs = search lent-key
+
+load-requires-2 : tie.Need-load-requires-2
+load-requires-2 c κs = search lent-from
+
+store-requires : tie.Need-store-requires
+store-requires c κs = search lent-into
+
+returns-2 : tie.Need-returns-2
+returns-2 c = search encipher-done
+
+-- ---- the needs that the search closes
 judged-requires : tie.Need-judged-requires
 judged-requires c κs = search needs
 
@@ -15,43 +32,14 @@ enum-told c = search needs
 same-length : tie.Need-same-length
 same-length c = search needs
 
-returns : tie.Need-returns
-unfolding enciphered
-returns c = (c .before .judged .ensures, refused _ _ _ (c .before .judged .ensures) _ (c .match .keys2))
-
-load-requires : tie.Need-load-requires
-load-requires c κs = lent _ _ _ (c .before .before .before .judged .ensures) (c .before .enum-told .given .1) .of-key
-
 expand-key-requires : tie.Need-expand-key-requires
 expand-key-requires c κs = search needs
-
-load-requires-2 : tie.Need-load-requires-2
-load-requires-2 c κs =
-    let k = c .before .before .before in
-    lent _ _ _ (k .before .before .judged .ensures) (k .enum-told .given .1) .of-from
 
 cipher-requires : tie.Need-cipher-requires
 cipher-requires c κs = search needs
 
-store-requires : tie.Need-store-requires
-store-requires c κs =
-    let k = c .before .before .before .before .before in
-    lent _ _ _ (k .before .before .judged .ensures) (k .enum-told .given .1) .of-into
-
 same-length-2 : tie.Need-same-length-2
 same-length-2 c = search needs
-
-returns-2 : tie.Need-returns-2
-unfolding enciphered encipherOf
-returns-2 c =
-    let k = c .before .before .before in
-    let l = k .before .before .before in
-    let t = l .before .before in (
-      t .before .before .judged .ensures,
-      done _ _ _ (t .before .before .judged .ensures) (Cipher 10) (t .enum-told .given .1)
-          (l .load .ensures) (k .before .before .expand-key .ensures) (k .before .load2 .ensures) (k .cipher .ensures)
-          (c .before .before .store .ensures),
-    )
 
 pub encipher-spec : {M : Type 1} → statement M
 encipher-spec =

@@ -13,7 +13,7 @@ use types.Run.{OneOf}
 use borrow.Author.Tests.{eq-eqb, ne-eqb, eqb-true}
 use Rattle.bits.specs.Bytes.{Bytes, Block}
 use Rattle.round.specs.Key.{KeyExpansion}
-use Rattle.aes.specs.Cipher.{encipherOf, decipherOf}
+use Rattle.aes.specs.Cipher.{Cipher, InvCipher, encipherOf, decipherOf}
 use Rattle.aes.specs.Answers.{unless, outcome, answerOf, enciphered, deciphered}
 use Rattle.aes.specs.Theorems.{ThereAndBack, BackAndThere}
 use Rattle.aes.specs.declared.Answer.{Answer}
@@ -56,10 +56,21 @@ accepted key from into = go (eqb (length key) 16) (eqb (length from) 16) (eqb (l
     go true false d p q r e = let z : _≡_ {A = ℕ} 0 1 = cc in absurd (omega arith)
     go true true false p q r e = let z : _≡_ {A = ℕ} 0 1 = cc in absurd (omega arith)
 
--- ---- What each return of a call comes to, from what it called.
+-- ---- What a call that was answered a has been lent, where it goes on.
+module _ (key from into : List ℕ) {a : Answer} (e : a ≡ answerOf key from into) (d : a ≡ Done) where
+  pub lent-key : length key ≡ 16
+  lent-key = accepted key from into (sym e ∙ d) .of-key
+
+  pub lent-from : length from ≡ 16
+  lent-from = accepted key from into (sym e ∙ d) .of-from
+
+  pub lent-into : length into ≡ 16
+  lent-into = accepted key from into (sym e ∙ d) .of-into
+
+-- ---- The block that a call leaves, from what it called: f is the cipher or the inverse cipher over round keys.
 module _ (key from into : List ℕ) {a : Answer} (e : a ≡ answerOf key from into) where
   -- The match found another answer than Done, whose tag is 0.
-  pub refused : (x : List ℕ) → OneOf (1 ∷ 2 ∷ []) (tagOf the-type a) → into ≡ outcome (answerOf key from into) x into
+  refused : (x : List ℕ) → OneOf (1 ∷ 2 ∷ []) (tagOf the-type a) → into ≡ outcome (answerOf key from into) x into
   refused x o = kept a o ∙ ap (λ (z : Answer). outcome z x into) e
     where
       kept : (b : Answer) → OneOf (1 ∷ 2 ∷ []) (tagOf the-type b) → into ≡ outcome b x into
@@ -68,14 +79,29 @@ module _ (key from into : List ℕ) {a : Answer} (e : a ≡ answerOf key from in
       kept KeyLength o = refl
       kept BlockLength o = refl
 
-  pub lent : a ≡ Done → Lengths key from into
-  lent d = accepted key from into (sym e ∙ d)
-
-  pub done : (f : List ℕ → List ℕ → List ℕ) {k w s t o : List ℕ} → a ≡ Done → k ≡ key → w ≡ KeyExpansion 4 k → s ≡ from → t ≡ f w s → o ≡ t
+  done : (f : List ℕ → List ℕ → List ℕ) {k w s t o : List ℕ} → a ≡ Done → k ≡ key → w ≡ KeyExpansion 4 k → s ≡ from → t ≡ f w s → o ≡ t
       → o ≡ outcome (answerOf key from into) (f (KeyExpansion 4 key) from) into
   done f {o = o} d p q r u v =
       let y : o ≡ f (KeyExpansion 4 key) from = cc in
       y ∙ ap (λ (z : Answer). outcome z (f (KeyExpansion 4 key) from) into) (sym d ∙ e)
+
+  pub encipher-refused : OneOf (1 ∷ 2 ∷ []) (tagOf the-type a) → into ≡ enciphered key from into
+  unfolding enciphered
+  encipher-refused = refused (encipherOf 4 key from)
+
+  pub decipher-refused : OneOf (1 ∷ 2 ∷ []) (tagOf the-type a) → into ≡ deciphered key from into
+  unfolding deciphered
+  decipher-refused = refused (decipherOf 4 key from)
+
+  pub encipher-done : {k w s t o : List ℕ} → a ≡ Done → k ≡ key → w ≡ KeyExpansion 4 k → s ≡ from → t ≡ Cipher 10 w s → o ≡ t
+      → o ≡ enciphered key from into
+  unfolding enciphered encipherOf
+  encipher-done = done (Cipher 10)
+
+  pub decipher-done : {k w s t o : List ℕ} → a ≡ Done → k ≡ key → w ≡ KeyExpansion 4 k → s ≡ from → t ≡ InvCipher 10 w s → o ≡ t
+      → o ≡ deciphered key from into
+  unfolding deciphered decipherOf
+  decipher-done = done (InvCipher 10)
 
 -- ---- One call undoes the other.
 module _ (key from into again : List ℕ) (e : answerOf key from into ≡ Done) (l : length again ≡ 16) (p : Bytes from) where

@@ -11,5 +11,8 @@ use Rattle.aes.specs.Cipher.{rounds, Cipher, encipherOf}
 use Rattle.aes_vectors.specs.Examples.{block, key, Examples}
 
 pub examples : Examples
-unfolding block key tabulate xorAll xtime times mul squares inverse turn affine sboxOf rcon wordAt RotWord SubWord xorWord Rcon temp nextWord expand KeyExpansion keyOf state SubBytes ShiftRows MixColumns mixBy mixRows AddRoundKey rounds Cipher encipherOf
+unfolding
+    block key tabulate xorAll xtime times mul squares inverse turn affine sboxOf
+    rcon wordAt RotWord SubWord xorWord Rcon temp nextWord expand KeyExpansion keyOf
+    state SubBytes ShiftRows MixColumns mixBy mixRows AddRoundKey rounds Cipher encipherOf
 examples = record { c-2 = refl; c-3 = refl }

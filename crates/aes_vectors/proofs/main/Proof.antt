@@ -1,4 +1,6 @@
--- `aes_vectors::main` ends: each turn reads one record of at most 1,024. Assumes nothing.
+-- `aes_vectors::main` ensures nothing: what is left is that it ends and lends arrays of 16 bytes. The invariant: at most 1,024 records were read. Each
+-- turn reads one, and the measure is the number left; at the end of the input it breaks off.
+-- Assumes nothing.
 use Prim.Native.Nat.{_-_, _≤_}
 use borrow.Author.Needs.{needs}
 use Rattle.aes_vectors.proofs.main.Statement.{statement}
@@ -10,6 +12,7 @@ Inv-loop records₀ records = records ≤ 1024
 abbrev μ-loop : tie.MeasureT-loop
 μ-loop records₀ records = 1024 - records
 
+-- ---- the needs that the search closes
 loop-holds : tie.Need-loop-holds Inv-loop μ-loop
 loop-holds c = search needs
 

@@ -1,12 +1,13 @@
 -- Laws, not definitions: numbers as bytes and back.
 -- Assumes nothing.
 use mathlib.Core.List.{List}
-use mathlib.Core.Path.{_≡_, _∙_}
-use Prim.Native.Nat.{ℕ, _*_, _^_, _<_}
+use mathlib.Core.Path.{_≡_, ap, _∙_}
+use Prim.Native.Nat.{ℕ, suc, _-_, _*_, _/_, _%_, _^_, _<_}
+use native.Mathlib.Omega.{arith}
 use lib.Dec.{lit<}
 use lib.ListN.{length}
-use Rattle.bits.specs.Bytes.{Bytes, Block, number, byte, numberOf, bytesOf, placed}
-use Rattle.bits.specs.Groups.{xorAll}
+use Rattle.bits.specs.Bytes.{Bytes, Block, byte, numberOf, bytesOf, placed}
+use Rattle.bits.specs.Groups.{group, xorAll}
 use Rattle.bits.specs.Lists.{at}
 use Rattle.bits.proofs.laws.Groups.{group-lt, joined-lt, joined-same, joined-group, group-joined, xor-placed}
 use Rattle.bits.proofs.laws.Lists.{length-tabulate, at-tabulate, tabulate-below, ext-at}
@@ -14,6 +15,13 @@ use Rattle.bits.proofs.laws.Lists.{length-tabulate, at-tabulate, tabula
 -- ---- numbers
 pub byte-lt : (n i v : ℕ) → byte n i v < 256
 byte-lt n i v = group-lt 8 n i v
+
+-- Byte i of n, counted from the bottom.
+pub byte-from-bottom : (n i v r : ℕ) → r ≡ v / 2 ^ (8 * (n - 1 - i)) % 256 → r ≡ byte n i v
+unfolding group
+byte-from-bottom n i v r e =
+    let place : n - 1 - i ≡ n - suc i = omega arith in
+    e ∙ ap (λ (x : ℕ). v / 2 ^ (8 * x) % 256) place
 
 pub numberOf-lt : (n : ℕ) (l : List ℕ) → Bytes l → numberOf n l < 2 ^ (8 * n)
 numberOf-lt n l b = joined-lt 8 n (at l) (λ i h. b i)

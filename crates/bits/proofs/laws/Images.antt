@@ -1,6 +1,6 @@
 -- Laws, not definitions: nibbles and the images of an encoding as the code reads them, and its search for an image.
 -- Assumes nothing.
-use mathlib.Core.List.{List}
+use mathlib.Core.List.{List, _∷_}
 use mathlib.Core.Path.{_≡_, refl, sym, ap, _∙_}
 use Prim.Native.Nat.{ℕ, zero, suc, _+_, _/_, _%_, _≤_, _<_}
 use native.Mathlib.Nat.{zero-add}
@@ -40,31 +40,43 @@ pub images-long : (p : List ℕ) → length (imagesOf p) ≡ 16
 unfolding imagesOf
 images-long p = length-tabulate 16 (nibble p)
 
--- ---- the search for an image: those before place i are passed
-unfoldable pub Passed : List ℕ → ℕ → ℕ → Type 0
-Passed l y i = decode l y ≡ i + decode (drop i l) y
+pub image-past : (p : List ℕ) (v : ℕ) → 16 ≤ v → 0 ≡ at (imagesOf p) v
+image-past p v h = sym (at-past (imagesOf p) v (omega (arith, images-long p)))
 
-module _ (l : List ℕ) (y : ℕ) where
-  pub passed-none : Passed l y 0
-  unfolding Passed
-  passed-none = sym (zero-add (decode l y))
+pub image-read : (p : List ℕ) (v q r : ℕ) → v < 16 → q ≡ v → r ≡ nibble p q → r ≡ at (imagesOf p) v
+image-read p v q r h e f = f ∙ ap (nibble p) e ∙ sym (image-at p v h)
 
-  module _ (i : ℕ) (h : i < length l) where
-    pub passed-more : (at l i ≡ y → ⊥) → Passed l y i → Passed l y (i + 1)
-    unfolding Passed decode
-    passed-more ne p =
-        let q : decode (drop i l) y ≡ suc (decode (drop (suc i) l) y) = ap (λ (x : List ℕ). decode x y) (drop-cons l i 0 h) ∙ rw (ne-eqb (at l i) y ne) in
-        let r : decode (drop (i + 1) l) y ≡ decode (drop (suc i) l) y = ap (λ (k : ℕ). decode (drop k l) y) (add-one i) in
-        omega (arith, p, q, r)
+-- ---- the search for an image: of the first i images none is y, so the first one that is y is found among the others
+pub record Passed (p : List ℕ) (y i : ℕ) : Type 0 where
+  pub within : i ≤ 16
+  pub others : decode (imagesOf p) y ≡ i + decode (drop i (imagesOf p)) y
 
-    pub passed-here : at l i ≡ y → Passed l y i → i ≡ decode l y
-    unfolding Passed decode
-    passed-here e p =
-        let q : decode (drop i l) y ≡ 0 = ap (λ (x : List ℕ). decode x y) (drop-cons l i 0 h) ∙ rw (eq-eqb (at l i) y e) in
-        omega (arith, p, q)
+pub passed-none : {p : List ℕ} {y : ℕ} → Passed p y 0
+passed-none {p} {y} = record { within = omega arith; others = sym (zero-add (decode (imagesOf p) y)) }
 
-  pub passed-all : (i n : ℕ) → length l ≡ n → i ≡ n → Passed l y i → n ≡ decode l y
-  unfolding Passed decode
-  passed-all i n e k p =
-      let q : decode (drop i l) y ≡ 0 = ap (λ (x : List ℕ). decode x y) (drop-of-length-le l {i = i} (omega arith)) in
-      omega (arith, p, q)
+-- The others, where there are some: the image of i and those behind it.
+next : (p : List ℕ) (y i : ℕ) → i < 16 → decode (drop i (imagesOf p)) y ≡ decode (at (imagesOf p) i ∷ drop (i + 1) (imagesOf p)) y
+next p y i h =
+    let some : i < length (imagesOf p) = omega (arith, images-long p) in
+    rw (add-one, drop-cons (imagesOf p) i 0)
+
+module _ {p : List ℕ} {y i : ℕ} (g : Passed p y i) where
+  pub passed-more : {x : ℕ} → i < 16 → x ≡ at (imagesOf p) i → (x ≡ y → ⊥) → Passed p y (i + 1)
+  unfolding decode
+  passed-more h e ne =
+      let one : decode (drop i (imagesOf p)) y ≡ suc (decode (drop (i + 1) (imagesOf p)) y) =
+      next p y i h ∙ rw (ne-eqb (at (imagesOf p) i) y (λ q. ne (e ∙ q))) in
+      record { within = omega arith; others = omega (arith, g .others) }
+
+  pub passed-here : {x : ℕ} → i < 16 → x ≡ at (imagesOf p) i → x ≡ y → i ≡ decode (imagesOf p) y
+  unfolding decode
+  passed-here h e f =
+      let none : decode (drop i (imagesOf p)) y ≡ 0 = next p y i h ∙ rw (eq-eqb (at (imagesOf p) i) y (sym e ∙ f)) in
+      omega (arith, g .others)
+
+  pub passed-all : 16 ≤ i → 16 ≡ decode (imagesOf p) y
+  unfolding decode
+  passed-all h =
+      let none : decode (drop i (imagesOf p)) y ≡ 0 =
+      ap (λ (l : List ℕ). decode l y) (drop-of-length-le (imagesOf p) {i = i} (omega (arith, images-long p))) in
+      omega (arith, g .others)

@@ -1,13 +1,12 @@
 -- Laws, not definitions: two words as one number.
 -- Assumes nothing.
-use mathlib.Core.Path.{_≡_, sym, ap, _∙_, subst}
+use mathlib.Core.Path.{_≡_, refl, sym, ap, ap₂, _∙_, subst}
 use Prim.Native.Nat.{ℕ, _+_, _-_, _*_, _/_, _%_, _^_, _≤_, _<_}
 use native.Mathlib.Nat.{mul-assoc, mul-add, zero-mul, one-mul, mod-eq-of-lt, zero-add, add-zero, add-comm, add-mul-div-right, add-mul-mod-self-right}
 use native.Mathlib.Omega.{arith}
-use lib.Bits.{bitAnd, bitXor, and-block, xor-block, and-lt, and-zero-r, and-mask}
-use lib.Count.{ones, ones-cat}
+use lib.Bits.{bitAnd, bitXor, and-block, xor-block, and-lt, xor-lt, and-zero-r, and-mask}
+use lib.Count.{ones, ones-cat, ones-le}
 use lib.Pow.{high, split, shr-shr, shr-lt, pow-pos, pow-lt, pow-add}
-use Rattle.bits.specs.Lists.{at}
 use Rattle.bits.specs.Vectors.{dot}
 use Rattle.bits.specs.Words.{wide}
 use Rattle.bits.proofs.laws.Xor.{two, ones-xor, sum-both}
@@ -21,6 +20,12 @@ dot-wide hi lo vhi vlo h k =
     ∙ sum-both (ones (bitAnd hi vhi)) (ones (bitAnd lo vlo))
     ∙ ap (λ (x : ℕ). x % 2)
     (sym (ones-cat 64 (bitAnd hi vhi) (bitAnd lo vlo) (and-lt 64 lo vlo h k)) ∙ ap ones (sym (and-block 64 hi vhi lo vlo h k)))
+
+-- The ones of one word that hold those of two.
+pub ones-both : (hi lo vhi vlo : ℕ) → hi < 2 ^ 64 → lo < 2 ^ 64 → vhi < 2 ^ 64 → vlo < 2 ^ 64
+    → ones (bitXor (bitAnd hi vhi) (bitAnd lo vlo)) ≤ 64
+ones-both hi lo vhi vlo h l vh vl =
+    ones-le 64 (bitXor (bitAnd hi vhi) (bitAnd lo vlo)) (xor-lt 64 _ _ (and-lt 64 hi vhi h vh) (and-lt 64 lo vlo l vl))
 
 -- m bits at place s that lie in the low word, or in the high one.
 pub bits-low : (m hi lo s : ℕ) → s + m ≤ 64 → lo / 2 ^ s % 2 ^ m ≡ wide hi lo / 2 ^ s % 2 ^ m
@@ -63,6 +68,12 @@ xor-wide hi lo c vhi vlo h k g =
     sym (xor-block 64 hi (c * vhi) lo (c * vlo) h (scaled c vlo k g))
     ∙ ap (bitXor (hi * 2 ^ 64 + lo)) (ap (λ (x : ℕ). x + c * vlo) (mul-assoc c vhi (2 ^ 64)) ∙ sym (mul-add c (vhi * 2 ^ 64) vlo))
 
+-- Word by word, where x and y are c times the words of the second number.
+pub added-words : (hi lo c vhi vlo x y : ℕ) → lo < 2 ^ 64 → c < 2 → vlo < 2 ^ 64 → x ≡ c * vhi → y ≡ c * vlo
+    → wide (bitXor hi x) (bitXor lo y) ≡ bitXor (wide hi lo) (c * wide vhi vlo)
+added-words hi lo c vhi vlo x y h k g e f =
+    ap₂ (λ (x y : ℕ). wide (bitXor hi x) (bitXor lo y)) e f ∙ xor-wide hi lo c vhi vlo h k g
+
 -- The high word of a number of fewer bits.
 pub high-lt : (j hi lo : ℕ) → wide hi lo < 2 ^ (j + 64) → lo < 2 ^ 64 → hi < 2 ^ j
 unfolding wide
@@ -83,6 +94,11 @@ power-high s h k =
     ∙ ap (λ (x : ℕ). x * 2 ^ 64) (shifted (s - 64) (omega arith))
     ∙ sym (pow-add 2 (s - 64) 64)
     ∙ ap (λ (x : ℕ). 2 ^ x) (omega arith)
+
+-- Two words 0.
+pub wide-zero : wide 0 0 ≡ 0
+unfolding wide
+wide-zero = refl
 
 -- The two words of a number.
 pub wide-split : (v : ℕ) → wide (v / 2 ^ 64) (v % 2 ^ 64) ≡ v

@@ -1,8 +1,8 @@
 -- Laws, not definitions: the definitions as the code meets them, by the test of a branch.
 -- Assumes nothing.
-use mathlib.Core.Bool.{true, false, not}
+use mathlib.Core.Bool.{true, false}
 use mathlib.Core.List.{List, []}
-use mathlib.Core.Path.{_≡_, refl, sym, ap, _∙_}
+use mathlib.Core.Path.{_≡_, refl, sym, ap, ap₂, _∙_}
 use Prim.Native.Nat.{ℕ, zero, suc, _+_, _-_, _*_, _/_, _≤_, _<_}
 use native.Mathlib.Nat.{mul-le-mul-right, zero-mul}
 use native.Mathlib.Omega.{arith}
@@ -12,18 +12,68 @@ use Rattle.bits.specs.Bytes.{Bytes, number}
 use Rattle.bits.specs.Lists.{at}
 use Rattle.bits.specs.Words.{wide}
 use Rattle.bits.proofs.laws.Groups.{joined-lt}
-use Rattle.bits.proofs.laws.Multiples.{multiple-of}
-use Rattle.bundle.specs.Format.{partAt, partCount, partSize, sectionLength, shortest, longest, numberAt, offset, stated, endBefore, pairBad, lengthBad, frame, sectionOf, partOf}
+use Rattle.bits.proofs.laws.Multiples.{multiple-of, product-le}
+use Rattle.bundle.specs.Format.{encodings, tenEncodings, byteMatrices, columnMatrices, partCount, partSize, sectionLength, shortest, longest}
+use Rattle.bundle.specs.Format.{numberAt, offset, stated, endBefore, pairBad, lengthBad, frame, sectionOf, partOf, partAt}
 use Rattle.bundle.specs.Refusals.{unlessAt}
 use Rattle.bundle.specs.Search.{first}
 use Rattle.bundle.specs.declared.answer.Found.{Found}
+use Rattle.bundle.specs.declared.answer.Found.the-variants.{At, Nothing}
 use Rattle.bundle.specs.declared.answer.Judgement.{Judgement}
 use Rattle.bundle.specs.declared.answer.Judgement.the-variants.{Accepted, Refused}
+use Rattle.bundle.specs.declared.answer.Refusal.{Refusal}
 use Rattle.bundle.specs.declared.answer.Refusal.the-variants.{Length, Pair}
-use Rattle.bundle.proofs.laws.Frame.{right-good, range-good, section-is, section-none, section-fits, section-length}
+use Rattle.bundle.proofs.laws.Frame.{sizes, framed, right-good, range-good, section-is, section-none, section-fits, section-length}
 use Rattle.bundle.proofs.laws.Parts.{part-none, part-long}
 
--- ---- sizes and numbers
+-- ---- a section from 3 on holds one block matrix
+block-size : (s : ℕ) → 3 ≤ s → partSize s ≡ 2048
+unfolding partSize
+block-size s h = let e : suc (suc (suc (s - 3))) ≡ s = omega arith in ap partSize (sym e)
+
+pub block-count : (nr s : ℕ) → 3 ≤ s → partCount nr s ≡ 1
+unfolding partCount
+block-count nr s h = let e : suc (suc (suc (s - 3))) ≡ s = omega arith in ap (partCount nr) (sym e)
+
+-- ---- sizes, by the arms of the code's `match`; the numbers are those for ten rounds
+module _ (s : ℕ) where
+  pub count-encodings : 0 ≡ s → (6048 ≡ partCount 10 s) × (6048 ≤ tenEncodings)
+  unfolding partCount encodings
+  count-encodings e = (ap (partCount 10) e, omega arith)
+
+  pub count-bytes : 1 ≡ s → (160 ≡ partCount 10 s) × (160 ≤ tenEncodings)
+  unfolding partCount byteMatrices
+  count-bytes e = (ap (partCount 10) e, omega arith)
+
+  pub count-columns : 2 ≡ s → (36 ≡ partCount 10 s) × (36 ≤ tenEncodings)
+  unfolding partCount columnMatrices
+  count-columns e = (ap (partCount 10) e, omega arith)
+
+  pub count-block : 3 ≤ s → (1 ≡ partCount 10 s) × (1 ≤ tenEncodings)
+  count-block h = (sym (block-count 10 s h), omega arith)
+
+  pub size-encoding : 0 ≡ s → (8 ≡ partSize s) × (1 ≤ 8) × (8 ≤ 2048)
+  unfolding partSize
+  size-encoding e = (ap partSize e, omega arith, omega arith)
+
+  pub size-byte : 1 ≡ s → (8 ≡ partSize s) × (1 ≤ 8) × (8 ≤ 2048)
+  unfolding partSize
+  size-byte e = (ap partSize e, omega arith, omega arith)
+
+  pub size-column : 2 ≡ s → (128 ≡ partSize s) × (1 ≤ 128) × (128 ≤ 2048)
+  unfolding partSize
+  size-column e = (ap partSize e, omega arith, omega arith)
+
+  pub size-block : 3 ≤ s → (2048 ≡ partSize s) × (1 ≤ 2048) × (2048 ≤ 2048)
+  size-block h = (sym (block-size s h), omega arith, omega arith)
+
+  -- A section's length, of the count and the size that the code has.
+  pub section-counted : {count size : ℕ} → (count ≡ partCount 10 s) × (count ≤ tenEncodings)
+      → (size ≡ partSize s) × (1 ≤ size) × (size ≤ 2048) → (count * size ≡ sectionLength 10 s) × (count * size ≤ 12386304)
+  unfolding sectionLength
+  section-counted c z = (ap₂ _*_ (c .0) (z .0), product-le _ _ 6048 2048 (c .1) (z .2))
+
+-- ---- numbers
 -- The number of four bytes lies in the low word.
 pub low-word : (l : List ℕ) (a hi lo : ℕ) → Bytes l → wide hi lo ≡ number 4 (λ j. at l (a + j)) → (lo ≡ numberAt l a) × (lo < 4294967296)
 unfolding wide numberAt
@@ -36,51 +86,81 @@ pub before-first : (l : List ℕ) (i : ℕ) → i ≡ 0 → 40 ≡ endBefore l i
 unfolding endBefore
 before-first l i e = ap (endBefore l) (sym e)
 
-pub before-next : (l : List ℕ) (i : ℕ) → (i ≡ 0 → ⊥) → offset l (i - 1) + stated l (i - 1) ≡ endBefore l i
+-- o and n are offset and length of the pair before.
+pub before-next : (l : List ℕ) (i : ℕ) {o n : ℕ} → (i ≡ 0 → ⊥) → o ≡ offset l (i - 1) → n ≡ stated l (i - 1) → o + n ≡ endBefore l i
 unfolding endBefore
-before-next l zero e = absurd (e refl)
-before-next l (suc i) e = let k : suc i - 1 ≡ i = omega arith in rw k
+before-next l zero e p q = absurd (e refl)
+before-next l (suc i) e p q = let k : suc i - 1 ≡ i = omega arith in ap₂ _+_ p q ∙ rw k
 
-module _ (nr : ℕ) (l : List ℕ) (i : ℕ) where
-  pub pair-length : (stated l i ≡ sectionLength nr i → ⊥) → true ≡ pairBad nr l i
+-- Pair i has the offset o and the length n; its section has `want` bytes and has to start behind `start`.
+module _ (nr : ℕ) (l : List ℕ) (i : ℕ) {n want : ℕ} (en : n ≡ stated l i) (ew : want ≡ sectionLength nr i) where
+  pub pair-length : (n ≡ want → ⊥) → true ≡ pairBad nr l i
   unfolding pairBad
-  pair-length a = simp (ne-eqb _ _ a)
+  pair-length a = simp (ne-eqb (stated l i) (sectionLength nr i) (λ e. a (en ∙ e ∙ sym ew)))
 
-  module _ (a : stated l i ≡ sectionLength nr i) where
-    pub pair-order : offset l i < endBefore l i → true ≡ pairBad nr l i
+  module _ (a : n ≡ want) {o start : ℕ} (eo : o ≡ offset l i) (es : start ≡ endBefore l i) where
+    pub pair-order : o < start → true ≡ pairBad nr l i
     unfolding pairBad
-    pair-order b = simp (eq-eqb _ _ a, lt-ltb _ _ b)
+    pair-order b = simp (eq-eqb (stated l i) (sectionLength nr i) (sym en ∙ a ∙ ew), lt-ltb (offset l i) (endBefore l i) (omega arith))
 
-    pub pair-end : endBefore l i ≤ offset l i → length l < offset l i + stated l i → true ≡ pairBad nr l i
+    pub pair-end : start ≤ o → length l < o + n → true ≡ pairBad nr l i
     unfolding pairBad
-    pair-end b c = simp (eq-eqb _ _ a, le-ltb _ _ b, lt-ltb _ _ c)
+    pair-end b c =
+        simp (
+          eq-eqb (stated l i) (sectionLength nr i) (sym en ∙ a ∙ ew),
+          le-ltb (offset l i) (endBefore l i) (omega arith),
+          lt-ltb (length l) (offset l i + stated l i) (omega arith),
+        )
 
-    pub pair-right : endBefore l i ≤ offset l i → offset l i + stated l i ≤ length l → false ≡ pairBad nr l i
-    pair-right b c = sym (right-good nr l i (record { long = a; behind = b; within = c }))
+    pub pair-right : start ≤ o → o + n ≤ length l → false ≡ pairBad nr l i
+    pair-right b c =
+        sym (right-good nr l i (record { long = sym en ∙ a ∙ ew; behind = omega arith; within = omega arith }))
 
--- ---- the frame
+-- ---- the frame, with the two lengths that the code has
+module _ (l : List ℕ) where
+  pub frame-short : length l < 58408 → Refused Length ≡ frame 10 l
+  unfolding frame lengthBad
+  frame-short a = simp (lt-ltb (length l) (shortest 10) (omega (arith, sizes .low)))
+
+  module _ (a : 58408 ≤ length l) where
+    pub frame-long : 65536 < length l → Refused Length ≡ frame 10 l
+    unfolding frame lengthBad
+    frame-long b =
+        simp (le-ltb (length l) (shortest 10) (omega (arith, sizes .low)), lt-ltb (longest 10) (length l) (omega (arith, sizes .high)))
+
+    -- The length is in range, and the search for a bad pair found f.
+    module _ (b : length l ≤ 65536) {f : Found} (e : f ≡ first 5 (pairBad 10 l)) where
+      found : unlessAt f Pair Accepted ≡ frame 10 l
+      unfolding frame
+      found =
+          let range = range-good 10 l (record { low = omega (arith, sizes .low); high = omega (arith, sizes .high) }) in
+          rw (range, ← e)
+
+      pub frame-pair : {i : ℕ} → f ≡ At i → Refused (Pair i) ≡ frame 10 l
+      frame-pair q = ap (λ (x : Found). unlessAt x Pair Accepted) (sym q) ∙ found
+
+      pub frame-right : f ≡ Nothing → Accepted ≡ frame 10 l
+      frame-right q = ap (λ (x : Found). unlessAt x Pair Accepted) (sym q) ∙ found
+
+-- ---- sections and parts; j is the judgement of the frame
+-- A bundle with neither cause 2 nor cause 3 has its five pairs.
+pub pairs-there : (l : List ℕ) {j : Judgement} → j ≡ frame 10 l → j ≡ Accepted → 40 ≤ length l
+pairs-there l f t = omega (arith, sizes .low, framed 10 l (sym f ∙ t) .range .low)
+
+module _ (nr : ℕ) (l : List ℕ) (s : ℕ) {j : Judgement} (f : j ≡ frame nr l) where
+  pub section-empty : {r : Refusal} → j ≡ Refused r → [] ≡ sectionOf nr l s
+  section-empty t = sym (section-none nr l _ (sym f ∙ t) s)
+
+  module _ (t : j ≡ Accepted) {a n : ℕ} (p : a ≡ offset l s) (q : n ≡ sectionLength nr s) where
+    pub section-cut : take ((a + n) - a) (drop a l) ≡ sectionOf nr l s
+    section-cut =
+        let z : (a + n) - a ≡ n = omega arith in
+        rw (z, p, q) (sym (section-is nr l (sym f ∙ t) s))
+
+    pub section-end : s < 5 → a + n ≤ length l
+    section-end h = rw (p, q) (section-fits nr l (sym f ∙ t) s h)
+
 module _ (nr : ℕ) (l : List ℕ) where
-  pub frame-short : length l < shortest nr → Refused Length ≡ frame nr l
-  unfolding frame lengthBad
-  frame-short a = simp (lt-ltb (length l) (shortest nr) a)
-
-  pub frame-long : shortest nr ≤ length l → longest nr < length l → Refused Length ≡ frame nr l
-  unfolding frame lengthBad
-  frame-long a b = simp (le-ltb (length l) (shortest nr) a, lt-ltb (longest nr) (length l) b)
-
-  pub frame-pairs : shortest nr ≤ length l → length l ≤ longest nr → (f : Found) → first 5 (pairBad nr l) ≡ f → unlessAt f Pair Accepted ≡ frame nr l
-  unfolding frame
-  frame-pairs a b f e = rw (range-good nr l (record { low = a; high = b }), e)
-
-  -- ---- sections and parts
-  pub section-cut : frame nr l ≡ Accepted → (s a n : ℕ) → a ≡ offset l s → n ≡ sectionLength nr s → take ((a + n) - a) (drop a l) ≡ sectionOf nr l s
-  section-cut e s a n p q =
-      let z : (a + n) - a ≡ n = omega arith in
-      rw (z, p, q) (sym (section-is nr l e s))
-
-  pub section-end : frame nr l ≡ Accepted → (s a n : ℕ) → s < 5 → a ≡ offset l s → n ≡ sectionLength nr s → a + n ≤ length l
-  section-end e s a n h p q = rw (p, q) (section-fits nr l e s h)
-
   -- A section's length is a multiple of its parts' size, also where it is empty.
   multiple-by : (s : ℕ) → s < 5 → 0 < partSize s → (j : Judgement) → frame nr l ≡ j → length (sectionOf nr l s) / partSize s * partSize s ≡ length (sectionOf nr l s)
   unfolding sectionLength
@@ -90,19 +170,15 @@ module _ (nr : ℕ) (l : List ℕ) where
   pub multiple : (s : ℕ) → s < 5 → 0 < partSize s → length (sectionOf nr l s) / partSize s * partSize s ≡ length (sectionOf nr l s)
   multiple s h p = multiple-by s h p (frame nr l) refl
 
+  -- What `part` asks, of the section and the size that the code has.
+  pub parts-asked : (s : ℕ) {size : ℕ} {t : List ℕ} → s < 5 → t ≡ sectionOf nr l s → (size ≡ partSize s) × (1 ≤ size) × (size ≤ 2048)
+      → (1 ≤ size) × (length t / size * size ≡ length t)
+  parts-asked s h e z = (z .1, rw (e, z .0) (multiple s h (omega arith)))
+
 pub past : (size : ℕ) (s : List ℕ) (n : ℕ) → length s / size * size ≡ length s → length s / size ≤ n → [] ≡ partOf size s n
 past size s n e h =
     let m : length s / size * size ≤ n * size = mul-le-mul-right size h in
     sym (part-none size s n (omega arith))
-
--- ---- block matrices
-block-size : (s : ℕ) → 3 ≤ s → partSize s ≡ 2048
-unfolding partSize
-block-size s h = let e : suc (suc (suc (s - 3))) ≡ s = omega arith in ap partSize (sym e)
-
-pub block-count : (nr s : ℕ) → 3 ≤ s → partCount nr s ≡ 1
-unfolding partCount
-block-count nr s h = let e : suc (suc (suc (s - 3))) ≡ s = omega arith in ap (partCount nr) (sym e)
 
 -- A block matrix has 2,048 bytes.
 pub block-room : (nr : ℕ) (l : List ℕ) (s : ℕ) → frame nr l ≡ Accepted → 3 ≤ s → s < 5 → (p : List ℕ) → p ≡ partAt nr l s 0 → 2048 ≤ length p

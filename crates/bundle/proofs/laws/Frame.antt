@@ -8,7 +8,8 @@ use native.Mathlib.Omega.{arith}
 use lib.Dec.{eqb, ltb}
 use lib.ListN.{length, take, drop, length-take, length-drop}
 use borrow.Author.Tests.{not-false, eqb-true, ltb-false, eq-eqb, le-ltb}
-use Rattle.bundle.specs.Format.{encodings, byteMatrices, columnMatrices, partCount, partSize, sectionLength, shortest, longest, offset, stated, endBefore, PairRight, pairBad, lengthBad, frame, sectionOf}
+use Rattle.bundle.specs.Format.{encodings, byteMatrices, columnMatrices, partCount, partSize, sectionLength, shortest, longest}
+use Rattle.bundle.specs.Format.{offset, stated, endBefore, PairRight, pairBad, lengthBad, frame, sectionOf}
 use Rattle.bundle.specs.Frames.{Sizes, InRange, Framed, Apart}
 use Rattle.bundle.specs.Refusals.{unless, unlessAt}
 use Rattle.bundle.specs.Search.{first}

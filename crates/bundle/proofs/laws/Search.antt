@@ -1,7 +1,7 @@
--- Laws, not definitions: what the search for the first number finds, and one turn of a loop that searches.
+-- Laws, not definitions: what the search for the first number finds, and a loop that searches.
 -- Assumes nothing.
 use mathlib.Core.Bool.{Bool, true, false}
-use mathlib.Core.Path.{_≡_, refl, ap, subst}
+use mathlib.Core.Path.{_≡_, refl, sym, ap, _∙_, subst}
 use Prim.Native.Nat.{ℕ, zero, suc, _+_, _-_, _≤_, _<_}
 use native.Mathlib.Decide.{ℕ-discrete, decLt}
 use native.Mathlib.Numerals.{add-one}
@@ -69,20 +69,27 @@ module _ (count : ℕ) (p : ℕ → Bool) (Good : ℕ → Type 0) (to : (i : ℕ
   bad-at n B =
       is (At n) (omega arith, omega (arith, B .below), not-false-true (p n) (λ e. B .here (to n e)), λ i h j. from i (B .before i j))
 
--- ---- one turn of a loop that searches
-module _ (m n : ℕ) (p : ℕ → Bool) (h : n < m) where
-  pub first-no : p n ≡ false → firstFrom (m - n) n p ≡ firstFrom (m - (n + 1)) (n + 1) p
-  unfolding firstFrom
-  first-no e = let k : m - n ≡ suc (m - (n + 1)) = omega arith in rw (k, e, add-one n)
+-- ---- a loop that searches: none of the first n numbers is picked, and what is left has the answer of the whole
+pub record Searched (count : ℕ) (p : ℕ → Bool) (n : ℕ) : Type 0 where
+  pub within : n ≤ count
+  pub same : first count p ≡ firstFrom (count - n) n p
 
-  pub first-yes : p n ≡ true → firstFrom (m - n) n p ≡ At n
-  unfolding firstFrom
-  first-yes e = let k : m - n ≡ suc (m - (n + 1)) = omega arith in rw (k, e)
-
-pub first-end : (m n : ℕ) (p : ℕ → Bool) → m ≤ n → firstFrom (m - n) n p ≡ Nothing
-unfolding firstFrom
-first-end m n p h = let k : m - n ≡ 0 = omega arith in rw k
-
-pub first-start : (m : ℕ) (p : ℕ → Bool) → first m p ≡ firstFrom (m - 0) 0 p
+pub searched-none : (count : ℕ) (p : ℕ → Bool) → Searched count p 0
 unfolding first
-first-start m p = let k : m - 0 ≡ m = omega arith in rw k
+searched-none count p = let k : count - 0 ≡ count = omega arith in record { within = omega arith; same = rw k }
+
+-- Number n is tested, and r is what the test says.
+module _ {count n : ℕ} {p : ℕ → Bool} {r : Bool} (I : Searched count p n) (h : n < count) (e : r ≡ p n) where
+  pub searched-here : r ≡ true → At n ≡ first count p
+  unfolding firstFrom
+  searched-here t = let k : count - n ≡ suc (count - (n + 1)) = omega arith in sym (I .same ∙ rw (k, ← e, t))
+
+  pub searched-next : r ≡ false → Searched count p (n + 1)
+  unfolding firstFrom
+  searched-next t =
+      let k : count - n ≡ suc (count - (n + 1)) = omega arith in
+      record { within = omega arith; same = I .same ∙ rw (k, ← e, t, add-one n) }
+
+pub searched-all : {count n : ℕ} {p : ℕ → Bool} → Searched count p n → count ≤ n → Nothing ≡ first count p
+unfolding firstFrom
+searched-all {count} {n} I h = let k : count - n ≡ 0 = omega arith in sym (I .same ∙ rw k)

@@ -1,4 +1,6 @@
--- `bundle_cases::run` meets its contract. Assumes nothing.
+-- `bundle_cases::run` ensures nothing: what is left is that it ends and that the memory comes back as long as it was lent. The invariant: i is at
+-- most 10,000 and the memory has kept its length. Each turn follows one order, and the measure is the number of turns left.
+-- Assumes nothing.
 use mathlib.Core.Path.{_≡_}
 use Prim.Native.Nat.{_≤_, _-_}
 use lib.ListN.{length}
@@ -12,6 +14,7 @@ Inv-loop mem₀ i₀ mem i = (i ≤ 10000) × (length mem ≡ length mem₀)
 abbrev μ-loop : tie.MeasureT-loop
 μ-loop mem₀ i₀ mem i = 10000 - i
 
+-- ---- the needs that the search closes
 loop-holds : tie.Need-loop-holds Inv-loop μ-loop
 loop-holds c = search needs
 

@@ -2,24 +2,26 @@
 -- Assumes nothing.
 use mathlib.Core.List.{List}
 use mathlib.Core.Path.{_≡_, sym, ap, ap₂, _∙_}
-use Prim.Native.Nat.{ℕ, _+_, _-_, _*_, _/_, _%_, _^_, _<_}
+use Prim.Native.Nat.{ℕ, _+_, _*_, _/_, _%_, _^_, _≤_, _<_}
 use native.Mathlib.Nat.{zero-mul, one-mul}
+use native.Mathlib.Numerals.{add-one}
 use native.Mathlib.Omega.{arith}
 use borrow.Author.Tests.{lt-ltb, le-ltb}
 use lib.Bits.{bitXor, xor-self, xor-zero-l, xor-zero-r, xor-comm, xor-disjoint, and-shifted}
 use lib.ListN.{take, drop}
 use lib.Seq.{getD-take, getD-drop}
-use Rattle.bits.specs.Bytes.{byte, bytesOf}
+use Rattle.bits.specs.Bytes.{Bytes, byte, bytesOf}
+use Rattle.bits.specs.Groups.{xorAll}
 use Rattle.bits.specs.Lists.{at, tabulate, concat}
 use Rattle.bits.specs.Vectors.{dot}
 use Rattle.bits.proofs.laws.Bytes.{at-bytesOf, length-bytesOf}
 use Rattle.bits.proofs.laws.Groups.{group-xor}
-use Rattle.bits.proofs.laws.Lists.{at-concat, at-tabulate, length-tabulate, tabulate-ext, ext-at}
+use Rattle.bits.proofs.laws.Lists.{at-concat, concat-same, at-tabulate, length-tabulate, tabulate-ext, ext-at}
 use Rattle.bits.proofs.laws.Vectors.{dot-power, dot-xor, dot-lt}
 use Rattle.bits.proofs.laws.Multiples.{row-inside}
 use Rattle.bits.proofs.laws.Xor.{Linear, two}
 use Rattle.bits.proofs.laws.XorAll.{linear-xorAll}
-use Rattle.entries.specs.Spread.{combined, nibbleByte, summed}
+use Rattle.entries.specs.Spread.{combined, encodedBytes, encodedWord, nibbleByte, summed}
 
 -- ---- the xor of eight words
 scale-xor : (c a b : ℕ) → a < 2 → b < 2 → (a + b) % 2 * c ≡ bitXor (a * c) (b * c)
@@ -70,18 +72,50 @@ by-nibbles u linear y =
     ∙ sym (linear (y % 16) (y / 16 * 16))
     ∙ ap u (of-nibbles y)
 
--- The sum of two parts, from the parts.
-pub summed-parts : (m : ℕ) (l : List ℕ) (y : ℕ) (low high : List ℕ) → low ≡ take m (drop (y % 16 * m) l) → high ≡ take m (drop ((16 + y / 16) * m) l)
-    → tabulate m (λ k. bitXor (at low k) (at high k)) ≡ summed m l y
-unfolding summed
-summed-parts m l y low high p q =
-    tabulate-ext m _ _
-    (λ k b. ap₂ bitXor (inside low (y % 16 * m) k p b) (inside high ((16 + y / 16) * m) k q b))
-  where
-    inside : (s : List ℕ) (a k : ℕ) → s ≡ take m (drop a l) → k < m → at s k ≡ at l (a + k)
-    inside s a k e b = ap (λ (t : List ℕ). at t k) e ∙ getD-take m (drop a l) k 0 b ∙ getD-drop a l k 0
+-- ---- the loop that adds the words up: the sum of the first i of n
+pub record Added (n : ℕ) (f : ℕ → ℕ) (v i : ℕ) : Type 0 where
+  pub within : i ≤ n
+  pub sum : v ≡ xorAll i f
 
--- The bytes of the word of y, from those of the words of its nibbles.
+pub added-none : (n : ℕ) (f : ℕ → ℕ) (v : ℕ) → v ≡ 0 → Added n f v 0
+unfolding xorAll
+added-none n f v e = record { within = omega arith; sum = e }
+
+module _ {n : ℕ} {f : ℕ → ℕ} {v i : ℕ} (I : Added n f v i) where
+  pub added-more : {w : ℕ} → i < n → w ≡ bitXor v (f i) → Added n f w (i + 1)
+  unfolding xorAll
+  added-more h e = record { within = omega arith; sum = e ∙ ap (λ (x : ℕ). bitXor x (f i)) (I .sum) ∙ rw add-one }
+
+  pub added-all : n ≤ i → v ≡ xorAll n f
+  added-all h =
+      let done : i ≡ n = omega arith in
+      rw done at (I .sum)
+
+-- ---- the parts of a list that has a part for each byte with one nibble
+-- The word of y, encoded, from its parts for the nibbles of y: a and b are these, and n is as many bytes as a word has.
+pub word-encoded : (images : ℕ → ℕ) (m n y a b : ℕ) (l low high ys : List ℕ)
+    → n ≡ m
+    → a ≡ y % 16
+    → low ≡ take m (drop (a * m) l)
+    → b ≡ y / 16
+    → high ≡ take m (drop ((16 + b) * m) l)
+    → ys ≡ encodedBytes images n (tabulate n (λ k. bitXor (at low k) (at high k)))
+    → ys ≡ encodedBytes images m (summed m l y)
+unfolding summed
+word-encoded images m n y a b l low high ys long ea el eb eh written =
+    written
+    ∙ ap (λ (n : ℕ). encodedBytes images n (tabulate n (λ k. bitXor (at low k) (at high k)))) long
+    ∙ ap (encodedBytes images m) (tabulate-ext m _ _ (λ k h. ap₂ bitXor (inside low _ k (rw ea at el) h) (inside high _ k (rw eb at eh) h)))
+  where
+    inside : (s : List ℕ) (p k : ℕ) → s ≡ take m (drop p l) → k < m → at s k ≡ at l (p + k)
+    inside s p k e h = ap (λ (t : List ℕ). at t k) e ∙ getD-take m (drop p l) k 0 h ∙ getD-drop p l k 0
+
+-- The bytes of the word of a byte with one nibble, as they are written: v is its word, and n is as many bytes as a word has.
+pub nibble-word : (f : ℕ → ℕ) (m n r b v : ℕ) (ys : List ℕ) → n ≡ m → b ≡ nibbleByte r → v ≡ combined f b → ys ≡ bytesOf n v
+    → ys ≡ bytesOf m (combined f (nibbleByte r))
+nibble-word f m n r b v ys long eb ev written = written ∙ ap₂ bytesOf long (ev ∙ ap (combined f) eb)
+
+-- The bytes of the word of y are the sum of its parts, where each part has the bytes of the word of its byte.
 module _ (f : ℕ → ℕ) (m : ℕ) (l : List ℕ) (e : take (32 * m) l ≡ concat 32 (λ r. bytesOf m (combined f (nibbleByte r)))) where
   word-at : (r k : ℕ) → r < 32 → k < m → at l (r * m + k) ≡ byte m k (combined f (nibbleByte r))
   word-at r k h b =
@@ -91,7 +125,7 @@ module _ (f : ℕ → ℕ) (m : ℕ) (l : List ℕ) (e : take (32 * m) l ≡ con
       ∙ at-concat m (λ r. bytesOf m (combined f (nibbleByte r))) 32 (λ i g. length-bytesOf m (combined f (nibbleByte i))) r k h b
       ∙ at-bytesOf m (combined f (nibbleByte r)) k b
 
-  pub summed-is : (y : ℕ) → y < 256 → summed m l y ≡ bytesOf m (combined f y)
+  summed-is : (y : ℕ) → y < 256 → summed m l y ≡ bytesOf m (combined f y)
   unfolding summed
   summed-is y h =
       ext-at m _ _ (length-tabulate m _) (length-bytesOf m (combined f y))
@@ -100,3 +134,10 @@ module _ (f : ℕ → ℕ) (m : ℕ) (l : List ℕ) (e : take (32 * m) l ≡ con
       ∙ sym (group-xor 8 m k (combined f (nibbleByte (y % 16))) (combined f (nibbleByte (16 + y / 16))))
       ∙ ap (byte m k) (by-nibbles (combined f) (combined-linear f) y)
       ∙ sym (at-bytesOf m (combined f y) k b))
+
+  -- So the words that are written are those of the bytes in `values`.
+  pub words-encoded : (images : ℕ → ℕ) (values dst : List ℕ) → Bytes values
+      → dst ≡ concat 256 (λ x. encodedBytes images m (summed m l (at values x)))
+      → dst ≡ concat 256 (λ x. encodedWord images m (combined f (at values x)))
+  words-encoded images values dst bytes written =
+      written ∙ concat-same 256 _ _ (λ x h. ap (encodedBytes images m) (summed-is (at values x) (bytes x)))

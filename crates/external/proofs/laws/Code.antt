@@ -2,7 +2,7 @@
 -- Assumes nothing.
 use mathlib.Core.Bool.{Bool, true, false, cond, _&&_}
 use mathlib.Core.List.{List}
-use mathlib.Core.Path.{_≡_, refl, sym, ap, ap₂, _∙_}
+use mathlib.Core.Path.{_≡_, refl, sym, ap, ap₂, _∙_, subst}
 use Prim.Native.Nat.{ℕ, _+_, _*_, _/_, _%_, _≤_, _<_}
 use native.Mathlib.Nat.{zero-add}
 use native.Mathlib.Omega.{arith}
@@ -10,19 +10,21 @@ use lib.Dec.{eqb}
 use lib.ListN.{length}
 use borrow.Author.Tests.{eq-eqb, ne-eqb, eqb-true}
 use Rattle.bits.specs.Bytes.{Bytes, number, bytesOf}
-use Rattle.bits.specs.Encodings.{encode, decode}
+use Rattle.bits.specs.Encodings.{encode, decode, imagesOf, Permutation}
 use Rattle.bits.specs.Lists.{at, tabulate}
 use Rattle.bits.specs.Nibbles.{pack, nibble, packed}
+use Rattle.bits.proofs.laws.Encodings.{decode-lt}
+use Rattle.bits.proofs.laws.Filled.{Filled, filled-all}
 use Rattle.bits.proofs.laws.Groups.{joined-same}
-use Rattle.bits.proofs.laws.Lists.{tabulate-at, tabulate-ext, length-tabulate}
-use Rattle.bits.proofs.laws.Nibbles.{nibble-even, nibble-odd}
+use Rattle.bits.proofs.laws.Lists.{tabulate-at, tabulate-ext}
+use Rattle.bits.proofs.laws.Nibbles.{nibble-even, nibble-odd, length-packed}
 use Rattle.matrices.specs.Matrices.{product, RowsFit, Invertible, matrixOf}
-use Rattle.matrices.specs.Rows.{rowsOf}
-use Rattle.matrices.proofs.laws.Stored.{matrixOf-fits}
+use Rattle.matrices.specs.Rows.{rowsOf, stored}
+use Rattle.matrices.proofs.laws.Stored.{matrixOf-fits, read-rows}
 use Rattle.matrices.proofs.laws.Rows.{rows-stored}
 use Rattle.inversion.specs.Elimination.{Inversion, inverse, singular, invert, rowsIn, inverseOf, hasInverse, withInverse}
 use Rattle.inversion.proofs.laws.Inverses.{answered, exact}
-use Rattle.bundle.specs.Format.{encodings, frame, partAt, inputMatrixPart, outputMatrixPart}
+use Rattle.bundle.specs.Format.{encodings, encodingOf, frame, partAt, inputMatrixPart, outputMatrixPart}
 use Rattle.bundle.specs.declared.answer.Judgement.{Judgement}
 use Rattle.bundle.specs.declared.answer.Judgement.the-variants.{Accepted, Refused}
 use Rattle.bundle.specs.declared.answer.Refusal.{Refusal}
@@ -31,39 +33,60 @@ use Rattle.bundle.proofs.laws.Parts.{at-bytes}
 use Rattle.bundle.proofs.laws.Tests.{first-accepted}
 use Rattle.judgement.specs.Judge.{judge}
 use Rattle.judgement.proofs.laws.Judgements.{accepted-sound}
-use Rattle.external.specs.Calls.{answer, unlessRefused, written}
-use Rattle.external.specs.Coding.{encodeNibbles, decodeNibbles, multiply, encodeBy, decodeBy, outputFirst}
+use Rattle.external.specs.Calls.{answer, unlessRefused, written, leaves}
+use Rattle.external.specs.Coding.{encodeNibbles, decodeNibbles, multiply, encodeBy, decodeBy}
+use Rattle.external.specs.Coding.{encodeInput, decodeInput, outputFirst, encodeOutput, decodeOutput}
 use Rattle.external.specs.declared.coding.Coded.{Coded}
 use Rattle.external.specs.declared.coding.Coded.the-variants.{Done, Bundle, BlockLength}
-use Rattle.external.proofs.laws.Coding.{multiply-block}
+use Rattle.external.proofs.laws.Coding.{multiply-block, accepted-encodings}
 
 -- ---- encodings on nibbles, byte by byte: g is `encode` or `decode`
 abbrev pub byteBy : (List ℕ → ℕ → ℕ) → (ℕ → List ℕ) → ℕ → List ℕ → ℕ → ℕ
 byteBy g E first x i = pack (g (E (first + 2 * i)) (at x i / 16)) (g (E (first + 2 * i + 1)) (at x i % 16))
 
-by-bytes : (g : List ℕ → ℕ → ℕ) (E : ℕ → List ℕ) (first : ℕ) (x : List ℕ) → tabulate 16 (byteBy g E first x) ≡ packed 16 (λ q. g (E (first + q)) (nibble x q))
+by-bytes : (g : List ℕ → ℕ → ℕ) (E : ℕ → List ℕ) (first : ℕ) (x : List ℕ)
+    → tabulate 16 (byteBy g E first x) ≡ packed 16 (λ q. g (E (first + q)) (nibble x q))
 unfolding packed
 by-bytes g E first x = tabulate-ext 16 _ _ (λ i h.
     let k : first + 2 * i + 1 ≡ first + (2 * i + 1) = omega arith in
     rw (k, nibble-even x i, nibble-odd x i))
 
-pub encode-bytes : (E : ℕ → List ℕ) (first : ℕ) (x : List ℕ) → tabulate 16 (byteBy encode E first x) ≡ encodeNibbles E first x
-unfolding encodeNibbles
-encode-bytes = by-bytes encode
+-- Behind the loop over the bytes.
+module _ (E : ℕ → List ℕ) (first : ℕ) (x : List ℕ) {t : List ℕ} {i : ℕ} where
+  pub encode-filled : Filled 16 (byteBy encode E first x) t i → 16 ≤ i → t ≡ encodeNibbles E first x
+  unfolding encodeNibbles
+  encode-filled g h = filled-all g h ∙ by-bytes encode E first x
 
-pub decode-bytes : (E : ℕ → List ℕ) (first : ℕ) (x : List ℕ) → tabulate 16 (byteBy decode E first x) ≡ decodeNibbles E first x
-unfolding decodeNibbles
-decode-bytes = by-bytes decode
+  pub decode-filled : Filled 16 (byteBy decode E first x) t i → 16 ≤ i → t ≡ decodeNibbles E first x
+  unfolding decodeNibbles
+  decode-filled g h = filled-all g h ∙ by-bytes decode E first x
 
 pub nibbles-long : (E : ℕ → List ℕ) (first : ℕ) (x t : List ℕ) → t ≡ decodeNibbles E first x → length t ≡ 16
-nibbles-long E first x t e = ap length (e ∙ sym (decode-bytes E first x)) ∙ length-tabulate 16 (byteBy decode E first x)
+unfolding decodeNibbles
+nibbles-long E first x t e = ap length e ∙ length-packed 16 (λ q. decode (E (first + q)) (nibble x q))
+
+-- What a byte's decoding asks: the encodings of its two nibbles are permutations.
+pub byte-permutations : (E : ℕ → List ℕ) (first : ℕ) → ((q : ℕ) → q < 32 → Permutation (E (first + q))) → (i : ℕ) → i < 16
+    → Permutation (E (first + 2 * i)) × Permutation (E (first + 2 * i + 1))
+byte-permutations E first perms i h =
+    let odd : first + (2 * i + 1) ≡ first + 2 * i + 1 = omega arith in
+    (perms (2 * i) (omega arith), subst (λ (n : ℕ). Permutation (E n)) odd (perms (2 * i + 1) (omega arith)))
+
+-- A nibble decoded by the encoding that the part p of a bundle holds.
+pub decoded-lt : {p q : List ℕ} {x v : ℕ} → v ≡ decode (imagesOf p) x → p ≡ q → Permutation (imagesOf q) → x < 16 → v < 16
+decoded-lt {p} {q} {x} e f perm h = rw (e, f) (decode-lt (imagesOf q) perm x h)
 
 -- ---- products
-pub multiplied : (m x d d′ : List ℕ) (v p : ℕ) → length d ≡ 16 → v ≡ number 16 (λ j. at x (0 + j)) → p ≡ product 128 m v → d′ ≡ bytesOf (length d) p
-    → d′ ≡ multiply m x
+pub multiplied : (m x d : List ℕ) (n v p : ℕ) → n ≡ 16 → v ≡ number 16 (λ j. at x (0 + j)) → p ≡ product 128 m v → d ≡ bytesOf n p
+    → d ≡ multiply m x
 unfolding multiply
-multiplied m x d d′ v p h a b c =
+multiplied m x d n v p h a b c =
     c ∙ ap₂ bytesOf h (b ∙ ap (product 128 m) (a ∙ joined-same 8 16 (λ j. at x (0 + j)) (at x) (λ j k. ap (at x) (zero-add j))))
+
+-- By the matrix that bytes write: the code reads it into the rows a, which had the place b.
+pub multiplied-read : (p x a b d : List ℕ) → 256 ≤ length b → a ≡ stored 128 (at (matrixOf 16 p)) b → d ≡ multiply (rowsOf 128 a) x
+    → d ≡ multiply (matrixOf 16 p) x
+multiplied-read p x a b d h e q = q ∙ ap (λ (r : List ℕ). multiply r x) (read-rows 16 p b a h e)
 
 pub multiply-long : (m x t : List ℕ) → t ≡ multiply m x → length t ≡ 16
 multiply-long m x t e = ap length e ∙ multiply-block m x .long
@@ -74,37 +97,42 @@ inverse-stored m b b′ fits h (inverse c) e t q =
     ap (rowsOf 128) q ∙ rows-stored 128 (at c) b (omega arith) ∙ tabulate-at 128 c (answered 128 m c fits e .long)
 inverse-stored m b b′ fits h singular e t q = let y : _≡_ {A = ℕ} 0 1 = cc in absurd (omega arith)
 
--- The rows that the code's `invert` leaves, of the matrix that bytes write.
-pub inverse-rows : (p a b b′ : List ℕ) → Bytes p → 256 ≤ length b → rowsOf 128 a ≡ matrixOf 16 p → hasInverse (invert 128 (matrixOf 16 p)) ≡ true
-    → b′ ≡ withInverse 128 (invert 128 (rowsOf 128 a)) b → rowsOf 128 b′ ≡ inverseOf 128 (matrixOf 16 p)
-unfolding inverseOf
-inverse-rows p a b b′ bytes h e t q =
-    inverse-stored (matrixOf 16 p) b b′ (matrixOf-fits 16 p bytes) h (invert 128 (matrixOf 16 p)) refl t
-    (q ∙ ap (λ (m : List ℕ). withInverse 128 (invert 128 m) b) e)
+-- By the inverse: a is read as above, and `invert` leaves the rows c, which had the place d.
+module _ (p : List ℕ) (bytes : Bytes p) (has : hasInverse (invert 128 (matrixOf 16 p)) ≡ true) (a b : List ℕ) (room : 256 ≤ length b)
+    (read : a ≡ stored 128 (at (matrixOf 16 p)) b) where
+  rows : rowsOf 128 a ≡ matrixOf 16 p
+  rows = read-rows 16 p b a room read
 
-pub never : (r : Bool) (x : Inversion) → hasInverse x ≡ true → r ≡ hasInverse x → r ≡ false → ⊥
-never r x a b c = let y : _≡_ {A = ℕ} 0 1 = cc in omega arith
+  pub multiplied-back : (x c d o : List ℕ) → 256 ≤ length d → c ≡ withInverse 128 (invert 128 (rowsOf 128 a)) d
+      → o ≡ multiply (rowsOf 128 c) x → o ≡ multiply (inverseOf 128 (matrixOf 16 p)) x
+  unfolding inverseOf
+  multiplied-back x c d o h e q =
+      let left = e ∙ ap (λ (m : List ℕ). withInverse 128 (invert 128 m) d) rows in
+      q ∙ ap (λ (r : List ℕ). multiply r x)
+      (inverse-stored (matrixOf 16 p) d c (matrixOf-fits 16 p bytes) h (invert 128 (matrixOf 16 p)) refl has left)
 
-pub has-inverse : (w : ℕ) (p : List ℕ) → Bytes p → Invertible (8 * w) (matrixOf w p) → hasInverse (invert (8 * w) (matrixOf w p)) ≡ true
-has-inverse w p bytes I = ap hasInverse (exact (8 * w) (matrixOf w p) (matrixOf-fits w p bytes) I .1)
+  pub never-singular : (r : Bool) → r ≡ hasInverse (invert 128 (rowsOf 128 a)) → r ≡ false → ⊥
+  never-singular r e f =
+      let same = e ∙ ap (λ (m : List ℕ). hasInverse (invert 128 m)) rows in
+      let y : _≡_ {A = ℕ} 0 1 = cc in omega arith
 
--- ---- answers
-module _ (nr : ℕ) (l : List ℕ) (from to : ℕ) where
-  pub answer-bundle : (r : Refusal) → judge nr l ≡ Refused r → Bundle r ≡ answer nr l from to
+-- ---- answers: j is what the code's judgement answers
+module _ (nr : ℕ) (l : List ℕ) (from to : ℕ) (j : Judgement) (judged : j ≡ judge nr l) where
+  pub answer-bundle : (r : Refusal) → j ≡ Refused r → Bundle r ≡ answer nr l from to
   unfolding answer
-  answer-bundle r e = rw e
+  answer-bundle r e = rw (← judged, e)
 
-  pub answer-from : judge nr l ≡ Accepted → (from ≡ 16 → ⊥) → BlockLength ≡ answer nr l from to
+  pub answer-from : j ≡ Accepted → (from ≡ 16 → ⊥) → BlockLength ≡ answer nr l from to
   unfolding answer
-  answer-from e n = rw (e, ne-eqb from 16 n)
+  answer-from e n = rw (← judged, e, ne-eqb from 16 n)
 
-  pub answer-to : judge nr l ≡ Accepted → from ≡ 16 → (to ≡ 16 → ⊥) → BlockLength ≡ answer nr l from to
+  pub answer-to : j ≡ Accepted → from ≡ 16 → (to ≡ 16 → ⊥) → BlockLength ≡ answer nr l from to
   unfolding answer
-  answer-to e p n = rw (e, eq-eqb from 16 p, ne-eqb to 16 n)
+  answer-to e p n = rw (← judged, e, eq-eqb from 16 p, ne-eqb to 16 n)
 
-  pub answer-done : judge nr l ≡ Accepted → from ≡ 16 → to ≡ 16 → Done ≡ answer nr l from to
+  pub answer-done : j ≡ Accepted → from ≡ 16 → to ≡ 16 → Done ≡ answer nr l from to
   unfolding answer
-  answer-done e p q = rw (e, eq-eqb from 16 p, eq-eqb to 16 q)
+  answer-done e p q = rw (← judged, e, eq-eqb from 16 p, eq-eqb to 16 q)
 
 -- What an answer says of the bundle and the blocks.
 pub record Ready (nr : ℕ) (l : List ℕ) (from to : ℕ) : Type 0 where
@@ -124,47 +152,83 @@ ready-by nr l from to Accepted e q =
     record { judged = e; long = eqb-true from 16 (B .0); room = eqb-true to 16 (B .1) }
 ready-by nr l from to (Refused r) e q = let y : _≡_ {A = ℕ} 0 1 = cc in absurd (omega arith)
 
-pub done-ready : (nr : ℕ) (l : List ℕ) (from to : ℕ) → answer nr l from to ≡ Done → Ready nr l from to
+pub done-ready : {nr : ℕ} {l : List ℕ} {from to : ℕ} {a : Coded} → a ≡ answer nr l from to → a ≡ Done → Ready nr l from to
 unfolding answer
-done-ready nr l from to = ready-by nr l from to (judge nr l) refl
+done-ready {nr} {l} {from} {to} e d = ready-by nr l from to (judge nr l) refl (sym e ∙ d)
 
--- ---- what a call answers and leaves
-module _ (c : Coded) (new old : List ℕ) where
-  pub done : Done ≡ c → (out : List ℕ) → out ≡ new → (Done ≡ c) × (out ≡ written c new old)
-  done e out q = (e, q ∙ ap (λ (x : Coded). written x new old) e)
+-- ---- what a call answers and leaves of the lent block `old`, where c is the answer for the bundle and the blocks and a what the code has of it
+module _ {a c : Coded} (e : a ≡ c) (new old : List ℕ) where
+  same : {b : Coded} → a ≡ b → {out : List ℕ} → out ≡ written b new old → (b ≡ c) × (out ≡ written c new old)
+  same f q = (sym f ∙ e, q ∙ ap (λ (x : Coded). written x new old) (sym f ∙ e))
 
-  pub bundle-refused : (r : Refusal) → Bundle r ≡ c → (Bundle r ≡ c) × (old ≡ written c new old)
-  bundle-refused r e = (e, ap (λ (x : Coded). written x new old) e)
+  pub bundle-refused : {r : Refusal} → a ≡ Bundle r → (Bundle r ≡ c) × (old ≡ written c new old)
+  bundle-refused f = same f refl
 
-  pub block-refused : BlockLength ≡ c → (BlockLength ≡ c) × (old ≡ written c new old)
-  block-refused e = (e, ap (λ (x : Coded). written x new old) e)
+  pub block-refused : a ≡ BlockLength → (BlockLength ≡ c) × (old ≡ written c new old)
+  block-refused f = same f refl
 
--- ---- both steps
-module _ (E : ℕ → List ℕ) (first : ℕ) (m x t o : List ℕ) where
-  pub encoded-by : t ≡ multiply m x → o ≡ encodeNibbles E first t → o ≡ encodeBy E first m x
+-- Both steps done.
+module _ {a c : Coded} (e : a ≡ c) (done : a ≡ Done) (E : ℕ → List ℕ) (first : ℕ) (m x t old out : List ℕ) where
+  pub encoded-by : t ≡ multiply m x → out ≡ encodeNibbles E first t → (Done ≡ c) × (out ≡ written c (encodeBy E first m x) old)
   unfolding encodeBy
-  encoded-by p q = q ∙ ap (encodeNibbles E first) p
+  encoded-by p q = same e (encodeBy E first m x) old done (q ∙ ap (encodeNibbles E first) p)
 
-  pub decoded-by : t ≡ decodeNibbles E first x → o ≡ multiply (inverseOf 128 m) t → o ≡ decodeBy E first m x
+  pub decoded-by : t ≡ decodeNibbles E first x → out ≡ multiply (inverseOf 128 m) t → (Done ≡ c) × (out ≡ written c (decodeBy E first m x) old)
   unfolding decodeBy
-  decoded-by p q = q ∙ ap (multiply (inverseOf 128 m)) p
+  decoded-by p q = same e (decodeBy E first m x) old done (q ∙ ap (multiply (inverseOf 128 m)) p)
 
--- ---- the block matrices of an accepted bundle, as the public calls lend them
+-- ---- the block matrices of an accepted bundle, as the public calls lend them: the part p
 module _ (nr : ℕ) (l : List ℕ) (s : ℕ) (h : 3 ≤ s) (k : s < 5) (p : List ℕ) (e : p ≡ partAt nr l s 0) where
-  pub matrix-room : judge nr l ≡ Accepted → 2048 ≤ length p
+  matrix-room : judge nr l ≡ Accepted → 2048 ≤ length p
   unfolding judge
   matrix-room a = block-room nr l s (first-accepted (frame nr l) _ a) h k p e
 
-pub input-has : (nr : ℕ) (l p : List ℕ) → Bytes l → p ≡ inputMatrixPart nr l → judge nr l ≡ Accepted → hasInverse (invert 128 (matrixOf 16 p)) ≡ true
-input-has nr l p bytes e a = rw e (has-inverse 16 (inputMatrixPart nr l) (at-bytes nr l 3 0 bytes) (accepted-sound nr l bytes a .input))
+has-inverse : (p q : List ℕ) → p ≡ q → Bytes q → Invertible 128 (matrixOf 16 q) → hasInverse (invert 128 (matrixOf 16 p)) ≡ true
+has-inverse p q e bytes I = rw e (ap hasInverse (exact 128 (matrixOf 16 q) (matrixOf-fits 16 q bytes) I .1))
 
-pub output-has : (nr : ℕ) (l p : List ℕ) → Bytes l → p ≡ outputMatrixPart nr l → judge nr l ≡ Accepted → hasInverse (invert 128 (matrixOf 16 p)) ≡ true
-output-has nr l p bytes e a = rw e (has-inverse 16 (outputMatrixPart nr l) (at-bytes nr l 4 0 bytes) (accepted-sound nr l bytes a .output))
+module _ (nr : ℕ) (l : List ℕ) {p : List ℕ} where
+  pub input-long : p ≡ inputMatrixPart nr l → judge nr l ≡ Accepted → 2048 ≤ length p
+  input-long e = matrix-room nr l 3 (omega arith) (omega arith) p e
 
-pub output-first : outputFirst 10 ≡ 6016
+  pub output-long : p ≡ outputMatrixPart nr l → judge nr l ≡ Accepted → 2048 ≤ length p
+  output-long e = matrix-room nr l 4 (omega arith) (omega arith) p e
+
+  pub input-has : p ≡ inputMatrixPart nr l → Bytes l → judge nr l ≡ Accepted
+      → (2048 ≤ length p) × (hasInverse (invert 128 (matrixOf 16 p)) ≡ true)
+  input-has e bytes a = (input-long e a, has-inverse p _ e (at-bytes nr l 3 0 bytes) (accepted-sound nr l bytes a .input))
+
+  pub output-has : p ≡ outputMatrixPart nr l → Bytes l → judge nr l ≡ Accepted
+      → (2048 ≤ length p) × (hasInverse (invert 128 (matrixOf 16 p)) ≡ true)
+  output-has e bytes a = (output-long e a, has-inverse p _ e (at-bytes nr l 4 0 bytes) (accepted-sound nr l bytes a .output))
+
+-- ---- the four codings: what the code does with the part p is what the definition does with the bundle's matrix
+output-first : outputFirst 10 ≡ 6016
 unfolding outputFirst encodings
 output-first = refl
 
-pub encodings-ten : encodings 10 ≡ 6048
+module _ (l x old : List ℕ) {p out : List ℕ} where
+  pub input-encoded : p ≡ inputMatrixPart 10 l → out ≡ leaves 10 l (encodeBy (encodingOf 10 l) 0 (matrixOf 16 p)) x old
+      → out ≡ leaves 10 l (encodeInput 10 l) x old
+  unfolding encodeInput
+  input-encoded e q = q ∙ rw e
+
+  pub input-decoded : p ≡ inputMatrixPart 10 l → out ≡ leaves 10 l (decodeBy (encodingOf 10 l) 0 (matrixOf 16 p)) x old
+      → out ≡ leaves 10 l (decodeInput 10 l) x old
+  unfolding decodeInput
+  input-decoded e q = q ∙ rw e
+
+  pub output-encoded : p ≡ outputMatrixPart 10 l → out ≡ leaves 10 l (encodeBy (encodingOf 10 l) 6016 (matrixOf 16 p)) x old
+      → out ≡ leaves 10 l (encodeOutput 10 l) x old
+  unfolding encodeOutput
+  output-encoded e q = q ∙ rw (e, ← output-first)
+
+  pub output-decoded : p ≡ outputMatrixPart 10 l → out ≡ leaves 10 l (decodeBy (encodingOf 10 l) 6016 (matrixOf 16 p)) x old
+      → out ≡ leaves 10 l (decodeOutput 10 l) x old
+  unfolding decodeOutput
+  output-decoded e q = q ∙ rw (e, ← output-first)
+
+-- The 32 encodings that a call takes off.
+pub called-encodings : (l : List ℕ) → Bytes l → judge 10 l ≡ Accepted → (first : ℕ) → first ≤ 6016 → (q : ℕ) → q < 32
+    → Permutation (encodingOf 10 l (first + q))
 unfolding encodings
-encodings-ten = refl
+called-encodings l bytes a first h = accepted-encodings 10 l bytes a first (omega arith)

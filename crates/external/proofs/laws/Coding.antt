@@ -87,7 +87,8 @@ multiply-back m u back x B =
     ∙ bytesOf-numberOf 16 x (B .long) (B .bytes)
 
 -- ---- both
-module _ (E : ℕ → List ℕ) (first : ℕ) (m : List ℕ) (perms : (q : ℕ) → q < 32 → Permutation (E (first + q))) (U : UndoesBothWays 128 m (inverseOf 128 m)) (x : List ℕ) (B : Block x) where
+module _ (E : ℕ → List ℕ) (first : ℕ) (m : List ℕ) (perms : (q : ℕ) → q < 32 → Permutation (E (first + q)))
+    (U : UndoesBothWays 128 m (inverseOf 128 m)) (x : List ℕ) (B : Block x) where
   decode-encode-by : decodeBy E first m (encodeBy E first m x) ≡ x
   unfolding encodeBy decodeBy
   decode-encode-by =

@@ -1,4 +1,5 @@
--- `field::share` meets its contract, in each branch by its test. Assumes nothing.
+-- `field::share` meets its contract. The code's test is the one of the contract's `cond`: in each branch the test's answer decides it.
+-- Assumes nothing.
 use borrow.Author.Tests.{eq-eqb, ne-eqb}
 use Rattle.field.proofs.share.Statement.{statement}
 use Rattle.field.proofs.share.Tie as tie

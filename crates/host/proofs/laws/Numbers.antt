@@ -1,8 +1,8 @@
--- Laws, not definitions: the numbers that the calls for C return can be read off again.
+-- Laws, not definitions: the numbers that the calls for C return, and that they can be read off again.
 -- Assumes nothing.
 use mathlib.Core.Bool.{Bool, true, false, cond, _&&_}
 use mathlib.Core.List.{List}
-use mathlib.Core.Path.{_≡_}
+use mathlib.Core.Path.{_≡_, sym, ap, ap₂, _∙_}
 use Prim.Native.Nat.{ℕ, _<_, _≤_}
 use native.Mathlib.Omega.{arith}
 use lib.Dec.{eqb, ltb}
@@ -29,10 +29,10 @@ use Rattle.network.specs.Stages.{lookups, setBytes, tableSize}
 use Rattle.tables.specs.Calls as tables
 use Rattle.tables.specs.declared.calls.Made.{Made}
 use Rattle.tables.specs.declared.calls.Made.the-variants as made
-use Rattle.host.specs.Numbers.{returned, causeOf, secondOf, ReadOff, Readable}
+use Rattle.host.specs.Numbers.{returned, causeOf, secondOf, ofJudgement, ofMade, ReadOff, Readable}
 
 -- ---- causes
-pub cause-below : (r : Refusal) → refusals.causeOf r < 16
+cause-below : (r : Refusal) → refusals.causeOf r < 16
 cause-below Length = omega arith
 cause-below (Pair i) = omega arith
 cause-below (Encoding n) = omega arith
@@ -84,7 +84,7 @@ module _ (l : List ℕ) where
       (λ _. by-unless Below (noInverse 16 (inputMatrixPart 10 l)) InputMatrix _ (λ _. omega arith)
       (λ _. by-unless Below (noInverse 16 (outputMatrixPart 10 l)) OutputMatrix Accepted (λ _. omega arith) (λ _. omega arith)))))
 
-  pub judged-second : secondOf (judge 10 l) < 65536
+  judged-second : secondOf (judge 10 l) < 65536
   unfolding judge frame
   judged-second =
       by-unless (λ j. Below (andThen j rest)) (lengthBad 10 l) Length _ (λ _. omega arith)
@@ -100,7 +100,7 @@ module _ (l : List ℕ) where
   by-judgement Accepted lt false = omega arith
   by-judgement (Refused r) lt b = lt
 
-  pub coded-second : (m n : ℕ) → external.secondOf (external.answer 10 l m n) < 65536
+  coded-second : (m n : ℕ) → external.secondOf (external.answer 10 l m n) < 65536
   unfolding external.answer
   coded-second m n = by-judgement (judge 10 l) judged-second (eqb m 16 && eqb n 16)
 
@@ -112,13 +112,43 @@ module _ (l : List ℕ) where
   by-parts Accepted lt true true false = omega arith
   by-parts (Refused r) lt true b c = lt
 
-  pub set-second : (k m : ℕ) → tables.secondOf (tables.setAnswer k l m) < 65536
+  set-second : (k m : ℕ) → tables.secondOf (tables.setAnswer k l m) < 65536
   unfolding tables.setAnswer tables.judged
   set-second k m = by-parts (judge 10 l) judged-second (eqb k 16) true (eqb m (setBytes 10))
 
-  pub table-second : (k n m : ℕ) → tables.secondOf (tables.tableAnswer k l n m) < 65536
+  table-second : (k n m : ℕ) → tables.secondOf (tables.tableAnswer k l n m) < 65536
   unfolding tables.tableAnswer tables.judged
   table-second k n m = by-parts (judge 10 l) judged-second (eqb k 16) (ltb n (lookups 10)) (eqb m (tableSize 10 n))
+
+-- ---- what a call hands on: its answer is as the definition says, so the number fits
+module _ (l : List ℕ) where
+  pub judged-fits : {j : Judgement} → j ≡ judge 10 l → secondOf j < 65536
+  judged-fits e = rw e (judged-second l)
+
+  pub coded-fits : {c : Coded} (m n : ℕ) → c ≡ external.answer 10 l m n → external.secondOf c < 65536
+  coded-fits m n e = rw e (coded-second l m n)
+
+  pub set-fits : {a : Made} (k m : ℕ) → a ≡ tables.setAnswer k l m → tables.secondOf a < 65536
+  set-fits k m e = rw e (set-second l k m)
+
+  pub table-fits : {a : Made} (k n m : ℕ) → a ≡ tables.tableAnswer k l n m → tables.secondOf a < 65536
+  table-fits k n m e = rw e (table-second l k n m)
+
+-- The number and the bytes that the maker's calls return and leave, where the maker answers a.
+pub made-returned : {a b : Made} {r : ℕ} (new old out : List ℕ) → a ≡ b → r ≡ ofMade a → out ≡ tables.written a new old
+    → (r ≡ ofMade b) × (out ≡ tables.written b new old)
+made-returned new old out e p q = (p ∙ ap ofMade e, q ∙ ap (λ (x : Made). tables.written x new old) e)
+
+-- The number of a judgement j.
+pub number-accepted : {j : Judgement} {n : ℕ} → j ≡ Accepted → n ≡ returned 0 0 → n ≡ ofJudgement j
+number-accepted e p = p ∙ ap ofJudgement (sym e)
+
+module _ {j : Judgement} {r : Refusal} {c s : ℕ} (e : j ≡ Refused r) (f : c ≡ refusals.causeOf r) (g : s ≡ refusals.secondOf r) where
+  pub refused-fits : secondOf j < 65536 → (c < 16) × (s < 65536)
+  refused-fits h = (rw f (cause-below r), rw g (rw e at h))
+
+  pub number-refused : {n : ℕ} → n ≡ returned c s → n ≡ ofJudgement j
+  number-refused p = p ∙ ap₂ returned f g ∙ ap ofJudgement (sym e)
 
 -- ---- both are read off
 read-off : (cause second : ℕ) → second < 65536 → ReadOff (returned cause second) cause second

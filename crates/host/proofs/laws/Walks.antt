@@ -12,7 +12,8 @@ use Rattle.network.specs.Lookups.{Walk}
 use Rattle.network.specs.Stages.{shifted, setBytes}
 use Rattle.network.proofs.laws.Cases.{starred}
 use Rattle.whitebox.specs.Calls.{started, toStop, fetch, handed, blockLeft}
-use Rattle.host.specs.Walks.{walkCause, walkLeaves}
+use Rattle.host.specs.Numbers.{returned}
+use Rattle.host.specs.Walks.{walkCause, walkReturns, walkLeaves}
 
 module _ (s b a : ℕ) where
   pub cause-set : (s ≡ 770048 → ⊥) → 9 ≡ walkCause s b a
@@ -36,16 +37,17 @@ chosen-below true true = omega arith
 chosen-below true false = omega arith
 chosen-below false q = omega arith
 
-pub walk-below : (s b a : ℕ) → walkCause s b a < 16
+pub walk-fits : {c : ℕ} (s b a : ℕ) → c ≡ walkCause s b a → (c < 16) × (0 < 65536)
 unfolding walkCause
-walk-below s b a = chosen-below (eqb s (setBytes 10)) (eqb b 16 && eqb a 16)
+walk-fits s b a e = (rw e (chosen-below (eqb s (setBytes 10)) (eqb b 16 && eqb a 16)), omega arith)
 
-module _ (set block lent : List ℕ) where
-  pub left-refused : (c : ℕ) → c ≡ walkCause (length set) (length block) (length lent) → (c ≡ 0 → ⊥) → lent ≡ walkLeaves set block lent
+-- ---- what the call returns, r, and what it leaves of the lent answer
+module _ (set block lent : List ℕ) {c r : ℕ} (e : c ≡ walkCause (length set) (length block) (length lent)) (q : r ≡ returned c 0) where
+  pub walk-refused : (c ≡ 0 → ⊥) → (r ≡ walkReturns set block lent) × (lent ≡ walkLeaves set block lent)
   unfolding walkLeaves
-  left-refused c e n = rw (sym e, ne-eqb c 0 n)
+  walk-refused n = (q ∙ rw e, rw (sym e, ne-eqb c 0 n))
 
-  pub left-done : (c : ℕ) → c ≡ walkCause (length set) (length block) (length lent) → c ≡ 0 → (u v : Walk) (left : List ℕ) → u ≡ started block
-      → v ≡ handed shifted 10 (toStop set 3008) u → left ≡ blockLeft shifted 10 (fetch lent) v → left ≡ walkLeaves set block lent
+  pub walk-done : c ≡ 0 → (u v : Walk) (left : List ℕ) → u ≡ started block → v ≡ handed shifted 10 (toStop set 3008) u
+      → left ≡ blockLeft shifted 10 (fetch lent) v → (r ≡ walkReturns set block lent) × (left ≡ walkLeaves set block lent)
   unfolding walkLeaves
-  left-done c e z u v left s m f = f ∙ rw (m, s, sym e, z, starred .all-lookups)
+  walk-done z u v left s m f = (q ∙ rw e, f ∙ rw (m, s, sym e, z, starred .all-lookups))

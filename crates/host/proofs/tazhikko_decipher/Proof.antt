@@ -1,10 +1,18 @@
--- `host::tazhikko_decipher` meets its contract. Assumes nothing.
+-- `host::tazhikko_decipher`: FIPS 197's inverse cipher of the crate `aes`, whose answer is handed on as a number; the number of that answer is the number of the one
+-- that the definition gives, and the block is as the call leaves it.
+-- Assumes nothing.
+use mathlib.Core.Path.{ap, _∙_}
 use Rattle.host.specs.Numbers.{ofAnswer}
-use mathlib.Core.Path.{_∙_, ap}
 use borrow.Author.Needs.{needs}
 use Rattle.host.proofs.tazhikko_decipher.Statement.{statement}
 use Rattle.host.proofs.tazhikko_decipher.Tie as tie
 
+returns : tie.Need-returns
+returns c =
+    let call : tie.After-decipher = search in
+    (c .of-answer .ensures ∙ ap ofAnswer (call .decipher .ensures .0), call .decipher .ensures .1)
+
+-- ---- the needs that the search closes
 decipher-requires : tie.Need-decipher-requires
 decipher-requires c κs = search needs
 
@@ -13,9 +21,6 @@ of-answer-requires c κs = search needs
 
 same-length : tie.Need-same-length
 same-length c = search needs
-
-returns : tie.Need-returns
-returns c = (c .of-answer .ensures ∙ ap ofAnswer (c .before .before .before .decipher .ensures .0), c .before .before .before .decipher .ensures .1)
 
 pub tazhikko-decipher-spec : {M : Type 1} → statement M
 tazhikko-decipher-spec =

@@ -1,13 +1,28 @@
--- `inversion::invert` meets its contract. Assumes nothing.
-use mathlib.Core.Path.{ap, _∙_}
-use Rattle.matrices.specs.Rows.{rowsOf}
-use Rattle.inversion.specs.Elimination.{Inversion, hasInverse, withInverse}
-use Rattle.inversion.specs.Work.{rights}
-use Rattle.inversion.proofs.laws.Work.{none-found, one-found, taken}
+-- `inversion::invert` meets its contract. `start` lays the matrix out beside the identity, and `eliminate` ensures that its answer and the right
+-- side are what the elimination of these ends in. Where it is true, `take_right` stores the right side, which is the inverse (`inverted` of
+-- `laws.Loops`); else there is none, and b is as it was (`not-inverted`). The laws' premises are what the calls ensure and the test.
+-- Assumes nothing.
+use Rattle.inversion.proofs.laws.Loops.{inverted, not-inverted}
 use borrow.Author.Needs.{needs}
 use Rattle.inversion.proofs.invert.Statement.{statement}
 use Rattle.inversion.proofs.invert.Tie as tie
 
+returns : tie.Need-returns
+returns c =
+    let taken : tie.After-take-right = search in
+    let found : tie.Then1 = search in
+    let eliminated : tie.After-eliminate = search in
+    let started : tie.After-start = search in
+    inverted _ _ _ _ _ (started .start .ensures .0) (started .start .ensures .1) (eliminated .eliminate .ensures) _ _
+    (found .if1 .taken) (taken .take-right .ensures)
+
+returns-2 : tie.Need-returns-2
+returns-2 c =
+    let eliminated : tie.After-eliminate = search in
+    let started : tie.After-start = search in
+    not-inverted _ _ _ _ _ (started .start .ensures .0) (started .start .ensures .1) (eliminated .eliminate .ensures) _ (c .if1 .left)
+
+-- ---- the needs that the search closes
 slice-aggregate-start : tie.Need-slice-aggregate-start
 slice-aggregate-start c = search needs
 
@@ -28,24 +43,6 @@ take-right-requires c κs = search needs
 
 same-length : tie.Need-same-length
 same-length c = search needs
-
-returns : tie.Need-returns
-returns c =
-    let A = c .before .before .before .before .before .before .before .before .before .before .before .before .before .before .args in
-    let S = c .before .before .before .before .before .before .before .before .before .before .start in
-    let E = c .before .before .before .before .before .before .before .eliminate in
-    let e = one-found (A .n) (rowsOf (A .n) (A .a .now)) _ _ (rights (A .n) (E .last .0)) (E .result) (S .ensures .0) (S .ensures .1) (E .ensures) (c .before .before .before .before .before .if1 .taken) in (
-      ap hasInverse e,
-      c .before .before .take-right .ensures ∙ taken (A .n) (E .last .0) (A .b .now) ∙ ap (λ (r : Inversion). withInverse (A .n) r (A .b .now)) e,
-    )
-
-returns-2 : tie.Need-returns-2
-returns-2 c =
-    let A = c .before .before .before .before .before .before .before .before .before .args in
-    let S = c .before .before .before .before .before .start in
-    let E = c .before .before .eliminate in
-    let e = none-found (A .n) (rowsOf (A .n) (A .a .now)) _ _ (rights (A .n) (E .last .0)) (E .result) (S .ensures .0) (S .ensures .1) (E .ensures) (c .if1 .left) in
-    (ap hasInverse e, ap (λ (r : Inversion). withInverse (A .n) r (A .b .now)) e)
 
 pub invert-spec : {M : Type 1} → statement M
 invert-spec =

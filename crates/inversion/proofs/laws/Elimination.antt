@@ -11,7 +11,8 @@ use lib.Bits.{bitXor, xor-lt}
 use lib.Pow.{pow-pos}
 use Rattle.bits.specs.Vectors.{bit, unit, dot, delta}
 use Rattle.bits.proofs.laws.Xor.{two, xor-zero-eq}
-use Rattle.bits.proofs.laws.Vectors.{dot-lt, dot-comm, dot-xor, xor-dot, dot-scale, delta-same, delta-eq, delta-other, delta-lt, bit-lt, bit-xor, bit-scale, bit-zero, unit-dot, dot-unit, unit-lt, bit-unit-same, bit-unit-other, bit-ext}
+use Rattle.bits.proofs.laws.Vectors.{dot-lt, dot-comm, dot-xor, xor-dot, dot-scale, delta-same, delta-eq, delta-other, delta-lt}
+use Rattle.bits.proofs.laws.Vectors.{bit-lt, bit-xor, bit-scale, bit-zero, unit-dot, dot-unit, unit-lt, bit-unit-same, bit-unit-other, bit-ext}
 use Rattle.matrices.specs.Matrices.{productBy}
 use Rattle.matrices.proofs.laws.Matrices.{product-lt, bit-product}
 use Rattle.inversion.specs.Elimination.{addRow, pivotBy, clearBy, pivoted, leftStep, rightStep}
@@ -54,7 +55,9 @@ pub record Inv (n : ℕ) (m : ℕ → ℕ) (f g : ℕ → ℕ) : Type 0 where
   pub null : (w : ℕ) → w < 2 ^ n → ((i : ℕ) → i < n → dot (g i) w ≡ 0) → w ≡ 0
 
 -- only the rows below n count
-pub inv-same : (n : ℕ) (m : ℕ → ℕ) (f g f′ g′ : ℕ → ℕ) → Inv n m f g → ((i : ℕ) → i < n → f′ i ≡ f i) → ((i : ℕ) → i < n → g′ i ≡ g i) → Inv n m f′ g′
+pub inv-same : (n : ℕ) (m : ℕ → ℕ) (f g f′ g′ : ℕ → ℕ) → Inv n m f g
+    → ((i : ℕ) → i < n → f′ i ≡ f i) → ((i : ℕ) → i < n → g′ i ≡ g i)
+    → Inv n m f′ g′
 inv-same n m f g f′ g′ I p q = record {
   range = I .range;
   left-fits = λ i h. subst (λ (x : ℕ). x < 2 ^ n) (sym (p i h)) (I .left-fits i h);

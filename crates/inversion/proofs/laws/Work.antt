@@ -1,6 +1,5 @@
--- Laws, not definitions: what the functions of the elimination do to the work area, and the loop over the columns.
+-- Laws, not definitions: what the functions of the elimination do to the work area, row by row and column by column.
 -- Assumes nothing.
-use mathlib.Core.Bool.{Bool, true, false}
 use mathlib.Core.List.{List}
 use mathlib.Core.Logic.{_≢_}
 use mathlib.Core.Path.{_≡_, refl, sym, ap, ap₂, _∙_, subst}
@@ -12,15 +11,15 @@ use native.Mathlib.Omega.{arith}
 use lib.Bits.{bitXor, xor-zero-r}
 use lib.ListN.{length}
 use Rattle.bits.specs.Lists.{at, tabulate}
-use Rattle.bits.specs.Vectors.{bit, unit, delta}
+use Rattle.bits.specs.Vectors.{bit, delta}
 use Rattle.bits.proofs.laws.Lists.{tabulate-ext, at-tabulate}
-use Rattle.bits.proofs.laws.Vectors.{delta-same, delta-other, bit-lt, bit-shift}
-use Rattle.matrices.specs.Matrices.{identity}
-use Rattle.matrices.specs.Rows.{rowAt, setRow, stored}
-use Rattle.matrices.proofs.laws.Rows.{row-set-same, row-set-other, length-setRow, stored-same}
-use Rattle.inversion.specs.Elimination.{addRow, pivotBy, clearBy, leftStep, rightStep, pivoted, choose, pivotFrom, Inversion, inverse, singular, unlessZero, columns, invert}
-use Rattle.inversion.specs.Work.{leftAt, rightAt, lefts, rights, addedTo, ended}
-use Rattle.inversion.proofs.laws.Inverses.{pivot-found}
+use Rattle.bits.proofs.laws.Vectors.{delta-same, delta-eq, delta-other, bit-lt, bit-shift}
+use Rattle.matrices.specs.Rows.{setRow}
+use Rattle.matrices.proofs.laws.Rows.{row-set-same, row-set-other, length-setRow}
+use Rattle.inversion.specs.Elimination.{addRow, pivotBy, clearBy, leftStep, rightStep, pivoted, choose, pivotFrom}
+use Rattle.inversion.specs.Elimination.{Inversion, inverse, singular, unlessZero, columns}
+use Rattle.inversion.specs.Work.{leftAt, rightAt, lefts, rights, addedTo}
+use Rattle.inversion.proofs.laws.Elimination.{clearBy-lt}
 
 -- ---- c times row s added to row i
 pub record Added (f : ℕ → ℕ) (i s c : ℕ) (g : ℕ → ℕ) : Type 0 where
@@ -82,21 +81,26 @@ module _ (c : ℕ → ℕ) (s : ℕ) (f : ℕ → ℕ) (cs : c s ≡ 0) where
 pub swept-all : (c : ℕ → ℕ) (s : ℕ) (f : ℕ → ℕ) (n i : ℕ) (g : ℕ → ℕ) → n ≤ i → Swept c s f i g → tabulate n g ≡ tabulate n (addRow c s f)
 swept-all c s f n i g h S = tabulate-ext n g (addRow c s f) (λ j k. S .done j (omega arith))
 
--- ---- the coefficients, as the code has them
-digit-bit : (n k r : ℕ) → r / 2 ^ (n - 1 - k) % 2 ≡ bit n k r
-digit-bit n k r = ap (λ (x : ℕ). r / 2 ^ x % 2) (let e : n - 1 - k ≡ n - suc k = omega arith in e) ∙ sym (bit-shift n k r)
+-- ---- the coefficients, as the code has them: b is bit k of x, which is row i
+pub digit-of-row : (n k : ℕ) (f : ℕ → ℕ) (i x b : ℕ) → x ≡ f i → b ≡ x / 2 ^ (n - 1 - k) % 2 → b ≡ bit n k (f i)
+digit-of-row n k f i x b row digit =
+    let place : n - 1 - k ≡ n - suc k = omega arith in
+    digit ∙ ap₂ (λ (y z : ℕ). y / 2 ^ z % 2) row place ∙ sym (bit-shift n k (f i))
 
 pub clearBy-self : (n k : ℕ) (f : ℕ → ℕ) (i : ℕ) → i ≡ k → 0 ≡ clearBy n k f i
 unfolding clearBy
 clearBy-self n k f i e =
-    sym (ap (λ (x : ℕ). (1 - delta i x) * bit n x (f i)) (sym e) ∙ ap (λ (x : ℕ). (1 - x) * bit n i (f i)) (delta-same i)
-    ∙ zero-mul (bit n i (f i)))
+    let own : 1 - delta i k ≡ 0 = omega (arith, delta-eq i k e) in
+    sym (ap (λ (x : ℕ). x * bit n k (f i)) own ∙ zero-mul (bit n k (f i)))
 
-pub clearBy-other : (n k : ℕ) (f : ℕ → ℕ) (i : ℕ) → i ≢ k → f i / 2 ^ (n - 1 - k) % 2 ≡ clearBy n k f i
+pub clearBy-other : (n k : ℕ) (f : ℕ → ℕ) (i x b : ℕ) → i ≢ k → x ≡ f i → b ≡ x / 2 ^ (n - 1 - k) % 2 → b ≡ clearBy n k f i
 unfolding clearBy
-clearBy-other n k f i h =
-    digit-bit n k (f i)
-    ∙ sym (ap (λ (x : ℕ). (1 - x) * bit n k (f i)) (delta-other i k h) ∙ one-mul (bit n k (f i)))
+clearBy-other n k f i x b h row digit =
+    digit-of-row n k f i x b row digit
+    ∙ sym (ap (λ (z : ℕ). (1 - z) * bit n k (f i)) (delta-other i k h) ∙ one-mul (bit n k (f i)))
+
+pub coefficient-small : (n k : ℕ) (f : ℕ → ℕ) (i x : ℕ) → x ≡ clearBy n k f i → x < 2
+coefficient-small n k f i x e = rw e (clearBy-lt n k f i)
 
 -- Only the row's own bit counts.
 pub clearBy-row : (n k : ℕ) (f g : ℕ → ℕ) (i : ℕ) → f i ≡ g i → clearBy n k f i ≡ clearBy n k g i
@@ -104,35 +108,34 @@ unfolding clearBy
 clearBy-row n k f g i e = ap (λ (x : ℕ). (1 - delta i k) * bit n k x) e
 
 -- Row k with its coefficient, and the others as they were.
-pub pivot-rows : (n k p : ℕ) (f g g′ : ℕ → ℕ) (b : ℕ) → b ≡ f k / 2 ^ (n - 1 - k) % 2 → Added g k p (1 - b) g′
-    → (i : ℕ) → i < n → g′ i ≡ addRow (pivotBy n k f) p g i
+pivot-rows : (n k p : ℕ) (f g g′ : ℕ → ℕ) (b : ℕ) → b ≡ bit n k (f k) → Added g k p (1 - b) g′ → (i : ℕ) → i < n
+    → g′ i ≡ addRow (pivotBy n k f) p g i
 unfolding pivotBy addRow
-pivot-rows n k p f g g′ b e A i l = elim (ℕ-discrete k i) [
-  | yes q ↦
-      subst (λ (i : ℕ). g′ i ≡ addRow (pivotBy n k f) p g i) q
-      (A .here
-      ∙ ap (λ (x : ℕ). bitXor (g k) (x * g p))
-      (ap (λ (x : ℕ). 1 - x) (e ∙ digit-bit n k (f k))
-      ∙ sym (ap (λ (x : ℕ). x * (1 - bit n k (f k))) (delta-same k) ∙ one-mul (1 - bit n k (f k)))))
-  | no q ↦
-      A .others i (λ r. q (sym r))
-      ∙ sym (stays (pivotBy n k f) p g i
-      (ap (λ (x : ℕ). x * (1 - bit n k (f k))) (delta-other i k (λ r. q (sym r))) ∙ zero-mul (1 - bit n k (f k))))
-]
+pivot-rows n k p f g g′ b e A i l =
+    let lacks = 1 - bit n k (f k) in
+    let mine : 1 - b ≡ pivotBy n k f k = ap (λ (x : ℕ). 1 - x) e ∙ sym (ap (λ (x : ℕ). x * lacks) (delta-same k) ∙ one-mul lacks) in
+    let none : i ≢ k → pivotBy n k f i ≡ 0 = λ q. ap (λ (x : ℕ). x * lacks) (delta-other i k q) ∙ zero-mul lacks in
+    elim (ℕ-discrete k i) [
+      | yes q ↦
+          subst (λ (i : ℕ). g′ i ≡ addRow (pivotBy n k f) p g i) q (A .here ∙ ap (λ (x : ℕ). bitXor (g k) (x * g p)) mine)
+      | no q ↦
+          let other : i ≢ k = λ r. q (sym r) in
+          A .others i other ∙ sym (stays (pivotBy n k f) p g i (none other))
+    ]
 
 -- ---- the search for a pivot, one row on
 step-one : (n k : ℕ) (f : ℕ → ℕ) (i : ℕ) → i < n → pivotFrom n k f (n - i) i ≡ choose (bit n k (f i)) i (pivotFrom n k f (n - suc i) (suc i))
 unfolding pivotFrom
 step-one n k f i h = ap (λ (d : ℕ). pivotFrom n k f d i) (let e : n - i ≡ suc (n - suc i) = omega arith in e)
 
-pub pivot-here : (n k : ℕ) (f : ℕ → ℕ) (i b : ℕ) → i < n → b ≡ f i / 2 ^ (n - 1 - k) % 2 → b ≡ 1 → i ≡ pivotFrom n k f (n - i) i
+pub pivot-here : (n k : ℕ) (f : ℕ → ℕ) (i b : ℕ) → i < n → b ≡ bit n k (f i) → b ≡ 1 → i ≡ pivotFrom n k f (n - i) i
 pivot-here n k f i b h e q =
-    sym (step-one n k f i h ∙ ap (λ (x : ℕ). choose x i (pivotFrom n k f (n - suc i) (suc i))) (sym (digit-bit n k (f i)) ∙ sym e ∙ q))
+    sym (step-one n k f i h ∙ ap (λ (x : ℕ). choose x i (pivotFrom n k f (n - suc i) (suc i))) (sym e ∙ q))
 
-pub pivot-on : (n k : ℕ) (f : ℕ → ℕ) (i b : ℕ) → i < n → b ≡ f i / 2 ^ (n - 1 - k) % 2 → b ≢ 1
+pub pivot-on : (n k : ℕ) (f : ℕ → ℕ) (i b : ℕ) → i < n → b ≡ bit n k (f i) → b ≢ 1
     → pivotFrom n k f (n - i) i ≡ pivotFrom n k f (n - (i + 1)) (i + 1)
 pivot-on n k f i b h e q =
-    let z : bit n k (f i) ≡ 0 = omega (arith, e, digit-bit n k (f i), bit-lt n k (f i)) in
+    let z : bit n k (f i) ≡ 0 = omega (arith, e, bit-lt n k (f i)) in
     step-one n k f i h ∙ ap (λ (x : ℕ). choose x i (pivotFrom n k f (n - suc i) (suc i))) z
     ∙ ap (λ (x : ℕ). pivotFrom n k f (n - x) x) (sym (add-one i))
 
@@ -146,6 +149,23 @@ unfolding pivotFrom
 pivot-same n k f g zero i e = refl
 pivot-same n k f g (suc d) i e =
     ap₂ (λ (x y : ℕ). choose (bit n k x) i y) (e i (omega arith)) (pivot-same n k f g d (suc i) (λ j h. e j (omega arith)))
+
+-- ---- a step of the whole work area m, which m₁ has become: row s is added on both sides by the coefficients c
+abbrev pub Stepped : ℕ → (ℕ → ℕ) → ℕ → List ℕ → List ℕ → Type 0
+Stepped n c s m m₁ =
+    (lefts n m₁ ≡ tabulate n (addRow c s (leftAt m))) × (rights n m₁ ≡ tabulate n (addRow c s (rightAt m)))
+
+pub pivot-step : (n k p : ℕ) (m m₁ : List ℕ) (x b : ℕ) → 4 * k + 3 < length m → x ≡ leftAt m k → b ≡ x / 2 ^ (n - 1 - k) % 2
+    → m₁ ≡ addedTo m k p (1 - b)
+    → Stepped n (pivotBy n k (leftAt m)) p m m₁
+unfolding lefts rights
+pivot-step n k p m m₁ x b h row digit e =
+    let has = digit-of-row n k (leftAt m) k x b row digit in
+    let same-left = pivot-rows n k p (leftAt m) (leftAt m) _ b has (added-left m k p (1 - b) h) in
+    let same-right = pivot-rows n k p (leftAt m) (rightAt m) _ b has (added-right m k p (1 - b) h) in (
+      ap (λ (w : List ℕ). tabulate n (leftAt w)) e ∙ tabulate-ext n _ _ same-left,
+      ap (λ (w : List ℕ). tabulate n (rightAt w)) e ∙ tabulate-ext n _ _ same-right,
+    )
 
 -- ---- one column of the elimination
 -- Only the first n rows count in a step.
@@ -189,20 +209,18 @@ module _ (n k : ℕ) (hk : k < n) (m : List ℕ) where
 
   -- m₁ is the work area behind the pivoting, m₂ behind the clearing.
   pub column-next : (p : ℕ) (m₁ m₂ : List ℕ) → p ≡ pivotFrom n k (leftAt m) (n - k) k → p < n
-      → lefts n m₁ ≡ tabulate n (addRow (pivotBy n k (leftAt m)) p (leftAt m))
-      → rights n m₁ ≡ tabulate n (addRow (pivotBy n k (leftAt m)) p (rightAt m))
-      → lefts n m₂ ≡ tabulate n (addRow (clearBy n k (leftAt m₁)) k (leftAt m₁))
-      → rights n m₂ ≡ tabulate n (addRow (clearBy n k (leftAt m₁)) k (rightAt m₁))
+      → Stepped n (pivotBy n k (leftAt m)) p m m₁
+      → Stepped n (clearBy n k (leftAt m₁)) k m₁ m₂
       → columns n (n - k) k (lefts n m) (rights n m) ≡ columns n (n - (k + 1)) (k + 1) (lefts n m₂) (rights n m₂)
   unfolding columns rest a b
-  column-next p m₁ m₂ e hp l₁ r₁ l₂ r₂ =
+  column-next p m₁ m₂ e hp s₁ s₂ =
       let P = pivotFrom n k (at a) (n - k) k in
       let z : n - P ≡ suc (n - suc p) = omega (arith, found-same p e) in
       ap (λ (d : ℕ). columns n d k a b) more
       ∙ ap (λ (x : ℕ). unlessZero x (rest P)) z
       ∙ ap₂ (λ (u v : List ℕ). columns n (n - suc k) (suc k) u v)
-      (ap (λ (q : ℕ). tabulate n (leftStep n k q (at a))) (found-same p e) ∙ sym (l₂ ∙ step-same n _ _ k _ _ hk clears lefts-same))
-      (ap (λ (q : ℕ). tabulate n (rightStep n k q (at a) (at b))) (found-same p e) ∙ sym (r₂ ∙ step-same n _ _ k _ _ hk clears rights-same))
+      (ap (λ (q : ℕ). tabulate n (leftStep n k q (at a))) (found-same p e) ∙ sym (s₂ .0 ∙ step-same n _ _ k _ _ hk clears lefts-same))
+      (ap (λ (q : ℕ). tabulate n (rightStep n k q (at a) (at b))) (found-same p e) ∙ sym (s₂ .1 ∙ step-same n _ _ k _ _ hk clears rights-same))
       ∙ ap (λ (x : ℕ). columns n (n - x) x (lefts n m₂) (rights n m₂)) (sym (add-one k))
     where
       pivots : (i : ℕ) → i < n → pivotBy n k (leftAt m) i ≡ pivotBy n k (at a) i
@@ -211,13 +229,13 @@ module _ (n k : ℕ) (hk : k < n) (m : List ℕ) where
       lefts-same : (i : ℕ) → i < n → leftAt m₁ i ≡ pivoted n k p (at a) i
       lefts-same i h =
           unfold lefts in sym (at-tabulate n (leftAt m₁) i h)
-          ∙ ap (λ (l : List ℕ). at l i) (l₁ ∙ step-same n _ _ p _ _ hp pivots (λ j g. sym (at-a j g)))
+          ∙ ap (λ (l : List ℕ). at l i) (s₁ .0 ∙ step-same n _ _ p _ _ hp pivots (λ j g. sym (at-a j g)))
           ∙ at-tabulate n (pivoted n k p (at a)) i h
 
       rights-same : (i : ℕ) → i < n → rightAt m₁ i ≡ addRow (pivotBy n k (at a)) p (at b) i
       rights-same i h =
           unfold rights in sym (at-tabulate n (rightAt m₁) i h)
-          ∙ ap (λ (l : List ℕ). at l i) (r₁ ∙ step-same n _ _ p _ _ hp pivots (λ j g. sym (at-b j g)))
+          ∙ ap (λ (l : List ℕ). at l i) (s₁ .1 ∙ step-same n _ _ p _ _ hp pivots (λ j g. sym (at-b j g)))
           ∙ at-tabulate n (addRow (pivotBy n k (at a)) p (at b)) i h
 
       clears : (i : ℕ) → i < n → clearBy n k (leftAt m₁) i ≡ clearBy n k (pivoted n k p (at a)) i
@@ -226,50 +244,3 @@ module _ (n k : ℕ) (hk : k < n) (m : List ℕ) where
 pub columns-done : (n k : ℕ) (u v : List ℕ) → k ≡ n → columns n (n - k) k u v ≡ inverse v
 unfolding columns
 columns-done n k u v e = ap (λ (d : ℕ). columns n d k u v) (let z : n - k ≡ 0 = omega arith in z)
-
--- ---- the whole, as `invert` of the code puts it together
-module _ (n : ℕ) (rows : List ℕ) where
-  pub none-found : (l r x : List ℕ) (t : Bool) → l ≡ rows → r ≡ identity n → columns n n 0 l r ≡ ended t x → t ≡ false → singular ≡ invert n rows
-  unfolding invert
-  none-found l r x t e f g h = sym (ap₂ (columns n n 0) (sym e) (sym f) ∙ g ∙ ap (λ (t : Bool). ended t x) h)
-
-  pub one-found : (l r b : List ℕ) (t : Bool) → l ≡ rows → r ≡ identity n → columns n n 0 l r ≡ ended t b → t ≡ true → inverse b ≡ invert n rows
-  unfolding invert
-  one-found l r b t e f g h = sym (ap₂ (columns n n 0) (sym e) (sym f) ∙ g ∙ ap (λ (t : Bool). ended t b) h)
-
--- ---- the start: rows below i are laid out
-pub record Started (n : ℕ) (a : List ℕ) (i : ℕ) (m : List ℕ) : Type 0 where
-  pub left : (j : ℕ) → j < i → leftAt m j ≡ rowAt a j
-  pub right : (j : ℕ) → j < i → rightAt m j ≡ unit n j
-
-pub started-none : (n : ℕ) (a m : List ℕ) → Started n a 0 m
-started-none n a m = record { left = λ j h. absurd (omega arith); right = λ j h. absurd (omega arith) }
-
-pub started-more : (n : ℕ) (a : List ℕ) (i : ℕ) (m m₁ m₂ : List ℕ) (x y : ℕ) → 4 * i + 3 < length m → Started n a i m
-    → x ≡ rowAt a i → y ≡ 2 ^ (n - 1 - i) → m₁ ≡ setRow m (2 * i) x → m₂ ≡ setRow m₁ (2 * i + 1) y → Started n a (i + 1) m₂
-started-more n a i m m₁ m₂ x y h S ex ey e₁ e₂ =
-    let long : length m₁ ≡ length m = ap length e₁ ∙ length-setRow m (2 * i) x in
-    let l : (j : ℕ) → leftAt m₂ j ≡ leftAt m₁ j = λ j. ap (λ (z : List ℕ). leftAt z j) e₂ ∙ row-set-other m₁ (2 * i + 1) y (2 * j) (omega arith) in
-    let r : (j : ℕ) → rightAt m₁ j ≡ rightAt m j = λ j. ap (λ (z : List ℕ). rightAt z j) e₁ ∙ row-set-other m (2 * i) x (2 * j + 1) (omega arith) in
-    record {
-      left = λ j k. l j ∙ elim (ℕ-discrete i j) [
-        | yes q ↦ subst (λ (j : ℕ). leftAt m₁ j ≡ rowAt a j) q (ap (λ (z : List ℕ). leftAt z i) e₁ ∙ row-set-same m (2 * i) x (omega arith) ∙ ex)
-        | no q ↦ ap (λ (z : List ℕ). leftAt z j) e₁ ∙ row-set-other m (2 * i) x (2 * j) (omega arith) ∙ S .left j (omega arith)
-      ];
-      right = λ j k. elim (ℕ-discrete i j) [
-        | yes q ↦
-            subst (λ (j : ℕ). rightAt m₂ j ≡ unit n j) q
-            (ap (λ (z : List ℕ). rightAt z i) e₂ ∙ row-set-same m₁ (2 * i + 1) y (omega arith) ∙ ey
-            ∙ ap (λ (z : ℕ). 2 ^ z) (let e : n - 1 - i ≡ n - suc i = omega arith in e))
-        | no q ↦
-            ap (λ (z : List ℕ). rightAt z j) e₂ ∙ row-set-other m₁ (2 * i + 1) y (2 * j + 1) (omega arith) ∙ r j ∙ S .right j (omega arith)
-      ];
-    }
-
-pub found-le : (n k : ℕ) (m : List ℕ) (p : ℕ) → k < n → p ≡ pivotFrom n k (leftAt m) (n - k) k → p ≤ n
-found-le n k m p h e = subst (λ (x : ℕ). x ≤ n) (sym e) (pivot-found n k (leftAt m) (n - k) k (omega arith) .upto)
-
--- The rows on the right, stored, are the inverse's.
-pub taken : (n : ℕ) (m b : List ℕ) → stored n (rightAt m) b ≡ stored n (at (rights n m)) b
-unfolding rights
-taken n m b = stored-same n (rightAt m) (at (tabulate n (rightAt m))) b (λ i h. sym (at-tabulate n (rightAt m) i h))

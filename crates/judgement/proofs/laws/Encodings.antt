@@ -1,16 +1,17 @@
--- Laws, not definitions: the test for a repeated image, one turn of its loop, and that it is exact.
+-- Laws, not definitions: the test for a repeated image, the loop that makes it, and that it is exact.
 -- Assumes nothing.
 use mathlib.Core.Bool.{Bool, true, false, cond, _||_, or-false, or-assoc}
 use mathlib.Core.List.{List}
 use mathlib.Core.Path.{_≡_, refl, sym, ap, ap₂, _∙_, subst}
-use Prim.Native.Nat.{ℕ, zero, suc, _+_, _-_, _*_, _/_, _%_, _≤_, _<_}
+use Prim.Native.Nat.{ℕ, zero, suc, _+_, _-_, _*_, _/_, _%_, _^_, _≤_, _<_}
 use native.Mathlib.Decide.{ℕ-discrete, decLt}
-use native.Mathlib.Nat.{zero-add, add-zero}
+use native.Mathlib.Nat.{zero-add, add-zero, one-mul, mod-eq-of-lt}
 use native.Mathlib.Numerals.{add-one}
 use native.Mathlib.Omega.{arith}
 use lib.Bits.{bitXor}
 use lib.Dec.{eqb}
 use lib.ListN.{drop}
+use lib.Pow.{pow-lt}
 use lib.Seq.{getD-take, getD-drop}
 use borrow.Author.Tests.{eq-eqb, ne-eqb, eqb-false}
 use Rattle.bits.specs.Bytes.{Bytes}
@@ -20,16 +21,29 @@ use Rattle.bits.specs.Nibbles.{nibble}
 use Rattle.bits.specs.Vectors.{bit, unit}
 use Rattle.bits.proofs.laws.Images.{image-at, images-long}
 use Rattle.bits.proofs.laws.Nibbles.{nibble-lt, nibble-even, nibble-odd}
-use Rattle.bits.proofs.laws.Vectors.{bit-lt, bit-xor, bit-zero, bit-unit-same, bit-unit-other}
+use Rattle.bits.proofs.laws.Vectors.{bit-shift, bit-lt, bit-xor, bit-zero, bit-unit-same, bit-unit-other}
 use Rattle.bundle.specs.Format.{partOf}
 use Rattle.bundle.proofs.laws.Tests.{or-left, or-right, neither}
 use Rattle.judgement.specs.Judge.{among, repeats, noPermutation}
 
+-- ---- a number below 16 as a bit of a word, as the code shifts it
+pub marked-bit : (x s : ℕ) → x < 16 → eqb (s / 2 ^ (15 - x) % 2) 1 ≡ eqb (bit 16 x s) 1
+marked-bit x s h =
+    let e : 15 - x ≡ 16 - suc x = omega arith in
+    sym (ap (λ (b : ℕ). eqb b 1) (bit-shift 16 x s ∙ ap (λ (k : ℕ). s / 2 ^ k % 2) (sym e)))
+
+pub turned-bit : (x s : ℕ) → x < 16 → bitXor s (1 * 2 ^ (15 - x) % 2 ^ 64) ≡ bitXor s (unit 16 x)
+turned-bit x s h =
+    let e : 15 - x ≡ 16 - suc x = omega arith in
+    let k : 15 - x < 64 = omega arith in
+    let one : 1 * 2 ^ (15 - x) % 2 ^ 64 ≡ 2 ^ (15 - x) = ap (λ (y : ℕ). y % 2 ^ 64) (one-mul (2 ^ (15 - x))) ∙ mod-eq-of-lt (pow-lt k) in
+    ap (bitXor s) (one ∙ ap (λ (k : ℕ). 2 ^ k) e)
+
 -- ---- the numbers seen so far, as the bits of a number: bit y says whether y is among the first i
-abbrev pub Seen : ℕ → (ℕ → ℕ) → ℕ → Type 0
+abbrev Seen : ℕ → (ℕ → ℕ) → ℕ → Type 0
 Seen s f i = (y : ℕ) → y < 16 → eqb (bit 16 y s) 1 ≡ among i 0 f y
 
-pub seen-none : (f : ℕ → ℕ) → Seen 0 f 0
+seen-none : (f : ℕ → ℕ) → Seen 0 f 0
 unfolding among
 seen-none f y h = rw (bit-zero 16 y)
 
@@ -67,24 +81,24 @@ module _ (s : ℕ) (f : ℕ → ℕ) (i : ℕ) (h : f i < 16) (new : among i 0 f
 
 -- As the code has them: x is the number at place i.
 module _ (s : ℕ) (f : ℕ → ℕ) (i x : ℕ) (e : x ≡ f i) (h : x < 16) (S : Seen s f i) where
-  pub seen-told : (r : Bool) → r ≡ eqb (bit 16 x s) 1 → among i 0 f (f i) ≡ r
+  seen-told : (r : Bool) → r ≡ eqb (bit 16 x s) 1 → among i 0 f (f i) ≡ r
   seen-told r q = ap (among i 0 f) (sym e) ∙ sym (S x h) ∙ sym q
 
-  pub seen-turned : among i 0 f (f i) ≡ false → (s′ : ℕ) → s′ ≡ bitXor s (unit 16 x) → Seen s′ f (i + 1)
+  seen-turned : among i 0 f (f i) ≡ false → (s′ : ℕ) → s′ ≡ bitXor s (unit 16 x) → Seen s′ f (i + 1)
   seen-turned new s′ q =
       subst (λ (z : ℕ). Seen z f (i + 1)) (sym (q ∙ ap (λ (z : ℕ). bitXor s (unit 16 z)) e)) (seen-more s f i (subst (λ (z : ℕ). z < 16) e h) new S)
 
 -- ---- one turn of the loop over the images
 module _ (m i : ℕ) (f : ℕ → ℕ) (h : i < m) where
-  pub repeats-no : among i 0 f (f i) ≡ false → repeats (m - i) i f ≡ repeats (m - (i + 1)) (i + 1) f
+  repeats-no : among i 0 f (f i) ≡ false → repeats (m - i) i f ≡ repeats (m - (i + 1)) (i + 1) f
   unfolding repeats
   repeats-no e = let k : m - i ≡ suc (m - (i + 1)) = omega arith in rw (k, e, add-one i)
 
-  pub repeats-yes : among i 0 f (f i) ≡ true → repeats (m - i) i f ≡ true
+  repeats-yes : among i 0 f (f i) ≡ true → repeats (m - i) i f ≡ true
   unfolding repeats
   repeats-yes e = let k : m - i ≡ suc (m - (i + 1)) = omega arith in rw (k, e)
 
-pub repeats-end : (m i : ℕ) (f : ℕ → ℕ) → m ≤ i → repeats (m - i) i f ≡ false
+repeats-end : (m i : ℕ) (f : ℕ → ℕ) → m ≤ i → repeats (m - i) i f ≡ false
 unfolding repeats
 repeats-end m i f h = let k : m - i ≡ 0 = omega arith in rw k
 
@@ -146,13 +160,25 @@ nibble-part s n i h =
     let b : (n * 16 + i) % 2 ≡ i % 2 = omega arith in
     rw (a, b, getD-take 8 (drop (n * 8) s) (i / 2) 0 (omega arith), getD-drop (n * 8) s (i / 2) 0)
 
-pub in-section : (s : List ℕ) (n : ℕ) → badIn s n ≡ repeats (16 - 0) 0 (imageIn s n)
+in-section : (s : List ℕ) (n : ℕ) → badIn s n ≡ repeats (16 - 0) 0 (imageIn s n)
 unfolding noPermutation
 in-section s n =
     repeats-same 16 0 (at (imagesOf (partOf 8 s n))) (imageIn s n) (λ i h. image-at (partOf 8 s n) i (omega arith) ∙ nibble-part s n i (omega arith))
 
 unlike : false ≡ true → ⊥
 unlike r = let y : _≡_ {A = ℕ} 0 1 = ap (λ (b : Bool). cond b 1 0) r in absurd (omega arith)
+
+-- The code's test of a byte b: its first image is marked in s, or its second is where the first is turned over.
+abbrev pub repeatedIn : ℕ → ℕ → Bool
+repeatedIn s b = cond (eqb (bit 16 (b / 16) s) 1) true (eqb (bit 16 (b % 16) (bitXor s (unit 16 (b / 16)))) 1)
+
+-- r says whether the first is marked; z is s with it turned over, and t says whether the second is marked there.
+module _ (s b : ℕ) {r : Bool} (e : r ≡ eqb (bit 16 (b / 16) s) 1) where
+  pub repeated-first : r ≡ true → true ≡ repeatedIn s b
+  repeated-first q = rw (← e, q)
+
+  pub repeated-second : r ≡ false → {z : ℕ} {t : Bool} → z ≡ bitXor s (unit 16 (b / 16)) → t ≡ eqb (bit 16 (b % 16) z) 1 → t ≡ repeatedIn s b
+  repeated-second q f g = g ∙ rw (f, ← e, q)
 
 -- ---- one turn of the loop over a list's bytes: its images i and i + 1
 module _ (m s : ℕ) (f : ℕ → ℕ) (i b : ℕ) (e : b / 16 ≡ f i) (e′ : b % 16 ≡ f (i + 1)) (small : b < 256) (h : i + 1 < m) (S : Seen s f i) where
@@ -182,19 +208,57 @@ module _ (m s : ℕ) (f : ℕ → ℕ) (i b : ℕ) (e : b / 16 ≡ f i) (e′ : 
     seen-turned once f (i + 1) (b % 16) e′ (omega arith) (first-new t) (told-next t false u) _ refl,
   )
 
-  pub byte-repeats : cond (eqb (bit 16 (b / 16) s) 1) true (eqb (bit 16 (b % 16) once) 1) ≡ true → repeats (m - i) i f ≡ true
+  byte-repeats : repeatedIn s b ≡ true → repeats (m - i) i f ≡ true
   byte-repeats = pair-yes _ _ refl refl
 
-  pub byte-new : cond (eqb (bit 16 (b / 16) s) 1) true (eqb (bit 16 (b % 16) once) 1) ≡ false
+  byte-new : repeatedIn s b ≡ false
       → (repeats (m - i) i f ≡ repeats (m - (i + 1 + 1)) (i + 1 + 1) f) × Seen (bitXor once (unit 16 (b % 16))) f (i + 1 + 1)
   byte-new = pair-no _ _ refl refl
 
 -- Byte i of list n has its images 2 i and 2 i + 1.
-pub byte-images : (s : List ℕ) (n i : ℕ) → (at s (n * 8 + i) / 16 ≡ imageIn s n (2 * i)) × (at s (n * 8 + i) % 16 ≡ imageIn s n (2 * i + 1))
+abbrev pub byteIn : List ℕ → ℕ → ℕ → ℕ
+byteIn s n i = at s (n * 8 + i)
+
+byte-images : (s : List ℕ) (n i : ℕ) → (byteIn s n i / 16 ≡ imageIn s n (2 * i)) × (byteIn s n i % 16 ≡ imageIn s n (2 * i + 1))
 byte-images s n i =
     let a : 2 * (n * 8 + i) ≡ n * 16 + 2 * i = omega arith in
     let o : 2 * (n * 8 + i) + 1 ≡ n * 16 + (2 * i + 1) = omega arith in
     (sym (nibble-even s (n * 8 + i)) ∙ ap (nibble s) a, sym (nibble-odd s (n * 8 + i)) ∙ ap (nibble s) o)
+
+-- The loop's invariant: the images of the first i bytes of list n differ, `seen` marks them, and the images left decide.
+pub record Imaged (l : List ℕ) (n seen i : ℕ) : Type 0 where
+  pub within : i ≤ 8
+  pub same : badIn l n ≡ repeats (16 - 2 * i) (2 * i) (imageIn l n)
+  pub marks : Seen seen (imageIn l n) (2 * i)
+
+pub imaged-none : (l : List ℕ) (n : ℕ) → Imaged l n 0 0
+imaged-none l n = record { within = omega arith; same = in-section l n; marks = seen-none (imageIn l n) }
+
+-- Byte i is tested, and r is what the test says.
+module _ {l : List ℕ} {n seen i : ℕ} {r : Bool} (I : Imaged l n seen i) (h : i < 8) (small : byteIn l n i < 256) (e : r ≡ repeatedIn seen (byteIn l n i)) where
+  pub imaged-here : r ≡ true → true ≡ badIn l n
+  imaged-here t =
+      let images = byte-images l n i in
+      sym (I .same ∙ byte-repeats 16 seen (imageIn l n) (2 * i) (byteIn l n i) (images .0) (images .1) small (omega arith) (I .marks) (sym e ∙ t))
+
+  -- Its two images are turned over, one after the other.
+  pub imaged-next : {s₁ s₂ : ℕ} → r ≡ false → s₁ ≡ bitXor seen (unit 16 (byteIn l n i / 16)) → s₂ ≡ bitXor s₁ (unit 16 (byteIn l n i % 16))
+      → Imaged l n s₂ (i + 1)
+  imaged-next {s₁} {s₂} t e₁ e₂ =
+      let f = imageIn l n in
+      let b = byteIn l n i in
+      let images = byte-images l n i in
+      let new = byte-new 16 seen f (2 * i) b (images .0) (images .1) small (omega arith) (I .marks) (sym e ∙ t) in
+      let two : 2 * i + 1 + 1 ≡ 2 * (i + 1) = omega arith in
+      let turned : s₂ ≡ bitXor (bitXor seen (unit 16 (b / 16))) (unit 16 (b % 16)) = e₂ ∙ ap (λ (z : ℕ). bitXor z (unit 16 (b % 16))) e₁ in
+      record {
+        within = omega arith;
+        same = I .same ∙ new .0 ∙ ap (λ (k : ℕ). repeats (16 - k) k f) two;
+        marks = subst (λ (k : ℕ). Seen s₂ f k) two (subst (λ (z : ℕ). Seen z f (2 * i + 1 + 1)) (sym turned) (new .1));
+      }
+
+pub imaged-all : {l : List ℕ} {n seen i : ℕ} → Imaged l n seen i → 8 ≤ i → false ≡ badIn l n
+imaged-all {l} {n} {i = i} I h = sym (I .same ∙ repeats-end 16 (2 * i) (imageIn l n) (omega arith))
 
 -- ---- the test is exact
 pub good-permutation : (p : List ℕ) → Bytes p → noPermutation p ≡ false → Permutation (imagesOf p)

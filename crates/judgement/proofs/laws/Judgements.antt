@@ -6,7 +6,8 @@ use mathlib.Core.Path.{_≡_, _∙_, subst}
 use Prim.Native.Nat.{ℕ, _≤_}
 use native.Mathlib.Omega.{arith}
 use Rattle.bits.specs.Bytes.{Bytes}
-use Rattle.bundle.specs.Format.{encodings, byteMatrices, columnMatrices, PairRight, pairBad, lengthBad, frame, encodingPart, byteMatrixPart, columnMatrixPart, inputMatrixPart, outputMatrixPart}
+use Rattle.bundle.specs.Format.{encodings, byteMatrices, columnMatrices, PairRight, pairBad, lengthBad, frame}
+use Rattle.bundle.specs.Format.{encodingPart, byteMatrixPart, columnMatrixPart, inputMatrixPart, outputMatrixPart}
 use Rattle.bundle.specs.Frames.{Framed}
 use Rattle.bundle.specs.Refusals.{causeOf, unlessAt, andThen}
 use Rattle.bundle.specs.Search.{first}
@@ -20,7 +21,8 @@ use Rattle.bundle.proofs.laws.Parts.{at-bytes, part-refused, part-behind, part-
 use Rattle.bundle.proofs.laws.Search.{none-all, all-none, at-bad, bad-at}
 use Rattle.bundle.proofs.laws.Tests.{clash, not-false-true, by-unless, by-unlessAt, by-andThen}
 use Rattle.judgement.specs.Judge.{noInverse, encodingBad, byteMatrixBad, columnMatrixBad, judgeEncodings, judgeMatrices, judge}
-use Rattle.judgement.specs.Judgements.{GoodEncoding, GoodByteMatrix, GoodColumnMatrix, GoodInputMatrix, GoodOutputMatrix, GoodEncodings, GoodByteMatrices, GoodColumnMatrices, Sound, Why, Reasoned, Only, AcceptedExactly, Parts}
+use Rattle.judgement.specs.Judgements.{GoodEncoding, GoodByteMatrix, GoodColumnMatrix, GoodInputMatrix, GoodOutputMatrix}
+use Rattle.judgement.specs.Judgements.{GoodEncodings, GoodByteMatrices, GoodColumnMatrices, Sound, Why, Reasoned, Only, AcceptedExactly, Parts}
 use Rattle.judgement.proofs.laws.Encodings.{good-permutation, permutation-good}
 use Rattle.judgement.proofs.laws.Matrices.{good-invertible, invertible-good}
 

@@ -4,6 +4,7 @@ use mathlib.Core.List.{List}
 use mathlib.Core.Logic.{⊎-elim, _⊎_, inl, inr}
 use mathlib.Core.Path.{_≡_, refl, sym, ap, ap₂, _∙_}
 use Prim.Native.Nat.{ℕ, suc, _+_, _-_, _*_, _/_, _%_, _≤_, _<_}
+use native.Mathlib.Numerals.{add-one}
 use native.Mathlib.Omega.{arith}
 use borrow.Author.Tests.{eq-eqb, ne-eqb, lt-ltb, le-ltb}
 use lib.ListN.{length, drop, length-set, length-replicate}
@@ -35,85 +36,88 @@ xor-pair-at m y p q high low a h n e f e′ f′ =
     ∙ xor-at m (2 * y + 1) (2 * p + 1) (2 * q + 1) low (xorArea m (2 * y) high a) e′ f′
 
 -- Entry and exit: one group of 16 words.
-pub below-480 : (m x : ℕ) → m ≡ 16 → XorIn m x → x < 480
-below-480 m x e k = ⊎-elim (λ p. p .1) (λ p. absurd (omega arith)) k
+pub below-480 : {m x : ℕ} → XorIn m x → m ≡ 16 → x < 480
+below-480 k e = ⊎-elim (λ p. p .1) (λ p. absurd (omega arith)) k
 
-pub xor-16 : (m x p q : ℕ) (t a : List ℕ) → m ≡ 16 → p ≡ sumPlace 16 x → q ≡ addedPlace 16 x
-    → setNibble a p (nibble t (pack (nibble a p) (nibble a q))) ≡ xorArea m x t a
-xor-16 m x p q t a e f g = xor-at 16 x p q t a f g ∙ ap (λ (m : ℕ). xorArea m x t a) (sym e)
+pub xor-16 : (m x : ℕ) (t a a′ : List ℕ) → XorIn m x → m ≡ 16
+    → a′ ≡ setNibble a (x % 32) (nibble t (pack (nibble a (x % 32)) (nibble a (x + 32))))
+    → a′ ≡ xorArea m x t a
+xor-16 m x t a a′ k e f =
+    let h = below-480 k e in
+    f ∙ xor-at 16 x (x % 32) (x + 32) t a (omega arith) (omega arith) ∙ ap (λ (m : ℕ). xorArea m x t a) (sym e)
 
-pub xor-pair-16 : (m y : ℕ) (high low a : List ℕ) → m ≡ 16 → y < 240 → length a ≡ 256
-    → xorByte high low (y % 16) (y + 16) a ≡ xorArea m (2 * y + 1) low (xorArea m (2 * y) high a)
-xor-pair-16 m y high low a e h l =
-    xor-pair-at 16 y (y % 16) (y + 16) high low a (omega arith) (λ z. omega arith) (omega arith) (omega arith) (omega arith) (omega arith)
+pub xor-pair-16 : (m y : ℕ) (high low a a′ : List ℕ) → XorIn m (2 * y + 1) → m ≡ 16 → length a ≡ 256
+    → a′ ≡ xorByte high low (y % 16) (y + 16) a
+    → a′ ≡ xorArea m (2 * y + 1) low (xorArea m (2 * y) high a)
+xor-pair-16 m y high low a a′ k e l f =
+    let h : y < 240 = omega (arith, below-480 k e) in
+    f
+    ∙ xor-pair-at 16 y (y % 16) (y + 16) high low a (omega arith) (λ z. omega arith) (omega arith) (omega arith) (omega arith) (omega arith)
     ∙ ap (λ (m : ℕ). xorArea m (2 * y + 1) low (xorArea m (2 * y) high a)) (sym e)
 
 -- A half: four groups of 4 words.
-pub is-4 : (m x : ℕ) → (m ≡ 16 → ⊥) → XorIn m x → (m ≡ 4) × (x < 96)
-is-4 m x n k = ⊎-elim (λ p. absurd (n (p .0))) (λ p. p) k
+pub is-4 : {m x : ℕ} → XorIn m x → (m ≡ 16 → ⊥) → (m ≡ 4) × (x < 96)
+is-4 k n = ⊎-elim (λ p. absurd (n (p .0))) (λ p. p) k
 
-pub xor-4 : (m x p q : ℕ) (t a : List ℕ) → m ≡ 4 → p ≡ sumPlace 4 x → q ≡ addedPlace 4 x
-    → setNibble a p (nibble t (pack (nibble a p) (nibble a q))) ≡ xorArea m x t a
-xor-4 m x p q t a e f g = xor-at 4 x p q t a f g ∙ ap (λ (m : ℕ). xorArea m x t a) (sym e)
+pub xor-4 : (m x : ℕ) (t a a′ : List ℕ) → XorIn m x → (m ≡ 16 → ⊥)
+    → a′ ≡ setNibble a (x / 24 * 32 + x % 8) (nibble t (pack (nibble a (x / 24 * 32 + x % 8)) (nibble a (x / 24 * 32 + 8 + x % 24))))
+    → a′ ≡ xorArea m x t a
+xor-4 m x t a a′ k n f =
+    let h = is-4 k n in
+    f
+    ∙ xor-at 4 x (x / 24 * 32 + x % 8) (x / 24 * 32 + 8 + x % 24) t a (omega arith) (omega arith)
+    ∙ ap (λ (m : ℕ). xorArea m x t a) (sym (h .0))
 
-pub xor-pair-4 : (m y : ℕ) (high low a : List ℕ) → m ≡ 4 → y < 48 → length a ≡ 256
-    → xorByte high low (y / 12 * 16 + y % 4) (y / 12 * 16 + 4 + y % 12) a ≡ xorArea m (2 * y + 1) low (xorArea m (2 * y) high a)
-xor-pair-4 m y high low a e h l =
+pub xor-pair-4 : (m y : ℕ) (high low a a′ : List ℕ) → XorIn m (2 * y + 1) → (m ≡ 16 → ⊥) → length a ≡ 256
+    → a′ ≡ xorByte high low (y / 12 * 16 + y % 4) (y / 12 * 16 + 4 + y % 12) a
+    → a′ ≡ xorArea m (2 * y + 1) low (xorArea m (2 * y) high a)
+xor-pair-4 m y high low a a′ k n l f =
+    let h = is-4 k n in
     let turn : 2 * y / 8 ≡ y / 4 = omega arith in
     let turn′ : (2 * y + 1) / 8 ≡ y / 4 = omega arith in
     let group : y / 4 / 3 ≡ y / 12 = omega arith in
     let word : y % 12 ≡ y / 4 % 3 * 4 + y % 4 = omega arith in
-    xor-pair-at 4 y (y / 12 * 16 + y % 4) (y / 12 * 16 + 4 + y % 12) high low a (omega arith) (λ z. omega arith)
-    (rw (turn, group) (omega arith)) (rw (turn, group, word) (omega arith)) (rw (turn′, group) (omega arith)) (rw (turn′, group, word) (omega arith))
-    ∙ ap (λ (m : ℕ). xorArea m (2 * y + 1) low (xorArea m (2 * y) high a)) (sym e)
+    f
+    ∙ xor-pair-at 4 y (y / 12 * 16 + y % 4) (y / 12 * 16 + 4 + y % 12) high low a (omega arith) (λ z. omega arith)
+    (rw (turn, group) (omega arith)) (rw (turn, group, word) (omega arith))
+    (rw (turn′, group) (omega arith)) (rw (turn′, group, word) (omega arith))
+    ∙ ap (λ (m : ℕ). xorArea m (2 * y + 1) low (xorArea m (2 * y) high a)) (sym (h .0))
 
 pub length-xor : (m x : ℕ) (t a : List ℕ) → length (xorArea m x t a) ≡ length a
 unfolding xorArea setNibble
 length-xor m x t a = simp length-set
+
+pub length-after-xor : (m x n : ℕ) (t a a′ : List ℕ) → a′ ≡ xorArea m x t a → length a ≡ n → length a′ ≡ n
+length-after-xor m x n t a a′ e l = ap length e ∙ length-xor m x t a ∙ l
 
 -- ---- what a lookup that fits has
 lookups-0 : layerLookups 0 ≡ 16
 unfolding layerLookups xors
 lookups-0 = refl
 
-pub record Spreads (m long : ℕ) : Type 0 where
-  pub narrow : m ≤ 16
-  pub sized : long ≡ 256 * m
+-- Lookup j of a stage or half of width m, over a table of the given length: a spread lookup below 16, else an XOR lookup.
+module _ {s : Stage} {j long : ℕ} (f : Fits s j long) where
+  kind : (s : Stage) → 16 ≤ j → j < layerLookups (widthOf s) → XorIn (widthOf s) (j - 16)
+  kind Entry h w = inl (refl, omega (arith, lookups-16))
+  kind (First r) h w = inr (refl, omega (arith, lookups-4))
+  kind (Second r) h w = inr (refl, omega (arith, lookups-4))
+  kind Exit h w = inl (refl, omega (arith, lookups-16))
+  kind Beyond h w = absurd (omega (arith, lookups-0))
 
-pub spreads : (s : Stage) (j long : ℕ) → Fits s j long → j < 16 → Spreads (widthOf s) long
-spreads s j long f h = record { narrow = most s; sized = rw (lt-ltb j 16 h) at (f .sized) }
-  where
-    most : (s : Stage) → widthOf s ≤ 16
-    most Entry = omega arith
-    most (First r) = omega arith
-    most (Second r) = omega arith
-    most Exit = omega arith
-    most Beyond = omega arith
+  pub spread-sized : {m : ℕ} → m ≡ widthOf s → j < 16 → long ≡ 256 * m
+  spread-sized e h = rw e (rw (lt-ltb j 16 h) at (f .sized))
 
-pub record Xors (m j long : ℕ) : Type 0 where
-  pub within : XorIn m (j - 16)
-  pub sized : long ≡ 128
+  pub xor-sized : 16 ≤ j → long ≡ 128
+  xor-sized h = rw (le-ltb j 16 h) at (f .sized)
 
-pub xors-in : (s : Stage) (j long : ℕ) → Fits s j long → 16 ≤ j → Xors (widthOf s) j long
-xors-in s j long f h = record { within = kind s (f .within); sized = rw (le-ltb j 16 h) at (f .sized) }
-  where
-    kind : (s : Stage) → j < layerLookups (widthOf s) → XorIn (widthOf s) (j - 16)
-    kind Entry w = inl (refl, omega (arith, lookups-16))
-    kind (First r) w = inr (refl, omega (arith, lookups-4))
-    kind (Second r) w = inr (refl, omega (arith, lookups-4))
-    kind Exit w = inl (refl, omega (arith, lookups-16))
-    kind Beyond w = absurd (omega (arith, lookups-0))
+  pub xor-within : {m : ℕ} → m ≡ widthOf s → 16 ≤ j → XorIn m (j - 16)
+  xor-within e h = rw e (kind s h (f .within))
 
-pub record Groups (m j : ℕ) : Type 0 where
-  pub width : (m ≡ 4) ⊎ (m ≡ 16)
-  pub below : j < 496
+  pub xor-width : {m : ℕ} → m ≡ widthOf s → 16 ≤ j → (m ≡ 4) ⊎ (m ≡ 16)
+  xor-width e h = ⊎-elim (λ p. inr (p .0)) (λ p. inl (p .0)) (xor-within e h)
 
-pub groups : (s : Stage) (j long : ℕ) → Fits s j long → 16 ≤ j → Groups (widthOf s) j
-groups s j long f h =
-    ⊎-elim
-    (λ p. record { width = inr (p .0); below = omega arith })
-    (λ p. record { width = inl (p .0); below = omega arith })
-    (xors-in s j long f h .within)
+  pub xor-below : 16 ≤ j → j < 496
+  xor-below h = ⊎-elim (λ p. omega arith) (λ p. omega arith) (kind s h (f .within))
 
 pub length-sums : (m : ℕ) (a : List ℕ) → length (sums m a) ≡ 16
 unfolding sums
@@ -142,11 +146,11 @@ module _ (S : Shape) (j : ℕ) (t : List ℕ) (w : Walk) where
 next : ℕ → List ℕ → List ℕ → Walk
 next n s a = record { count = suc n; standing = s; area = a }
 
-module _ (S : Shape) (j m : ℕ) (t s a : List ℕ) (e : m ≡ S .width) where
-  pub by-spread : (i : ℕ) (a′ : List ℕ) → j < 16 → i ≡ S .source j → a′ ≡ paste a (j * m) (drop (at s i * m) t) m
+module _ {S : Shape} {j m : ℕ} {t s a : List ℕ} (e : m ≡ S .width) where
+  pub by-spread : {i : ℕ} {a′ : List ℕ} → j < 16 → i ≡ S .source j → a′ ≡ paste a (j * m) (drop (at s i * m) t) m
       → length a′ ≡ length a → LookedUp S j t s a s a′
   unfolding spreadArea next
-  by-spread i a′ h f g l =
+  by-spread h f g l =
       record {
         walk =
             λ n.
@@ -156,26 +160,26 @@ module _ (S : Shape) (j m : ℕ) (t s a : List ℕ) (e : m ≡ S .width) where
         long = l;
       }
 
-  pub by-xor : (a′ : List ℕ) → 16 ≤ j → a′ ≡ xorArea m (j - 16) t a → (suc j ≡ layerLookups m → ⊥) → LookedUp S j t s a s a′
+  pub by-xor : {n : ℕ} {a′ : List ℕ} → 16 ≤ j → a′ ≡ xorArea m (j - 16) t a → n ≡ layerLookups m → (j + 1 ≡ n → ⊥) → LookedUp S j t s a s a′
   unfolding next
-  by-xor a′ h g l =
+  by-xor h g f l =
       record {
         walk =
             λ n.
-            at-xor S j t (record { count = n; standing = s; area = a }) (j - 16) refl h (rw e at l)
+            at-xor S j t (record { count = n; standing = s; area = a }) (j - 16) refl h (λ z. l (add-one j ∙ z ∙ ap layerLookups (sym e) ∙ sym f))
             ∙ ap (next n s) (ap (λ (m : ℕ). xorArea m (j - 16) t a) (sym e) ∙ sym g);
         kept = refl;
         long = ap length g ∙ length-xor m (j - 16) t a;
       }
 
-  pub by-last : (x s′ a′ : List ℕ) → 16 ≤ j → x ≡ xorArea m (j - 16) t a → suc j ≡ layerLookups m → s′ ≡ sums m x → a′ ≡ zeroArea
+  pub by-last : {n : ℕ} {x s′ a′ : List ℕ} → 16 ≤ j → x ≡ xorArea m (j - 16) t a → n ≡ layerLookups m → j + 1 ≡ n → s′ ≡ sums m x → a′ ≡ zeroArea
       → length s ≡ 16 → length a ≡ 256 → LookedUp S j t s a s′ a′
   unfolding next
-  by-last x s′ a′ h g l p q k b =
+  by-last {x = x} h g f l p q k b =
       record {
         walk =
             λ n.
-            at-last S j t (record { count = n; standing = s; area = a }) (j - 16) refl h (l ∙ ap layerLookups e)
+            at-last S j t (record { count = n; standing = s; area = a }) (j - 16) refl h (sym (add-one j) ∙ l ∙ f ∙ ap layerLookups e)
             ∙ ap₂ (next n) (ap (λ (m : ℕ). sums m (xorArea m (j - 16) t a)) (sym e) ∙ ap (sums m) (sym g) ∙ sym p) (sym q);
         kept = ap length p ∙ length-sums m x ∙ sym k;
         long = ap length q ∙ length-replicate {A = ℕ} 256 0 ∙ sym b;

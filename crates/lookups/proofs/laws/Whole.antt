@@ -3,35 +3,32 @@
 use mathlib.Core.List.{List}
 use mathlib.Core.Logic.{⊎-elim, _⊎_, inl, inr}
 use mathlib.Core.Path.{_≡_, refl, sym, ap, _∙_}
-use Prim.Native.Nat.{ℕ, zero, suc, _+_, _-_, _*_, _/_, _≤_, _<_, min}
-use native.Mathlib.Nat.{mul-le-mul-right}
+use Prim.Native.Nat.{ℕ, suc, _+_, _-_, _*_, _/_, _%_, _≤_, _<_, min}
 use native.Mathlib.Numerals.{add-one}
 use native.Mathlib.Omega.{arith}
 use borrow.Author.Tests.{lt-ltb, le-ltb}
-use lib.ListN.{length, take, drop, length-take, length-drop}
+use lib.ListN.{length, take, drop}
 use lib.Seq.{paste}
 use Rattle.bits.specs.Lists.{at}
+use Rattle.bits.proofs.laws.Multiples.{row-inside}
 use Rattle.network.specs.Lookups.{Shape, spreadArea, xorArea, sums}
 use Rattle.network.specs.Order.{xors, layerLookups}
 use Rattle.network.specs.Sizes.{layerBytes}
-use Rattle.network.proofs.laws.Stages.{lookups-16, lookups-4}
+use Rattle.network.proofs.laws.Order.{layer-lookups}
 use Rattle.lookups.specs.InPlace.{XorIn, tableFrom, spreadsIn, xorsIn, sumsIn}
+use Rattle.lookups.proofs.laws.Cuts.{cut, cut-is, length-cut}
 use Rattle.lookups.proofs.laws.Layers.{length-xor, length-sums}
 
--- ---- a part of the set
-module _ (set : List ℕ) (start size : ℕ) where
-  size-is : start + size - start ≡ size
-  size-is = omega arith
+-- ---- where the tables begin: of spread lookup p, and of XOR lookups 2y and 2y + 1
+abbrev spreadAt : ℕ → ℕ → ℕ → ℕ
+spreadAt from m p = from + p * (256 * m)
 
-  pub part-is : take (start + size - start) (drop start set) ≡ take size (drop start set)
-  part-is = ap (λ (x : ℕ). take x (drop start set)) size-is
-
-  pub length-part : start + size ≤ length set → length (take (start + size - start) (drop start set)) ≡ size
-  length-part h = simp (length-take, length-drop) (omega (arith, size-is))
+abbrev pairAt : ℕ → ℕ → ℕ → ℕ
+pairAt from m y = from + 4096 * m + y * 256
 
 -- ---- the parts that the tables of a layer are
 module _ (set : List ℕ) (from m k : ℕ) where
-  spread-table : k < 16 → tableFrom m set from k ≡ take (256 * m) (drop (from + k * (256 * m)) set)
+  spread-table : k < 16 → tableFrom m set from k ≡ take (256 * m) (drop (spreadAt from m k) set)
   spread-table h =
       let e : min k 16 ≡ k = omega arith in
       let f : from + (k * (256 * m) + (k - 16) * 128) ≡ from + k * (256 * m) = omega arith in
@@ -47,76 +44,132 @@ pub spreads-room : (from m : ℕ) → from + layerBytes m ≤ 770048 → from + 
 unfolding layerBytes
 spreads-room from m h = omega arith
 
--- ---- the spread lookups: one turn of the loop
-pub spread-within : (from m w p : ℕ) → m ≡ w → from + layerBytes w ≤ 770048 → p < 16 → from + p * (256 * m) + 256 * m ≤ 770048
-unfolding layerBytes
-spread-within from m w p e b h = rw e (omega (arith, mul-le-mul-right (256 * w) h))
+-- ---- the loop over the spread lookups, of width m: p of them are made, and the area a₀ has become a
+pub record Spreads (S : Shape) (set : List ℕ) (from m : ℕ) (s a₀ a : List ℕ) (p : ℕ) : Type 0 where
+  pub within : p ≤ 16
+  pub width : m ≡ S .width
+  pub room : from + 4096 * m ≤ 770048
+  pub long : length a ≡ 256
+  pub made : a ≡ spreadsIn S set from s p a₀
 
-module _ (S : Shape) (set : List ℕ) (from : ℕ) (s a : List ℕ) where
-  pub spreads-more : (p m i : ℕ) (b t b′ : List ℕ) → p < 16 → m ≡ S .width → i ≡ S .source p → b ≡ spreadsIn S set from s p a
-      → t ≡ take (256 * m) (drop (from + p * (256 * m)) set) → b′ ≡ paste b (p * m) (drop (at s i * m) t) m
-      → b′ ≡ spreadsIn S set from s (p + 1) a
+pub spreads-none : {S : Shape} {set : List ℕ} {from m : ℕ} {s a : List ℕ} → m ≡ S .width → from + layerBytes (S .width) ≤ 770048 → length a ≡ 256
+    → Spreads S set from m s a a 0
+unfolding spreadsIn
+spreads-none {S} {from = from} e b l =
+    record { within = omega arith; width = e; room = rw e (spreads-room from (S .width) b); long = l; made = refl }
+
+module _ {S : Shape} {set : List ℕ} {from m : ℕ} {s a₀ a : List ℕ} {p : ℕ} (I : Spreads S set from m s a₀ a p) where
+  -- The table of the turn, of 256 words, ends within the set.
+  pub table-ends : p < 16 → spreadAt from m p + 256 * m ≤ 770048
+  table-ends h = omega (arith, I .room, row-inside p (256 * m) 16 h)
+
+  pub table-long : p < 16 → length set ≡ 770048 → length (cut set (spreadAt from m p) (spreadAt from m p + 256 * m)) ≡ 256 * m
+  table-long h l = length-cut set (spreadAt from m p) (256 * m) (omega (arith, table-ends h))
+
+  pub spreads-more : (i : ℕ) (a′ : List ℕ) → p < 16 → i ≡ S .source p
+      → a′ ≡ paste a (p * m) (drop (at s i * m) (cut set (spreadAt from m p) (spreadAt from m p + 256 * m))) m
+      → length a′ ≡ length a → Spreads S set from m s a₀ a′ (p + 1)
   unfolding spreadsIn spreadArea
-  spreads-more p m i b t b′ l e f g h k =
-      k
-      ∙ rw (h, g, f, e, sym (spread-table set from (S .width) p l)) refl
-      ∙ ap (λ (x : ℕ). spreadsIn S set from s x a) (sym (add-one p))
+  spreads-more i a′ h f g l =
+      record {
+        within = omega arith;
+        width = I .width;
+        room = I .room;
+        long = l ∙ I .long;
+        made =
+            g
+            ∙ rw (cut-is set (spreadAt from m p) (256 * m), I .made, f, I .width, sym (spread-table set from (S .width) p h)) refl
+            ∙ ap (λ (x : ℕ). spreadsIn S set from s x a₀) (sym (add-one p));
+      }
 
--- ---- the XOR lookups: one turn of the loop makes two
-module _ (m : ℕ) (set : List ℕ) (from : ℕ) (a : List ℕ) where
-  pub xors-more : (y : ℕ) (b high low b′ : List ℕ) → b ≡ xorsIn m set from (2 * y) a
-      → high ≡ take 128 (drop (from + 4096 * m + y * 256) set) → low ≡ take 128 (drop (from + 4096 * m + y * 256 + 128) set)
-      → b′ ≡ xorArea m (2 * y + 1) low (xorArea m (2 * y) high b) → b′ ≡ xorsIn m set from (2 * (y + 1)) a
+  pub spreads-all : 16 ≤ p → (a ≡ spreadsIn S set from s 16 a₀) × (length a ≡ 256)
+  spreads-all h =
+      let e : p ≡ 16 = omega arith in
+      (I .made ∙ ap (λ (x : ℕ). spreadsIn S set from s x a₀) e, I .long)
+
+-- ---- the loop over the XOR lookups, two a turn: y of n turns are made, and the area a₀ has become a
+pub record Xors (m : ℕ) (set : List ℕ) (from n : ℕ) (a₀ a : List ℕ) (y : ℕ) : Type 0 where
+  pub within : y ≤ n
+  pub width : (m ≡ 4) ⊎ (m ≡ 16)
+  pub twice : 2 * n ≡ xors m
+  pub room : from + 4096 * m + n * 256 ≤ 770048
+  pub long : length a ≡ 256
+  pub made : a ≡ xorsIn m set from (2 * y) a₀
+
+xors-4 : xors 4 ≡ 96
+unfolding xors
+xors-4 = refl
+
+xors-16 : xors 16 ≡ 480
+unfolding xors
+xors-16 = refl
+
+-- The XOR lookups are all but the 16 spread lookups.
+pub spreads-least : (m all : ℕ) → all ≡ layerLookups m → 16 ≤ all
+spreads-least m all e = omega (arith, layer-lookups m)
+
+pub xors-none : {m : ℕ} {set : List ℕ} {from all : ℕ} {a : List ℕ} → (m ≡ 4) ⊎ (m ≡ 16) → all ≡ layerLookups m → from + layerBytes m ≤ 770048
+    → length a ≡ 256 → Xors m set from ((all - 16) / 2) a a 0
+unfolding xorsIn layerBytes
+xors-none {m = m} {all = all} k e b l =
+    let even : xors m % 2 ≡ 0 = ⊎-elim (λ f. omega (arith, ap xors f, xors-4)) (λ f. omega (arith, ap xors f, xors-16)) k in
+    let half : 2 * ((all - 16) / 2) ≡ xors m = omega (arith, layer-lookups m) in
+    record { within = omega arith; width = k; twice = half; room = omega arith; long = l; made = refl }
+
+module _ {m : ℕ} {set : List ℕ} {from n : ℕ} {a₀ a : List ℕ} {y : ℕ} (I : Xors m set from n a₀ a y) where
+  xor-inside : y < n → XorIn m (2 * y + 1)
+  xor-inside h =
+      ⊎-elim
+      (λ e. inr (e, omega (arith, I .twice, ap xors e, xors-4)))
+      (λ e. inl (e, omega (arith, I .twice, ap xors e, xors-16)))
+      (I .width)
+
+  abbrev highTable : List ℕ
+  highTable = cut set (pairAt from m y) (pairAt from m y + 128)
+
+  abbrev lowTable : List ℕ
+  lowTable = cut set (pairAt from m y + 128) (pairAt from m y + 128 + 128)
+
+  -- What the two lookups of a turn ask: their tables, one behind the other, have 128 bytes each.
+  pub pair-asked : y < n → length set ≡ 770048
+      → XorIn m (2 * y + 1) × (length highTable ≡ 128) × (length lowTable ≡ 128) × (length a ≡ 256)
+  pair-asked h l = (
+    xor-inside h,
+    length-cut set (pairAt from m y) 128 (omega (arith, I .room)),
+    length-cut set (pairAt from m y + 128) 128 (omega (arith, I .room)),
+    I .long,
+  )
+
+  pub xors-more : {a′ : List ℕ} → y < n → a′ ≡ xorArea m (2 * y + 1) lowTable (xorArea m (2 * y) highTable a) → Xors m set from n a₀ a′ (y + 1)
   unfolding xorsIn
-  xors-more y b high low b′ e h l k =
-      let n : 2 * (y + 1) ≡ suc (suc (2 * y)) = omega arith in
-      let o : 2 * y + 1 ≡ suc (2 * y) = omega arith in
-      let first = xor-table set from m (2 * y) (from + 4096 * m + y * 256) (omega arith) in
-      let second = xor-table set from m (suc (2 * y)) (from + 4096 * m + y * 256 + 128) (omega arith) in
-      k
-      ∙ rw (l, h, e, o, sym second, sym first) refl
-      ∙ ap (λ (x : ℕ). xorsIn m set from x a) (sym n)
+  xors-more h k =
+      let start : ℕ = pairAt from m y in
+      let two : 2 * (y + 1) ≡ suc (suc (2 * y)) = omega arith in
+      let one : 2 * y + 1 ≡ suc (2 * y) = omega arith in
+      let high = xor-table set from m (2 * y) start (omega arith) in
+      let low = xor-table set from m (suc (2 * y)) (start + 128) (omega arith) in
+      record {
+        within = omega arith;
+        width = I .width;
+        twice = I .twice;
+        room = I .room;
+        long = ap length k ∙ length-xor m (2 * y + 1) _ _ ∙ length-xor m (2 * y) _ a ∙ I .long;
+        made =
+            k
+            ∙ rw (cut-is set (start + 128) 128, cut-is set start 128, I .made, one, sym low, sym high) refl
+            ∙ ap (λ (x : ℕ). xorsIn m set from x a₀) (sym two);
+      }
 
-  pub length-xors : (k : ℕ) → length (xorsIn m set from k a) ≡ length a
-  unfolding xorsIn
-  length-xors zero = refl
-  length-xors (suc k) = length-xor m k (tableFrom m set from (16 + k)) (xorsIn m set from k a) ∙ length-xors k
-
--- How many turns there are, from the lookups of the stage or half.
-pub record Pairs (m all : ℕ) : Type 0 where
-  pub least : 16 ≤ all
-  pub most : xors m ≤ 480
-  pub twice : 2 * ((all - 16) / 2) ≡ xors m
-  pub inside : (y : ℕ) → y < (all - 16) / 2 → XorIn m (2 * y + 1)
-  pub bytes : layerBytes m ≡ 4096 * m + xors m * 128
-
-pub pairs : (m all : ℕ) → (m ≡ 4) ⊎ (m ≡ 16) → all ≡ layerLookups m → Pairs m all
-pairs m all k e =
-    ⊎-elim
-    (λ f.
-    let l : all ≡ 112 = e ∙ ap layerLookups f ∙ lookups-4 in
-    let x : xors m ≡ 96 = ap xors f ∙ xors-4 in
-    record { least = omega arith; most = omega arith; twice = omega arith; inside = λ y h. inr (f, omega arith); bytes = bytes-are })
-    (λ f.
-    let l : all ≡ 496 = e ∙ ap layerLookups f ∙ lookups-16 in
-    let x : xors m ≡ 480 = ap xors f ∙ xors-16 in
-    record { least = omega arith; most = omega arith; twice = omega arith; inside = λ y h. inl (f, omega arith); bytes = bytes-are })
-    k
-  where
-    bytes-are : layerBytes m ≡ 4096 * m + xors m * 128
-    bytes-are = unfold layerBytes in omega arith
-
-    xors-16 : xors 16 ≡ 480
-    xors-16 = unfold xors in refl
-
-    xors-4 : xors 4 ≡ 96
-    xors-4 = unfold xors in refl
+  pub xors-all : n ≤ y → (a ≡ xorsIn m set from (xors m) a₀) × (length a ≡ 256)
+  xors-all h =
+      let e : 2 * y ≡ xors m = omega (arith, I .twice) in
+      (I .made ∙ ap (λ (x : ℕ). xorsIn m set from x a₀) e, I .long)
 
 -- ---- all lookups
-pub sums-are : (S : Shape) (set : List ℕ) (from : ℕ) (s a : List ℕ) (m : ℕ) (b d s′ : List ℕ) → m ≡ S .width
-    → b ≡ spreadsIn S set from s 16 a → d ≡ xorsIn m set from (xors m) b → s′ ≡ sums m d → s′ ≡ sumsIn S set from s a
+pub sums-are : (S : Shape) (set : List ℕ) (from m : ℕ) (s a b d s′ : List ℕ) → m ≡ S .width → b ≡ spreadsIn S set from s 16 a
+    → d ≡ xorsIn m set from (xors m) b → s′ ≡ sums m d → s′ ≡ sumsIn S set from s a
 unfolding sumsIn
-sums-are S set from s a m b d s′ e f g h = h ∙ rw (g, f, e) refl
+sums-are S set from m s a b d s′ e f g h = h ∙ rw (g, f, e) refl
 
 pub length-sums-in : (S : Shape) (set : List ℕ) (from : ℕ) (s a : List ℕ) → length (sumsIn S set from s a) ≡ 16
 unfolding sumsIn

@@ -10,10 +10,14 @@ use native.Mathlib.Omega.{arith}
 use lib.ListN.{length, set, length-set}
 use lib.Seq.{getD-set-same, getD-set-other}
 use Rattle.bits.specs.Lists.{at, tabulate}
+use Rattle.bits.specs.Vectors.{dot}
 use Rattle.bits.specs.Words.{wide}
+use Rattle.bits.proofs.laws.Joined.{Joined, joined-all}
 use Rattle.bits.proofs.laws.Lists.{tabulate-ext, at-tabulate}
 use Rattle.bits.proofs.laws.Words.{wide-split, wide-high, wide-low}
+use Rattle.matrices.specs.Matrices.{productBy, product}
 use Rattle.matrices.specs.Rows.{rowAt, rowsOf, setRow, stored}
+use Rattle.matrices.proofs.laws.Matrices.{product-rows}
 
 pub row-set-same : (m : List ℕ) (i v : ℕ) → 2 * i + 1 < length m → rowAt (setRow m i v) i ≡ v
 unfolding rowAt setRow
@@ -76,3 +80,31 @@ stored-same (suc n) f g m e =
 pub at-rowsOf : (n : ℕ) (m : List ℕ) (i : ℕ) → i < n → at (rowsOf n m) i ≡ rowAt m i
 unfolding rowsOf
 at-rowsOf n m i h = at-tabulate n (rowAt m) i h
+
+-- ---- a loop that stores n rows, row i being f i, one a turn: of the words m₀, which m has become, the first i rows are stored
+pub record Stored (n : ℕ) (f : ℕ → ℕ) (m₀ m : List ℕ) (i : ℕ) : Type 0 where
+  pub within : i ≤ n
+  pub long : length m ≡ length m₀
+  pub rows : m ≡ stored i f m₀
+
+pub stored-none : {n : ℕ} {f : ℕ → ℕ} {m : List ℕ} → Stored n f m m 0
+unfolding stored
+stored-none = record { within = omega arith; long = refl; rows = refl }
+
+module _ {n : ℕ} {f : ℕ → ℕ} {m₀ m : List ℕ} {i : ℕ} (g : Stored n f m₀ m i) where
+  pub stored-more : {m′ : List ℕ} {v : ℕ} → i < n → m′ ≡ setRow m i v → v ≡ f i → Stored n f m₀ m′ (i + 1)
+  stored-more {v = v} h e is = record {
+    within = omega arith;
+    long = ap length e ∙ length-setRow m i v ∙ g .long;
+    rows = e ∙ ap₂ (λ (x : List ℕ) (y : ℕ). setRow x i y) (g .rows) is ∙ sym (stored-next i f m₀);
+  }
+
+  pub stored-all : n ≤ i → m ≡ stored n f m₀
+  stored-all h =
+      let done : i ≡ n = omega arith in
+      g .rows ∙ ap (λ (k : ℕ). stored k f m₀) done
+
+-- ---- a loop that joins the parities of n rows and a vector is their product
+pub multiplied : (n : ℕ) (m : List ℕ) (v p i : ℕ) → Joined 1 n (λ j. dot (rowAt m j) v) p i → n ≤ i → p ≡ product n (rowsOf n m) v
+unfolding productBy
+multiplied n m v p i g h = joined-all g h ∙ product-rows n (rowAt m) (at (rowsOf n m)) v (λ j l. sym (at-rowsOf n m j l))

@@ -1,7 +1,7 @@
 -- Laws, not definitions: matrices as bytes and back, and read into rows of words.
 -- Assumes nothing.
 use mathlib.Core.List.{List}
-use mathlib.Core.Path.{_≡_, sym, ap, _∙_, subst}
+use mathlib.Core.Path.{_≡_, sym, ap, ap₂, _∙_, subst}
 use Prim.Native.Nat.{ℕ, zero, suc, _+_, _*_, _/_, _%_, _^_, _≤_, _<_}
 use native.Mathlib.Nat.{div-add-mod', div-lt-iff-lt-mul, mod-lt, zero-lt-suc}
 use native.Mathlib.Omega.{arith}
@@ -10,9 +10,11 @@ use Rattle.bits.specs.Bytes.{Bytes, number, byte, bytesOf}
 use Rattle.bits.specs.Lists.{at}
 use Rattle.bits.proofs.laws.Bytes.{length-bytesOf, at-bytesOf}
 use Rattle.bits.proofs.laws.Groups.{joined-lt, joined-same, joined-group, group-joined}
-use Rattle.bits.proofs.laws.Lists.{tabulate-at, length-tabulate, at-tabulate, ext-at, length-concat, at-concat}
-use Rattle.matrices.specs.Rows.{rowsOf, stored}
-use Rattle.matrices.proofs.laws.Rows.{rows-stored}
+use Rattle.bits.proofs.laws.Lists.{tabulate-at, length-tabulate, at-tabulate, ext-at, concat-same, length-concat, at-concat}
+use Rattle.bits.proofs.laws.Multiples.{row-inside}
+use Rattle.bits.proofs.laws.Parts.{Parts, parts-all}
+use Rattle.matrices.specs.Rows.{rowAt, rowsOf, stored}
+use Rattle.matrices.proofs.laws.Rows.{rows-stored, at-rowsOf}
 use Rattle.matrices.specs.Matrices.{RowsFit, matrixOf, matrixBytes}
 
 pub matrixOf-length : (w : ℕ) (s : List ℕ) → length (matrixOf w s) ≡ 8 * w
@@ -67,3 +69,20 @@ matrixBytes-of (suc u) s e b =
 pub read-rows : (w : ℕ) (p m m′ : List ℕ) → 16 * w ≤ length m → m′ ≡ stored (8 * w) (at (matrixOf w p)) m → rowsOf (8 * w) m′ ≡ matrixOf w p
 read-rows w p m m′ h e =
     ap (rowsOf (8 * w)) e ∙ rows-stored (8 * w) (at (matrixOf w p)) m (omega arith) ∙ tabulate-at (8 * w) (matrixOf w p) (matrixOf-length w p)
+
+-- ---- as the code reads and writes them
+-- The w bytes of row i lie within those of the matrix.
+pub row-within : (i w : ℕ) → i < 8 * w → i * w + w ≤ 8 * w * w
+row-within i w h = row-inside i w (8 * w) h
+
+pub row-read : (w : ℕ) (s : List ℕ) (i v : ℕ) → i < 8 * w → v ≡ number w (λ j. at s (i * w + j)) → v ≡ at (matrixOf w s) i
+row-read w s i v h e = e ∙ sym (matrixOf-at w s i h)
+
+pub row-written : (w : ℕ) (m : List ℕ) (i v k : ℕ) (ys : List ℕ) → v ≡ rowAt m i → k ≡ w → ys ≡ bytesOf k v → ys ≡ bytesOf w (rowAt m i)
+row-written w m i v k ys e l is = is ∙ ap₂ bytesOf l e
+
+pub matrix-written : (w : ℕ) (m d₀ d : List ℕ) (i : ℕ) → Parts (8 * w) w (λ r. bytesOf w (rowAt m r)) d₀ d i → 8 * w ≤ i
+    → length d₀ ≡ 8 * w * w → d ≡ matrixBytes w (rowsOf (8 * w) m)
+unfolding matrixBytes
+matrix-written w m d₀ d i g h e =
+    parts-all g h e ∙ concat-same (8 * w) _ _ (λ r l. ap (bytesOf w) (sym (at-rowsOf (8 * w) m r l)))

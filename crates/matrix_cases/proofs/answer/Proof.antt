@@ -1,10 +1,32 @@
--- `matrix_cases::answer` meets its contract. Assumes nothing.
+-- `matrix_cases::answer` ensures nothing: what is left is that each call gets slices of the lengths that it asks for. `m` keeps its length of 8 w w over
+-- the first read and the last write, and the inverse fills all rows of its array.
+-- Assumes nothing.
 use mathlib.Core.Path.{_∙_}
 use native.Mathlib.Omega.{arith}
 use borrow.Author.Needs.{needs}
 use Rattle.matrix_cases.proofs.answer.Statement.{statement}
 use Rattle.matrix_cases.proofs.answer.Tie as tie
 
+-- the first read, seen from the inversion: in two steps, since one `search` looks into 128 records
+abbrev first-read : tie.After-invert → tie.After-read-full
+first-read c =
+    let rows : tie.After-read = search in
+    search
+
+write-requires-2 : tie.Need-write-requires-2
+write-requires-2 c κs =
+    let inverted : tie.After-invert = search in
+    let read = first-read inverted in
+    let entry : tie.Start = search in
+    (entry .pre .0, read .read-full .kept .1 .0 ∙ entry .pre .1, omega (arith, entry .pre, inverted .invert))
+
+same-length : tie.Need-same-length
+same-length c =
+    let written : tie.After-write2 = search in
+    let read = first-read (search) in
+    written .write2 .kept .1 .0 ∙ read .read-full .kept .1 .0
+
+-- ---- the needs that the search closes
 read-full-requires : tie.Need-read-full-requires
 read-full-requires c κs = search needs
 
@@ -50,14 +72,8 @@ invert-requires c κs = search needs
 slice-aggregate-write : tie.Need-slice-aggregate-write
 slice-aggregate-write c = search needs
 
-write-requires-2 : tie.Need-write-requires-2
-write-requires-2 c κs = (c .before .before .before .before .before .before .before .before .before .before .before .before .before .before .before .before .before .before .before .before .before .before .before .before .before .before .before .before .before .before .before .pre .0, c .before .before .before .before .before .before .before .before .before .before .before .before .before .before .before .before .before .before .before .before .before .before .before .before .before .before .before .read-full .kept .1 .0 ∙ c .before .before .before .before .before .before .before .before .before .before .before .before .before .before .before .before .before .before .before .before .before .before .before .before .before .before .before .before .before .before .before .pre .1, omega (arith, c .before .before .before .before .before .before .before .before .before .before .before .before .before .before .before .before .before .before .before .before .before .before .before .before .before .before .before .before .before .before .before .pre .0, c .before .before .before .before .invert .kept .1 .0))
-
 show-requires-2 : tie.Need-show-requires-2
 show-requires-2 c κs = search needs
-
-same-length : tie.Need-same-length
-same-length c = c .before .before .before .before .write2 .kept .1 .0 ∙ c .before .before .before .before .before .before .before .before .before .before .before .before .before .before .before .before .before .before .before .before .before .before .before .before .before .before .before .before .before .before .before .before .read-full .kept .1 .0
 
 same-length-2 : tie.Need-same-length-2
 same-length-2 c = search needs

@@ -1,4 +1,6 @@
--- `matrix_cases::main` meets its contract. Assumes nothing.
+-- `matrix_cases::main` ensures nothing: what is left is that it ends and reads within its array. The invariant: the array for the tag keeps its one
+-- byte. Each turn takes one of 1,000 records, and the measure is the number left.
+-- Assumes nothing.
 use lib.ListN.{length}
 use mathlib.Core.Path.{_≡_, refl}
 use native.Mathlib.Omega.{arith}
@@ -11,6 +13,7 @@ Inv-loop tag₀ left₀ tag left = length tag ≡ 1
 abbrev μ-loop : tie.MeasureT-loop
 μ-loop tag₀ left₀ tag left = left
 
+-- ---- the needs that the search closes
 loop-holds : tie.Need-loop-holds Inv-loop μ-loop
 loop-holds c = refl
 

@@ -1,4 +1,6 @@
--- `matrix_cases::show` meets its contract. Assumes nothing.
+-- `matrix_cases::show` ensures nothing: what is left is that it ends and reads within its slice. The invariant: i is at most the length. Each turn
+-- writes byte i, and the measure is the number of bytes left.
+-- Assumes nothing.
 use Prim.Native.Nat.{_-_, _≤_}
 use lib.ListN.{length}
 use native.Mathlib.Omega.{arith}
@@ -11,6 +13,7 @@ Inv-loop b i₀ t3 i = i ≤ length b
 abbrev μ-loop : tie.MeasureT-loop
 μ-loop b i₀ t3 i = length b - i
 
+-- ---- the needs that the search closes
 loop-holds : tie.Need-loop-holds Inv-loop μ-loop
 loop-holds c = omega arith
 

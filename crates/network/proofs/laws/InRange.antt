@@ -44,7 +44,8 @@ module _ (E E′ : ℕ → List ℕ) (limit : ℕ) (same : (n : ℕ) → n < lim
         let s = L .source p in
         let i : s < 16 = good .reads p b in
         packed-ext (256 * L .width) _ _ (λ q c.
-        rw (number-same p 0 (q % (2 * L .width)) b (omega (arith, good .groups)) (mod-lt q (omega (arith, good .groups))), same (N .standing (2 * s)) (stands (2 * s) (omega arith)), same (N .standing (2 * s + 1)) (stands (2 * s + 1) (omega arith))))
+        let here = number-same p 0 (q % (2 * L .width)) b (omega (arith, good .groups)) (mod-lt q (omega (arith, good .groups))) in
+        rw (here, same (N .standing (2 * s)) (stands (2 * s) (omega arith)), same (N .standing (2 * s + 1)) (stands (2 * s + 1) (omega arith))))
 
     xor-same : (x : ℕ) → x < xors (L .width) → xorTable E (L .width) (N .first) x ≡ xorTable E′ (L .width) (N .first) x
     unfolding xorTable xorEntry
@@ -53,8 +54,10 @@ module _ (E E′ : ℕ → List ℕ) (limit : ℕ) (same : (n : ℕ) → n < lim
         let a : sumOf m x + suc (addedOf m x) < 16 = added-word-lt m (good .groups) x b in
         let d : addedOf m x < m - 1 = added-lt m (good .groups) x in
         let h : nibbleOf m x < 2 * m = nibble-in m (good .groups) x in
-        packed-ext 128 _ _ (λ q c.
-        rw (number-same (sumOf m x) (suc (addedOf m x)) (nibbleOf m x) (omega arith) (omega arith) h, number-same (sumOf m x) (addedOf m x) (nibbleOf m x) (omega arith) (omega arith) h, number-same (sumOf m x + suc (addedOf m x)) 0 (nibbleOf m x) a (omega (arith, good .groups)) h))
+        let sum-next = number-same (sumOf m x) (suc (addedOf m x)) (nibbleOf m x) (omega arith) (omega arith) h in
+        let sum-so-far = number-same (sumOf m x) (addedOf m x) (nibbleOf m x) (omega arith) (omega arith) h in
+        let word-added = number-same (sumOf m x + suc (addedOf m x)) 0 (nibbleOf m x) a (omega (arith, good .groups)) h in
+        packed-ext 128 _ _ (λ q c. rw (sum-next, sum-so-far, word-added))
 
     table-same : (j : ℕ) → j < layerLookups (L .width) → tableIn E L N j ≡ tableIn E′ L N j
     unfolding tableIn

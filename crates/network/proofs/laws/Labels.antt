@@ -14,7 +14,8 @@ use Rattle.network.specs.Order.{GoodWidth, xors, layerLookups, nibbleOf,
 use Rattle.network.specs.Rule.{Label, none, under, numberIn, Labels, results, firstResult, putArea, put, putAt, labels}
 use Rattle.network.specs.Sizes.{lookupsIn}
 use Rattle.network.specs.Theorems.{GoodWidths}
-use Rattle.network.proofs.laws.Order.{at-div, at-mod, layer-lookups, xor-in, added-start, added-next, added-other, added-all, added-word-lt, nibble-in, sum-div, place-lt, nibble-group, first-word-lt}
+use Rattle.network.proofs.laws.Order.{at-div, at-mod, layer-lookups, xor-in, added-start, added-next, added-other, added-all, added-word-lt}
+use Rattle.network.proofs.laws.Order.{nibble-in, sum-div, place-lt, nibble-group, first-word-lt}
 
 -- ---- closed forms: the label of a place of the area, the number of the first nibble of a result, and all labels
 unfoldable pub areaLabel : ℕ → ℕ → ℕ → ℕ → Label

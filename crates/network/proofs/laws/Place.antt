@@ -6,7 +6,8 @@ use native.Mathlib.Decide.{decLt}
 use native.Mathlib.Nat.{mul-le-mul-right}
 use native.Mathlib.Omega.{arith}
 use borrow.Author.Tests.{lt-ltb, le-ltb}
-use Rattle.network.specs.Stages.{widthOf, lookups, stageOf, firstLookup, firstByte, indexOf, placeOf, placeFrom, placeInRound}
+use Rattle.network.specs.Stages.{widthOf, shifted, sourceOf, lookups, stageOf, firstLookup, firstByte, indexOf, placeOf, placeFrom, placeInRound}
+use Rattle.network.specs.declared.stage.Place.{Place}
 use Rattle.network.specs.declared.stage.Stage.{Stage}
 use Rattle.network.specs.declared.stage.Stage.the-variants.{Entry, First, Second, Exit, Beyond}
 use Rattle.network.proofs.laws.Ranges.{stage-entry, stage-first, stage-second, stage-exit, stage-beyond, lookups-are, by-stage}
@@ -39,12 +40,12 @@ place-at nr k s h e =
     (ap₂ (λ (x y : ℕ). record { stage = stageOf nr k; index = k - firstLookup nr (stageOf nr k); size = x; offset = y })
     (sym (by-stage nr .size-is k h)) (sym (by-stage nr .offset-is k h)))
 
-pub in-entry : (k : ℕ) → k < 496 → placeFrom Entry 16 0 k ≡ placeOf 10 k
-in-entry k h =
-    ap (placeFrom Entry 16 0) (let e : k ≡ k - 0 = omega arith in e) ∙ place-at 10 k Entry (omega (arith, lookups-are 10)) (stage-entry 10 k h)
+pub in-entry : (k : ℕ) {p : Place} → k < 496 → p ≡ placeFrom Entry 16 0 k → p ≡ placeOf 10 k
+in-entry k h q =
+    q ∙ ap (placeFrom Entry 16 0) (let e : k ≡ k - 0 = omega arith in e) ∙ place-at 10 k Entry (omega (arith, lookups-are 10)) (stage-entry 10 k h)
 
-pub in-exit : (k : ℕ) → 2512 ≤ k → k < 3008 → placeFrom Exit 16 643072 (k - 2512) ≡ placeOf 10 k
-in-exit k lo hi = place-at 10 k Exit (omega (arith, lookups-are 10)) (stage-exit 10 k lo hi)
+pub in-exit : (k : ℕ) {p : Place} → 2512 ≤ k → k < 3008 → p ≡ placeFrom Exit 16 643072 (k - 2512) → p ≡ placeOf 10 k
+in-exit k lo hi q = q ∙ place-at 10 k Exit (omega (arith, lookups-are 10)) (stage-exit 10 k lo hi)
 
 pub beyond : (k : ℕ) → 3008 ≤ k → record { stage = Beyond; index = k - 3008; size = 0; offset = 770048 } ≡ placeOf 10 k
 unfolding indexOf
@@ -54,9 +55,9 @@ beyond k lo =
     (sym (by-stage 10 .size-none k (omega (arith, lookups-are 10))))
     (sym (by-stage 10 .offset-none k (omega (arith, lookups-are 10)) ∙ by-stage 10 .all-bytes)))
 
-pub in-rounds : (k : ℕ) → 496 ≤ k → k < 2512 → placeInRound ((k - 496) / 224 + 1) ((k - 496) % 224) ≡ placeOf 10 k
+pub in-rounds : (k : ℕ) {p : Place} → 496 ≤ k → k < 2512 → p ≡ placeInRound ((k - 496) / 224 + 1) ((k - 496) % 224) → p ≡ placeOf 10 k
 unfolding placeInRound
-in-rounds k lo hi = go (decLt j 112)
+in-rounds k lo hi q = q ∙ go (decLt j 112)
   where
     j : ℕ
     j = (k - 496) % 224
@@ -78,10 +79,17 @@ in-rounds k lo hi = go (decLt j 112)
         ∙ place-at 10 k (Second r) less (stage-second 10 k lo hi (omega arith)))
 
 -- ---- the two arms inside a round
-pub first-half : (r j : ℕ) → j < 112 → placeFrom (First r) 4 (126976 + 57344 * (r - 1)) j ≡ placeInRound r j
+pub first-half : (r j : ℕ) {p : Place} → j < 112 → p ≡ placeFrom (First r) 4 (126976 + 57344 * (r - 1)) j → p ≡ placeInRound r j
 unfolding placeInRound
-first-half r j h = rw (lt-ltb j 112 h)
+first-half r j h q = rw (lt-ltb j 112 h) q
 
-pub second-half : (r j : ℕ) → 112 ≤ j → placeFrom (Second r) 4 (155648 + 57344 * (r - 1)) (j - 112) ≡ placeInRound r j
+pub second-half : (r j : ℕ) {p : Place} → 112 ≤ j → p ≡ placeFrom (Second r) 4 (155648 + 57344 * (r - 1)) (j - 112) → p ≡ placeInRound r j
 unfolding placeInRound
-second-half r j h = rw (le-ltb j 112 h)
+second-half r j h q = rw (le-ltb j 112 h) q
+
+-- ---- where a spread lookup reads, by the stage: through the row shift in a first half and in the exit
+pub reads-first : (s : Stage) (r p x : ℕ) → s ≡ First r → x ≡ shifted p → x ≡ sourceOf shifted s p
+reads-first s r p x e q = q ∙ ap (λ (s : Stage). sourceOf shifted s p) (sym e)
+
+pub reads-exit : (s : Stage) (p x : ℕ) → s ≡ Exit → x ≡ shifted p → x ≡ sourceOf shifted s p
+reads-exit s p x e q = q ∙ ap (λ (s : Stage). sourceOf shifted s p) (sym e)

@@ -10,13 +10,16 @@ use Rattle.network.specs.Lookups.{Walk, Shape, lookupIn, lookupAt}
 use Rattle.network.specs.Numbers.{Numbers, startNumbers, numbersAfter}
 use Rattle.network.specs.Order.{layerLookups}
 use Rattle.network.specs.Sizes.{sizeOf, offsetOf, lookupsIn, resultsIn, sizeIn, offsetIn}
-use Rattle.network.specs.Stages.{stages, widthOf, shapeAt, shapes, widths, lookups, setBytes, encodings, tableSize, tableOffset, stageOf, firstLookup, firstByte, numbersOf, indexOf}
+use Rattle.network.specs.Stages.{stages, widthOf, shapeAt, shapes, widths, lookups, setBytes, encodings}
+use Rattle.network.specs.Stages.{tableSize, tableOffset, stageOf, firstLookup, firstByte, numbersOf, indexOf}
 use Rattle.network.specs.Tables.{Layer, widthsOf, tableIn, tableAt}
 use Rattle.network.specs.Theorems.{ByStage}
 use Rattle.network.specs.declared.stage.Stage.{Stage}
 use Rattle.network.specs.declared.stage.Stage.the-variants.{Entry, First, Second, Exit, Beyond}
-use Rattle.network.proofs.laws.Layers.{lookup-past, table-past, size-past, offset-past, lookup-first, table-first, size-first, offset-first, lookup-none, size-none, offset-none}
-use Rattle.network.proofs.laws.Stages.{lookups-16, lookups-4, Found, found-entry, found-first, found-second, found-exit, all-lookups-of, all-bytes-of, all-results-of, numbers-end, sums-16}
+use Rattle.network.proofs.laws.Layers.{lookup-past, table-past, size-past, offset-past, lookup-first, table-first, size-first, offset-first}
+use Rattle.network.proofs.laws.Layers.{lookup-none, size-none, offset-none}
+use Rattle.network.proofs.laws.Stages.{lookups-16, lookups-4, Found, found-entry, found-first, found-second, found-exit}
+use Rattle.network.proofs.laws.Stages.{all-lookups-of, all-bytes-of, all-results-of, numbers-end, sums-16}
 
 -- ---- the stage by the range
 pub stage-entry : (nr k : ℕ) → k < 496 → stageOf nr k ≡ Entry
@@ -116,7 +119,8 @@ module _ (nr k : ℕ) (s : Stage) (at : In nr k s) where
   unfolding shapes
   lookup-in reads t w =
       let As : List Shape = map (shapeAt reads) (at .found .before) in
-      ap₂ (λ (Ss : List Shape) (n : ℕ). lookupAt Ss n t w) (split-map (shapeAt reads)) (count-is (map (λ (S : Shape). S .width) As) (map-map (λ (S : Shape). S .width) (shapeAt reads) (at .found .before)))
+      let widths-before = map-map (λ (S : Shape). S .width) (shapeAt reads) (at .found .before) in
+      ap₂ (λ (Ss : List Shape) (n : ℕ). lookupAt Ss n t w) (split-map (shapeAt reads)) (count-is (map (λ (S : Shape). S .width) As) widths-before)
       ∙ lookup-past As (shapeAt reads s ∷ map (shapeAt reads) (at .found .behind)) j t w
       ∙ lookup-first (shapeAt reads s) (map (shapeAt reads) (at .found .behind)) j t w (unfold j in at .within)
 

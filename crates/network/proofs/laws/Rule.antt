@@ -39,7 +39,9 @@ module _ (E : ℕ → List ℕ) where
         → tableIn E L N j ≡ ruleIn E L j n T
     unfolding tableIn ruleIn xorTable xorEntry
     xor-rule j l b a n e =
-        rw (le-ltb j 16 l, a .areas (sumPlace m x) (place-lt m (good .groups) w h wl hl), a .areas (addedPlace m x) (place-lt m (good .groups) (w + suc d) h wl′ hl), sum-is, added-is, e, number-xor m (good .groups) (N .first) x)
+        let sum-label = a .areas (sumPlace m x) (place-lt m (good .groups) w h wl hl) in
+        let added-label = a .areas (addedPlace m x) (place-lt m (good .groups) (w + suc d) h wl′ hl) in
+        rw (le-ltb j 16 l, sum-label, added-label, sum-is, added-is, e, number-xor m (good .groups) (N .first) x)
       where
         m : ℕ
         m = L .width

@@ -25,7 +25,8 @@ use Rattle.network.specs.Lookups.{Walk, zeroArea, spreadArea, xorArea, s
 use Rattle.network.specs.Numbers.{Numbers, encodingNumber, nextNumbers}
 use Rattle.network.specs.Order.{xors, layerLookups, nibbleOf, addedOf, sumOf, place, sumPlace, addedPlace, added}
 use Rattle.network.specs.Tables.{Layer, Good, shapeOf, spreadEntry, spreadTable, xorEntry, xorTable, tableIn}
-use Rattle.network.proofs.laws.Order.{at-div, at-mod, layer-lookups, xor-in, added-start, added-here, added-next, added-other, added-all, added-to-added, added-word-lt, nibble-in, place-lt, word-group, nibble-group, first-word-lt, xors-pos}
+use Rattle.network.proofs.laws.Order.{at-div, at-mod, layer-lookups, xor-in, added-start, added-here, added-next, added-other, added-all}
+use Rattle.network.proofs.laws.Order.{added-to-added, added-word-lt, nibble-in, place-lt, word-group, nibble-group, first-word-lt, xors-pos}
 use Rattle.network.proofs.laws.Values.{sum-first, sum-next, sum-lt, nibble-summed}
 
 pub walk : {a b : Walk} → a .count ≡ b .count → a .standing ≡ b .standing → a .area ≡ b .area → a ≡ b
@@ -167,12 +168,15 @@ module _ (E : ℕ → List ℕ) (perm : (n : ℕ) → Permutation (E n)) where
         ap₂ (λ (n d : ℕ). shown E (cond (ltb w n) (held (encodingNumber (L .width) (N .first) w d h) (sum (λ p. L .word p (at l (L .source p))) w d h)) blank))
         (let f : min i 16 ≡ min j 16 = omega arith in f) e
 
-    xor-entry : (w d h : ℕ)
-        → nibble (packed 128 (xorEntry E (L .width) (N .first) w d h)) (pack (encode (E (number w d h)) (sum word w d h)) (encode (E (number (w + suc d) 0 h)) (nibble (word (w + suc d)) h)))
+    -- Where an XOR table is read: the sum so far and the nibble that is added, both encoded.
+    abbrev readAt : ℕ → ℕ → ℕ → ℕ
+    readAt w d h = pack (encode (E (number w d h)) (sum word w d h)) (encode (E (number (w + suc d) 0 h)) (nibble (word (w + suc d)) h))
+
+    xor-entry : (w d h : ℕ) → nibble (packed 128 (xorEntry E (L .width) (N .first) w d h)) (readAt w d h)
         ≡ encode (E (number w (suc d) h)) (sum word w (suc d) h)
     unfolding xorEntry number
     xor-entry w d h =
-        nibble-packed 128 (xorEntry E (L .width) (N .first) w d h) (λ j. encode-lt (perm _) _) (pack (encode (E (number w d h)) (sum word w d h)) (encode (E (number (w + suc d) 0 h)) (nibble (word (w + suc d)) h))) (pair-lt _ _ _ _)
+        nibble-packed 128 (xorEntry E (L .width) (N .first) w d h) (λ j. encode-lt (perm _) _) (readAt w d h) (pair-lt _ _ _ _)
         ∙ decode-pair (number w d h) (number (w + suc d) 0 h) (sum word w d h) (nibble (word (w + suc d)) h) (total-lt w d h) (word-lt (w + suc d) h)
         (λ a b. encode (E (number w (suc d) h)) (bitXor a b))
         ∙ ap (encode (E (number w (suc d) h))) (sym (sum-next word w d h))
@@ -223,7 +227,8 @@ module _ (E : ℕ → List ℕ) (perm : (n : ℕ) → Permutation (E n)) where
             ∙ ap (encode (E (number (w + suc d) 0 h))) (sum-first word (w + suc d) h)
 
         is-new : cells (suc (16 + x)) (sumPlace m x)
-            ≡ nibble (packed 128 (xorEntry E m (N .first) w d h)) (pack (nibble (packed 256 (cells (16 + x))) (sumPlace m x)) (nibble (packed 256 (cells (16 + x))) (addedPlace m x)))
+            ≡ nibble (packed 128 (xorEntry E m (N .first) w d h))
+            (pack (nibble (packed 256 (cells (16 + x))) (sumPlace m x)) (nibble (packed 256 (cells (16 + x))) (addedPlace m x)))
         is-new =
             cells-at (suc (16 + x)) w h h-in
             ∙ cell-held (suc (16 + x)) w h (suc d) (omega (arith, w-lt)) w-lt (ap (λ (y : ℕ). added m y w h) back′ ∙ added-next m (good .groups) x)

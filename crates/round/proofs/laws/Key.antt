@@ -1,6 +1,6 @@
--- Laws, not definitions: of the key expansion word by word, and that round keys are bytes.
+-- Laws, not definitions: of the key expansion word by word, of the loop that adds a round key, and that round keys are bytes.
 -- Assumes nothing.
-use mathlib.Core.Path.{_≡_, ap₂, _∙_}
+use mathlib.Core.Path.{_≡_, sym, ap, ap₂, _∙_}
 use mathlib.Core.Bool.{Bool, true, false, cond, _&&_}
 use mathlib.Core.List.{List, [], _∷_}
 use Prim.Native.Nat.{ℕ, zero, suc, _+_, _-_, _*_, _/_, _%_, _≤_, _<_}
@@ -15,6 +15,7 @@ use lib.Seq.{getD-take, getD-drop}
 use Rattle.bits.specs.Lists.{at, tabulate}
 use Rattle.bits.specs.Bytes.{Bytes}
 use Rattle.bits.proofs.laws.Lists.{length-tabulate, tabulate-ext, tabulate-below, append-below, at-past}
+use Rattle.bits.proofs.laws.Filled.{Filled}
 use Rattle.bits.proofs.laws.Checked as checked
 use Rattle.field.specs.Field.{xtime}
 use Rattle.field.specs.Sbox.{sboxOf}
@@ -22,6 +23,8 @@ use Rattle.field.proofs.laws.Field.{xtime-lt}
 use Rattle.field.proofs.laws.Sbox.{sbox-lt}
 use Rattle.round.specs.Key.{rcon, wordAt, RotWord, SubWord, xorWord, Rcon, temp, nextWord, expand, KeyExpansion, keyOf}
 use Rattle.round.specs.RoundKeys.{RoundKeyBytes, RoundKeyLength}
+use Rattle.round.specs.State.{cell, AddRoundKey}
+use Rattle.round.proofs.laws.State.{filled-state}
 
 -- The first bytes of the round constants of ten rounds, as the code has them.
 unfoldable pub rconTable : List ℕ
@@ -40,7 +43,7 @@ pub temp-turn : (i : ℕ) (t : List ℕ) {a b c d r : ℕ} → i % 4 ≡ 0 → a
 unfolding temp xorWord SubWord RotWord Rcon tabulate
 temp-turn i t e pa pr pb pc pd = rw (eq-eqb (i % 4) 0 e, pa, pr, pb, pc, pd) (simp xor-zero-r)
 
-pub temp-keep : (i : ℕ) (t : List ℕ) → (i % 4 ≡ 0 → ⊥) → temp 4 i t ≡ t
+pub temp-keep : (i : ℕ) (t : List ℕ) → (i % 4 ≡ 0 → ⊥) → t ≡ temp 4 i t
 unfolding temp
 temp-keep i t e = rw (ne-eqb (i % 4) 0 e)
 
@@ -56,6 +59,14 @@ word-take w m j h = tabulate-ext 4 _ _ (λ q l. getD-take m w (4 * j + q) 0 (ome
 pub key-at : (w : List ℕ) (n i : ℕ) → i < 16 → at (keyOf w n) i ≡ at w (16 * n + i)
 unfolding keyOf
 key-at w n i h = getD-take 16 (drop (16 * n) w) i 0 h ∙ getD-drop (16 * n) w i 0
+
+-- A state to whose bytes those of round key n were added, one after the other.
+pub add-filled : (s w : List ℕ) (n : ℕ) {t : List ℕ} {i : ℕ} → Filled 16 (λ k. bitXor (at s k) (at w (16 * n + k))) t i → 16 ≤ i
+    → t ≡ AddRoundKey s (keyOf w n)
+unfolding AddRoundKey
+add-filled s w n =
+    filled-state (λ r c. bitXor (cell s r c) (cell (keyOf w n) r c)) (λ k. bitXor (at s k) (at w (16 * n + k)))
+    (λ r c p q. ap (bitXor (cell s r c)) (sym (key-at w n (r + 4 * c) (omega arith))))
 
 -- ---- Round keys are bytes.
 key-short : (w : List ℕ) (r : ℕ) → length (keyOf w r) ≤ 16

@@ -1,18 +1,18 @@
--- Laws, not definitions: of states by their cells, and of SubBytes, ShiftRows and AddRoundKey and what undoes them.
+-- Laws, not definitions: of states by their cells, of SubBytes, ShiftRows and AddRoundKey and what undoes them, and of loops that fill a state.
 -- Assumes nothing.
-use mathlib.Core.Path.{_≡_, ap, ap₂, _∙_}
+use mathlib.Core.Path.{_≡_, refl, ap, ap₂, _∙_}
 use mathlib.Core.List.{List}
-use Prim.Native.Nat.{ℕ, _+_, _-_, _*_, _/_, _%_, _<_}
+use Prim.Native.Nat.{ℕ, _+_, _-_, _*_, _/_, _%_, _≤_, _<_}
 use native.Mathlib.Omega.{arith}
 use lib.Dec.{lit<}
 use lib.Bits.{bitXor, xor-lt}
-use lib.ListN.{length, set}
+use lib.ListN.{length}
 use native.Mathlib.Nat.{le-of-lt, lt-of-le-of-lt, mul-le-mul-left}
 use Rattle.bits.specs.Lists.{at}
 use Rattle.bits.specs.Bytes.{Bytes, Block}
 use Rattle.bits.proofs.laws.Lists.{length-tabulate, at-tabulate, tabulate-ext, tabulate-at, tabulate-below}
 use Rattle.bits.proofs.laws.Xor.{xor-back}
-use Rattle.bits.proofs.laws.Filled.{Filled, filled-more}
+use Rattle.bits.proofs.laws.Filled.{Filled, filled-all}
 use Rattle.field.specs.Sbox.{sboxOf, invSboxOf}
 use Rattle.field.proofs.laws.Sbox.{sbox-lt, inv-sbox-lt, inv-sbox-sbox, sbox-inv-sbox}
 use Rattle.round.specs.State.{cell, state, SubBytes, ShiftRows, AddRoundKey, InvSubBytes, InvShiftRows}
@@ -61,13 +61,6 @@ each-back : (f g : ℕ → ℕ) → ((x : ℕ) → x < 256 → g (f x) ≡ x) �
     → state (λ r c. g (cell (state (λ i j. f (cell s i j))) r c)) ≡ s
 each-back f g h s b =
     is-block _ s (b .long) (λ r c p q. ap g (cell-state (λ i j. f (cell s i j)) r c p q) ∙ h (cell s r c) (b .bytes (r + 4 * c)))
-
--- A loop that fills a state so.
-pub each-more : (f : ℕ → ℕ) (s : List ℕ) {t : List ℕ} {i v : ℕ} → Filled 16 (λ k. f (cell s (k % 4) (k / 4))) t i → i < 16 → v ≡ f (at s i)
-    → Filled 16 (λ k. f (cell s (k % 4) (k / 4))) (set t i v) (i + 1)
-each-more f s {i = i} g h e =
-    let p : i ≡ i % 4 + 4 * (i / 4) = omega arith in
-    filled-more g h (e ∙ ap (λ (k : ℕ). f (at s k)) p)
 
 pub sub-block : (s : List ℕ) → Block s → Block (SubBytes s)
 unfolding SubBytes
@@ -132,3 +125,20 @@ add-back s k e =
     (λ r c p q.
     ap (λ (z : ℕ). bitXor z (cell k r c)) (cell-state (λ i j. bitXor (cell s i j) (cell k i j)) r c p q)
     ∙ xor-back (cell s r c) (cell k r c))
+
+-- ---- A loop that fills a state byte after byte: byte r + 4c is the cell in row r and column c.
+pub filled-state : (f : ℕ → ℕ → ℕ) (g : ℕ → ℕ) {t : List ℕ} {i : ℕ} → ((r c : ℕ) → r < 4 → c < 4 → g (r + 4 * c) ≡ f r c)
+    → Filled 16 g t i → 16 ≤ i → t ≡ state f
+unfolding state
+filled-state f g e F h =
+    filled-all F h
+    ∙ tabulate-ext 16 g (λ i. f (i % 4) (i / 4))
+    (λ i l. ap g (place i) ∙ e (i % 4) (i / 4) (omega arith) (omega arith))
+
+pub sub-filled : (s : List ℕ) {t : List ℕ} {i : ℕ} → Filled 16 (λ k. sboxOf (at s k)) t i → 16 ≤ i → t ≡ SubBytes s
+unfolding SubBytes
+sub-filled s = filled-state (λ r c. sboxOf (cell s r c)) (λ k. sboxOf (at s k)) (λ r c p q. refl)
+
+pub inv-sub-filled : (s : List ℕ) {t : List ℕ} {i : ℕ} → Filled 16 (λ k. invSboxOf (at s k)) t i → 16 ≤ i → t ≡ InvSubBytes s
+unfolding InvSubBytes
+inv-sub-filled s = filled-state (λ r c. invSboxOf (cell s r c)) (λ k. invSboxOf (at s k)) (λ r c p q. refl)

@@ -1,13 +1,24 @@
--- Laws, not definitions: the bundle's section of encodings, as the code hands it over.
+-- Laws, not definitions: the bundle's section of encodings, as the code hands it over, and the bytes that are decoded with it.
 -- Assumes nothing.
 use mathlib.Core.List.{List}
-use mathlib.Core.Path.{_≡_, ap}
-use Prim.Native.Nat.{ℕ, _*_, _/_, _%_}
+use mathlib.Core.Path.{_≡_, ap, _∙_}
+use Prim.Native.Nat.{ℕ, _+_, _*_, _/_, _%_, _<_}
 use native.Mathlib.Omega.{arith}
 use lib.ListN.{length}
-use Rattle.bundle.specs.Format.{partSize, sectionOf, partAt, encodingOf}
+use Rattle.bits.specs.Bytes.{Bytes}
+use Rattle.bits.specs.Encodings.{decode, Permutation}
+use Rattle.bits.specs.Lists.{tabulate}
+use Rattle.bits.specs.Nibbles.{pack}
+use Rattle.bits.proofs.laws.Lists.{tabulate-ext}
+use Rattle.bundle.specs.Format.{encodings, partSize, sectionOf, partAt, encodingOf}
+use Rattle.bundle.specs.declared.answer.Judgement.the-variants.{Accepted}
 use Rattle.bundle.proofs.laws.Code.{multiple}
+use Rattle.judgement.specs.Judge.{judge}
+use Rattle.judgement.proofs.laws.Judgements.{accepted-sound}
+use Rattle.network.specs.Stages.{shifted, sourceOf, standingNumber}
+use Rattle.network.specs.declared.stage.Stage.{Stage}
 use Rattle.entries.specs.Encodings.{encodingIn}
+use Rattle.layers.specs.Layers.{readByte}
 
 module _ (l s : List ℕ) (e : s ≡ sectionOf 10 l 0) where
   pub whole-encodings : length s % 8 ≡ 0
@@ -19,3 +30,19 @@ module _ (l s : List ℕ) (e : s ≡ sectionOf 10 l 0) where
   pub encodings-in : _≡_ {A = ℕ → List ℕ} (encodingIn s) (encodingOf 10 l)
   unfolding partAt partSize
   encodings-in = ap {B = ℕ → List ℕ} (λ (t : List ℕ). encodingIn t) e
+
+  -- Each of them is a permutation where the bundle is accepted.
+  pub encodings-permute : Bytes l → judge 10 l ≡ Accepted → (n : ℕ) → n < 6048 → Permutation (encodingIn s n)
+  unfolding encodings
+  encodings-permute bytes accepted n h =
+      let good = accepted-sound 10 l bytes accepted in
+      rw (ap (λ (f : ℕ → List ℕ). f n) encodings-in) (good .lists n h)
+
+-- The bytes that position p of a stage reads, from the byte j that it reads and the numbers of that byte's two encodings.
+pub read-made : (l s dst : List ℕ) (stage : Stage) (p j high low : ℕ) → s ≡ sectionOf 10 l 0
+    → j ≡ sourceOf shifted stage p → high ≡ standingNumber 10 stage (2 * j) → low ≡ standingNumber 10 stage (2 * j + 1)
+    → dst ≡ tabulate 256 (λ x. pack (decode (encodingIn s high) (x / 16)) (decode (encodingIn s low) (x % 16)))
+    → dst ≡ tabulate 256 (readByte l stage p)
+unfolding readByte partAt partSize
+read-made l s dst stage p j high low e source a b d =
+    d ∙ tabulate-ext 256 _ _ (λ x h. rw (e, a, b, source))

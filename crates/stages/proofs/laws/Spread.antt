@@ -5,7 +5,7 @@ use mathlib.Core.Path.{_≡_, refl, sym, ap, ap₂, _∙_, subst}
 use Prim.Native.Nat.{ℕ, zero, suc, _+_, _-_, _*_, _/_, _%_, _^_, _≤_, _<_}
 use native.Mathlib.Nat.{div-add-mod', div-lt-iff-lt-mul, mod-lt}
 use native.Mathlib.Omega.{arith}
-use lib.ListN.{take}
+use lib.ListN.{length, take}
 use lib.Seq.{getD-take}
 use Rattle.bits.specs.Bytes.{Bytes, number, byte, bytesOf, placed}
 use Rattle.bits.specs.Encodings.{decode}
@@ -14,15 +14,17 @@ use Rattle.bits.specs.Nibbles.{pack, nibble, packed}
 use Rattle.bits.proofs.laws.Bytes.{bytesOf-numberOf, numberOf-bytesOf, length-bytesOf}
 use Rattle.bits.proofs.laws.Encodings.{decode-lt}
 use Rattle.bits.proofs.laws.Groups.{joined-same}
-use Rattle.bits.proofs.laws.Lists.{at-tabulate, length-tabulate, ext-at, length-concat, at-concat, concat-same, tabulate-ext}
+use Rattle.bits.proofs.laws.Lists.{at-tabulate, length-tabulate, ext-at, length-concat, at-concat, concat-same}
 use Rattle.bits.proofs.laws.Nibbles.{length-packed, at-packed, packed-ext, nibble-lt}
 use Rattle.bits.proofs.laws.Images.{images-long}
 use Rattle.matrices.specs.Matrices.{product}
 use Rattle.matrices.proofs.laws.Matrices.{product-lt}
+use Rattle.matrices.specs.Rows.{rowAt, stored}
+use Rattle.matrices.proofs.laws.Rows.{row-stored}
 use Rattle.inversion.specs.Elimination.{inverseOf}
 use Rattle.field.specs.Field.{mul}
 use Rattle.field.proofs.laws.OnBytes.{OnBytes}
-use Rattle.bundle.specs.Format.{encodings, encodingOf}
+use Rattle.bundle.specs.Format.{encodings, encodingOf, partSize, sectionOf, partAt}
 use Rattle.bundle.specs.declared.answer.Judgement.the-variants.{Accepted}
 use Rattle.judgement.specs.Judge.{judge}
 use Rattle.judgement.proofs.laws.Judgements.{accepted-sound}
@@ -40,12 +42,20 @@ use Rattle.whitebox.specs.Words.{entryWord, mixedWord, secondWord, placedWord, 
 use Rattle.whitebox.proofs.laws.Bundles.{encoding-is}
 use Rattle.whitebox.proofs.laws.States.{forward-fine, substituted-lt}
 use Rattle.whitebox.proofs.laws.Values.{entry-bytes, mixed-word-bytes, second-bytes, placed-word-bytes}
+use Rattle.entries.specs.Encodings.{encodingIn}
 use Rattle.entries.specs.Spread.{combined, encodedBytes, encodedWord}
 use Rattle.layers.specs.Layers.{roundOf, acted, linearWord, wordNumber, readByte}
 use Rattle.layers.proofs.laws.Linear.{by-powers, spread-xor, mixed-xor, exit-xor}
 
 -- ---- 256 words of m bytes, one after the other
 module _ (m : ℕ) (f : ℕ → ℕ → ℕ) (pos : 0 < m) where
+  -- nibble z of them all is nibble k of word x
+  nibble-of-word : (z x k : ℕ) → z ≡ x * (2 * m) + k → k < 2 * m → f (z / (2 * m)) (z % (2 * m)) ≡ f x k
+  nibble-of-word z x k e h = rw e (ap₂ f (at-div (2 * m) x k h) (at-mod (2 * m) x k h))
+
+  twice : (i x j : ℕ) → x * m + j ≡ i → 2 * i ≡ x * (2 * m) + 2 * j
+  twice i x j e = omega arith
+
   byte-of-word : (i : ℕ) → i < 256 * m
       → pack (f (2 * i / (2 * m)) (2 * i % (2 * m))) (f ((2 * i + 1) / (2 * m)) ((2 * i + 1) % (2 * m))) ≡ at (concat 256 (λ x. packed m (f x))) i
   byte-of-word i h =
@@ -53,26 +63,20 @@ module _ (m : ℕ) (f : ℕ → ℕ → ℕ) (pos : 0 < m) where
       let j = i % m in
       let split : x * m + j ≡ i = div-add-mod' i m in
       let small : j < m = mod-lt i pos in
-      let few : x < 256 = rows i h in
-      let a : 2 * i ≡ x * (2 * m) + 2 * j = twice x j m i split in
-      let b : 2 * i + 1 ≡ x * (2 * m) + (2 * j + 1) = omega arith in
-      ap₂ pack
-      (ap₂ f (ap (λ (z : ℕ). z / (2 * m)) a ∙ at-div (2 * m) x (2 * j) (omega arith)) (ap (λ (z : ℕ). z % (2 * m)) a ∙ at-mod (2 * m) x (2 * j) (omega arith)))
-      (ap₂ f (ap (λ (z : ℕ). z / (2 * m)) b ∙ at-div (2 * m) x (2 * j + 1) (omega arith)) (ap (λ (z : ℕ). z % (2 * m)) b ∙ at-mod (2 * m) x (2 * j + 1) (omega arith)))
+      let few : x < 256 = div-lt-iff-lt-mul pos .1 h in
+      let even : 2 * i ≡ x * (2 * m) + 2 * j = twice i x j split in
+      let odd : 2 * i + 1 ≡ x * (2 * m) + (2 * j + 1) = omega arith in
+      ap₂ pack (nibble-of-word (2 * i) x (2 * j) even (omega arith)) (nibble-of-word (2 * i + 1) x (2 * j + 1) odd (omega arith))
       ∙ sym (at-packed m (f x) j small)
       ∙ sym (at-concat m (λ x. packed m (f x)) 256 (λ k g. length-packed m (f k)) x j few small)
       ∙ ap (at (concat 256 (λ x. packed m (f x)))) split
-    where
-      rows : (i : ℕ) → i < 256 * m → i / m < 256
-      rows i h = div-lt-iff-lt-mul pos .1 h
-
-      twice : (x j m i : ℕ) → x * m + j ≡ i → 2 * i ≡ x * (2 * m) + 2 * j
-      twice x j m i e = omega arith
 
   pub packed-words : packed (256 * m) (λ q. f (q / (2 * m)) (q % (2 * m))) ≡ concat 256 (λ x. packed m (f x))
   packed-words =
-      ext-at (256 * m) _ _ (length-packed (256 * m) (λ q. f (q / (2 * m)) (q % (2 * m)))) (length-concat m (λ x. packed m (f x)) 256 (λ k g. length-packed m (f k)))
-      (λ i h. at-packed (256 * m) (λ q. f (q / (2 * m)) (q % (2 * m))) i h ∙ byte-of-word i h)
+      let nibbles : ℕ → ℕ = λ q. f (q / (2 * m)) (q % (2 * m)) in
+      let words : ℕ → List ℕ = λ x. packed m (f x) in
+      ext-at (256 * m) _ _ (length-packed (256 * m) nibbles) (length-concat m words 256 (λ k g. length-packed m (f k)))
+      (λ i h. at-packed (256 * m) nibbles i h ∙ byte-of-word i h)
 
 -- ---- the words by stage, as numbers
 module _ (P : Parts) (C : Codings) (p y : ℕ) where
@@ -81,7 +85,8 @@ module _ (P : Parts) (C : Codings) (p y : ℕ) where
   entry-form = joined-same 8 16 _ _ (λ j h. sym (at-tabulate 16 _ j h))
 
   pub second-form : (r : ℕ)
-      → number 4 (λ t. product 8 (byteMatrixAt C (suc r) (4 * (p / 4) + t)) (byte 4 t (product 32 (inverseOf 32 (columnMatrixAt C r (p / 4))) (placed 4 (p % 4) y)))) ≡ wordNumber P C (Second r) p y
+      → number 4 (λ t. product 8 (byteMatrixAt C (suc r) (4 * (p / 4) + t)) (byte 4 t (product 32 (inverseOf 32 (columnMatrixAt C r (p / 4))) (placed 4 (p % 4) y))))
+      ≡ wordNumber P C (Second r) p y
   unfolding wordNumber secondWord
   second-form r = joined-same 8 4 _ _ (λ j h. sym (at-tabulate 4 _ j h))
 
@@ -229,6 +234,19 @@ module _ (l w : List ℕ) (bytes : Bytes l) (keys : Bytes w) (accepted : judge 1
       ∙ by-powers (wordNumber P C s p) f lin b _ (acted-lt P fine C p s low _ (read-lt x hx)))))
       ∙ sym (packed-words (widthOf s) (spreadEntry (C .encoding) (layerOf P C 10 s) (numbersOf 10 s) p) (wide s low))
 
--- ---- the bytes behind the S-box
-pub composed : (read dst : List ℕ) (f g : ℕ → ℕ) → read ≡ tabulate 256 f → dst ≡ tabulate 256 (λ x. g (at read x)) → dst ≡ tabulate 256 (λ x. g (f x))
-composed read dst f g a b = b ∙ tabulate-ext 256 _ _ (λ x h. ap g (ap (λ (t : List ℕ). at t x) a ∙ at-tabulate 256 f x h))
+  -- The same from what the code has: the width m, the first number, the section of encodings, and each list as the call that fills it leaves it.
+  pub spread-made : (m first : ℕ) (section values basis old images dst : List ℕ)
+      → m ≡ widthOf s
+      → first ≡ firstNumber 10 s
+      → section ≡ sectionOf 10 l 0
+      → 16 ≤ length old
+      → values ≡ tabulate 256 (λ x. acted P C 10 s p (readByte l s p x))
+      → basis ≡ stored 8 (λ k. wordNumber P C s p (2 ^ k)) old
+      → take (2 * m * 16) images ≡ concat (2 * m) (λ h. encodingIn section (first + p * (2 * m) + h))
+      → dst ≡ concat 256 (λ x. encodedWord (at images) m (combined (rowAt basis) (at values x)))
+      → dst ≡ spreadTable (C .encoding) (layerOf P C 10 s) (numbersOf 10 s) p
+  unfolding partAt partSize
+  spread-made m first section values basis old images dst width number sect long val bas img written =
+      spread-is values images dst (rowAt basis) (rw width at written) val
+      (λ k h. ap (λ (t : List ℕ). rowAt t k) bas ∙ row-stored 8 _ old long k h)
+      (rw (width, number, sect) at img)

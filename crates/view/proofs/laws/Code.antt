@@ -1,4 +1,4 @@
--- Laws, not definitions: starts and sections as the code meets them, by the test of a branch.
+-- Laws, not definitions: starts, sections and parts as the code meets them, by the test of a branch.
 -- Assumes nothing.
 use mathlib.Core.Bool.{Bool, true, false}
 use mathlib.Core.List.{List, []}
@@ -11,18 +11,16 @@ use lib.ListN.{length, take, drop, length-take, length-drop}
 use borrow.Author.Tests.{eq-eqb, ne-eqb, lt-ltb, le-ltb, ltb-false}
 use Rattle.bits.proofs.laws.Multiples.{multiple-of}
 use Rattle.bundle.specs.Format.{partCount, partSize, sectionLength, offset, frame}
+use Rattle.bundle.specs.declared.answer.Judgement.{Judgement}
 use Rattle.bundle.specs.declared.answer.Judgement.the-variants.{Accepted, Refused}
 use Rattle.bundle.specs.declared.answer.Refusal.{Refusal}
-use Rattle.bundle.proofs.laws.Frame.{sizes, framed}
 use Rattle.bundle.proofs.laws.Tests.{or-right}
-use Rattle.view.specs.Views.{startOf, startsOf, emptyWhen, sectionFrom}
+use Rattle.view.specs.Views.{startOf, startsOf, emptyWhen, sectionFrom, partFrom}
 use Rattle.view.specs.Serving.{noStarts}
+use Rattle.view.specs.declared.part.Part.{Part}
+use Rattle.view.specs.declared.starts.Starts.{Starts}
 
 -- ---- starts
--- A bundle with neither cause 2 nor cause 3 has its five pairs.
-pub pairs-there : (l : List ℕ) → frame 10 l ≡ Accepted → 40 ≤ length l
-pairs-there l e = omega (arith, sizes .low, framed 10 l e .range .low)
-
 module _ (nr : ℕ) (l : List ℕ) where
   pub start-is : frame nr l ≡ Accepted → (s : ℕ) → startOf nr l s ≡ offset l s
   unfolding startOf
@@ -32,14 +30,20 @@ module _ (nr : ℕ) (l : List ℕ) where
   unfolding startOf
   start-none r e s = rw e
 
-  pub starts-are : frame nr l ≡ Accepted → (a b c d e : ℕ) → a ≡ offset l 0 → b ≡ offset l 1 → c ≡ offset l 2 → d ≡ offset l 3 → e ≡ offset l 4
-      → record { encodings = a; bytes = b; columns = c; input = d; output = e } ≡ startsOf nr l
-  unfolding startsOf
-  starts-are f a b c d e p q r s t = rw (p, q, r, s, t, start-is f 0, start-is f 1, start-is f 2, start-is f 3, start-is f 4)
+  -- j is the judgement of the frame; the five numbers are those that the code reads.
+  module _ {j : Judgement} (f : j ≡ frame nr l) where
+    pub starts-are : j ≡ Accepted → {a b c d e : ℕ} → a ≡ offset l 0 → b ≡ offset l 1 → c ≡ offset l 2 → d ≡ offset l 3 → e ≡ offset l 4
+        → record { encodings = a; bytes = b; columns = c; input = d; output = e } ≡ startsOf nr l
+    unfolding startsOf
+    starts-are t p q r s u =
+        let there = start-is (sym f ∙ t) in
+        rw (p, q, r, s, u, there 0, there 1, there 2, there 3, there 4)
 
-  pub starts-none : (r : Refusal) → frame nr l ≡ Refused r → noStarts ≡ startsOf nr l
-  unfolding startsOf
-  starts-none r e = rw (start-none r e 0, start-none r e 1, start-none r e 2, start-none r e 3, start-none r e 4)
+    pub starts-none : {r : Refusal} → j ≡ Refused r → noStarts ≡ startsOf nr l
+    unfolding startsOf
+    starts-none t =
+        let none = start-none _ (sym f ∙ t) in
+        rw (none 0, none 1, none 2, none 3, none 4)
 
 -- ---- sections from their starts
 module _ (nr : ℕ) (l : List ℕ) (s a : ℕ) where
@@ -48,7 +52,7 @@ module _ (nr : ℕ) (l : List ℕ) (s a : ℕ) where
   from-nowhere e = simp (eq-eqb _ _ e)
 
   module _ (h : a ≡ 0 → ⊥) where
-    pub from-behind : length l < a + sectionLength nr s → [] ≡ sectionFrom nr l s a
+    from-behind : length l < a + sectionLength nr s → [] ≡ sectionFrom nr l s a
     unfolding sectionFrom
     from-behind k = simp (ne-eqb _ _ h, lt-ltb _ _ k)
 
@@ -56,11 +60,18 @@ module _ (nr : ℕ) (l : List ℕ) (s a : ℕ) where
     unfolding sectionFrom
     from-here k = simp (ne-eqb _ _ h, le-ltb _ _ k)
 
-    -- as the code cuts it
-    pub from-cut : (n : ℕ) → n ≡ sectionLength nr s → a + n ≤ length l → take ((a + n) - a) (drop a l) ≡ sectionFrom nr l s a
-    from-cut n e k =
-        let q : (a + n) - a ≡ sectionLength nr s = omega arith in
-        ap (λ (x : ℕ). take x (drop a l)) q ∙ from-here (omega arith)
+    -- n is the section's length, as the code has it: longer than the bundle, ending behind it, or cut out of it.
+    module _ {n : ℕ} (e : n ≡ sectionLength nr s) where
+      pub from-long : length l < n → [] ≡ sectionFrom nr l s a
+      from-long k = from-behind (omega arith)
+
+      pub from-late : n ≤ length l → length l - n < a → [] ≡ sectionFrom nr l s a
+      from-late k m = from-behind (omega arith)
+
+      pub from-cut : n ≤ length l → a ≤ length l - n → take ((a + n) - a) (drop a l) ≡ sectionFrom nr l s a
+      from-cut k m =
+          let q : (a + n) - a ≡ sectionLength nr s = omega arith in
+          ap (λ (x : ℕ). take x (drop a l)) q ∙ from-here (omega arith)
 
 -- The bytes of a section are those of whole parts.
 whole-by : (size : ℕ) (b : Bool) (t : List ℕ) → 0 < size → (b ≡ false → length t / size * size ≡ length t)
@@ -68,7 +79,7 @@ whole-by : (size : ℕ) (b : Bool) (t : List ℕ) → 0 < size → (b ≡ false 
 whole-by size true t p h = multiple-of 0 size 0 p (sym (zero-mul size))
 whole-by size false t p h = h refl
 
-pub whole : (nr : ℕ) (l : List ℕ) (s a : ℕ) → 0 < partSize s
+whole : (nr : ℕ) (l : List ℕ) (s a : ℕ) → 0 < partSize s
     → length (sectionFrom nr l s a) / partSize s * partSize s ≡ length (sectionFrom nr l s a)
 unfolding sectionFrom sectionLength
 whole nr l s a p =
@@ -77,3 +88,12 @@ whole nr l s a p =
     (λ e.
     let k : a + n ≤ length l = ltb-false (length l) (a + n) (or-right (eqb a 0) (ltb (length l) (a + n)) e) in
     multiple-of (partCount nr s) (partSize s) (length (take n (drop a l))) p (simp (length-take, length-drop) (omega arith)))
+
+-- What `part` asks, of the section and the size that the code has.
+pub parts-asked : (nr : ℕ) (l : List ℕ) (s a : ℕ) {size : ℕ} {t : List ℕ} → t ≡ sectionFrom nr l s a → (size ≡ partSize s) × (1 ≤ size) × (size ≤ 2048)
+    → (1 ≤ size) × (length t / size * size ≡ length t)
+parts-asked nr l s a e z = (z .1, rw (e, z .0) (whole nr l s a (omega arith)))
+
+-- ---- parts: x is the part's name p as the code tells it
+pub part-named : (nr : ℕ) (l : List ℕ) (t : Starts) {p x : Part} {r : List ℕ} → p ≡ x → r ≡ partFrom nr l t x → r ≡ partFrom nr l t p
+part-named nr l t q e = e ∙ ap (partFrom nr l t) (sym q)

@@ -11,7 +11,7 @@ use Rattle.bundle.specs.declared.answer.Judgement.the-variants.{Accepted, Refus
 use Rattle.bundle.specs.declared.answer.Refusal.{Refusal}
 use Rattle.bundle.proofs.laws.Frame.{framed, section-is, section-none, section-fits, apart}
 use Rattle.bundle.proofs.laws.Parts.{part-refused}
-use Rattle.view.specs.Views.{startOf, startsOf, sectionFrom, numberedFrom, viewOf, servedBy, partIn}
+use Rattle.view.specs.Views.{startOf, startsOf, sectionFrom, numberedFrom, viewOf, partIn}
 use Rattle.view.specs.Serving.{Serves, EmptyOver}
 use Rattle.view.specs.declared.part.Part.{Part}
 use Rattle.view.specs.declared.part.Part.the-variants.{Encoding, ByteMatrix, ColumnMatrix, InputMatrix, OutputMatrix}
@@ -31,7 +31,7 @@ module _ (nr : ℕ) (l : List ℕ) (s : ℕ) (h : s < 5) where
   part-started n = ap (λ (x : List ℕ). partOf (partSize s) x n) (started-by (frame nr l) refl)
 
 pub serves : Serves
-unfolding servedBy viewOf startsOf
+unfolding viewOf startsOf
 serves b (Encoding n) = part-started 10 (now b) 0 (omega arith) n
 serves b (ByteMatrix n) = part-started 10 (now b) 1 (omega arith) n
 serves b (ColumnMatrix n) = part-started 10 (now b) 2 (omega arith) n
@@ -47,4 +47,4 @@ none-in l r e OutputMatrix = part-refused 10 l 4 0 r e
 
 pub empty-over : EmptyOver
 unfolding viewOf
-empty-over b r e = (sym (starts-none 10 (now b) r e), λ p. serves b p ∙ none-in (now b) r e p)
+empty-over b r e = (sym (starts-none 10 (now b) refl e), λ p. serves b p ∙ none-in (now b) r e p)

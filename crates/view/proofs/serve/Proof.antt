@@ -2,6 +2,7 @@
 -- starts and the part's name. All that the proof knows of `part_from` is that it meets its contract.
 -- A view is Copy: what it owns is had twice. One copy is kept whole for the exit, and of the other what the bundle owns goes to the callee,
 -- beside the lifetime's token, which comes back. Starts and the part's name are plain data: what they own is made anew.
+-- `returned` of `laws.Walks` gives what is due at exit, and `closes` makes the theorem of the walk.
 -- Assumes nothing.
 use mathlib.Core.Path.{_≡_, refl}
 use Prim.Native.Nat.{ℕ}
@@ -15,15 +16,15 @@ use base.Logic.{SProp, ent, sep, emp, via, fst∗, snd∗, exE, id⊢}
 use base.Fml.{Lft, Share, Fml, ftrue, flft}
 use prog.Memory.{Memory}
 use prog.Routine.{Routine}
-use prog.Wp.{Heap, Calls, Loops, WpFn, Tables}
+use prog.Wp.{Heap, Calls, Loops, WpFn}
 use ghost.Atoms.{Atoms, sem}
 use contract.Lifetimes.{Lfts}
 use contract.Monad.{Fun, fact}
-use contract.Running.{givenOf, tables, tablesOf}
-use types.Kit.{Given, ‵, raw, _⊛_, given, ⋆, some, later, _$_, _∵_, !, qed, by, move, drop, use1, use2, split, join, learn, pick, fsplit, fjoin, suffices, frame, await, done}
+use contract.Running.{givenOf, tables}
+use types.Kit.{Given, ‵, raw, _⊛_, given, ⋆, some, later, _$_, _∵_, !, qed, by, move, drop, use1, use2, split, join, learn, pick, fsplit, fjoin, frame, await, done}
 use types.Part.{whole, sub, look-in, agg}
 use types.Run.{look, init, forget, stop, fld, from, load, of-opd, and-then, no-more, assigns, land, returns, enter, alloc1, alloc0, params1, pass1, pass0, free1, free0}
-use sound.WpLaws.{FmC, fmOf, WpFn-mono}
+use sound.WpLaws.{FmC}
 use denote.RattleType.{RattleType, owns}
 use denote.Laws.{Is, shows}
 use denote.Builtin.{u8}
@@ -39,15 +40,16 @@ use denote.Struct.Values.{Values}
 use denote.Triple.Statement.{Contract, Triple}
 use denote.Triple.Call.{calls-at}
 use denote.Triple.Entry.{Vals, onEntry}
-use denote.Triple.Spec.{Meets, tripleOf}
-use denote.Triple.Table.{entered, cited}
-use denote.Triple.Walked.{says, Stays, stay-none, walkOf, goes-none, Walks, ends-at, walked, walk-meets}
+use denote.Triple.Spec.{tripleOf}
+use denote.Triple.Table.{cited}
+use denote.Triple.Walked.{Stays, stay-none, walkOf, goes-none, Walks, ends-at, walked}
 use denote.Exit.{yes}
 use denote.Triple.Clauses.{ensured, lasts}
 use Rattle.view.specs.Views.{startsIn, servedBy}
 use Rattle.view.specs.declared.View.{View}
 use Rattle.view.specs.declared.part.Part.{Part}
 use Rattle.view.specs.declared.starts.Starts.{Starts}
+use Rattle.view.proofs.laws.Walks.{closes, returned}
 use Rattle.view.proofs.View as T
 use Rattle.view.proofs.View.Laws as T′
 use Rattle.view.proofs.part.Part as P
@@ -151,12 +153,9 @@ module _ {M : Type 1} (𝓤 : URA M) (H : Heap 𝓤) (A : Atoms 𝓤) (W : Given
   exits : (r : RefT (List ℕ)) (u : Val) → now r ≡ servedBy d p
       → ent 𝓤 (⋆ 𝓤 H A (‵ (Slice .own r (u ∷ [])) ∷ (‵ (flft κ q) ⊛ ‵ ftrue) ∷ ‵ Own ∷ [])) (Post u)
   exits r u e =
-      qed W (‵ (Slice .own r (u ∷ [])) ∷ (‵ (flft κ q) ⊛ ‵ ftrue) ∷ ‵ Own ∷ []) ∵
-      suffices ! _ (ends-at 𝓤 H A serve.ended stayed (serve.clauses 𝓤 H A mem run) W (((κ, tt), (q, tt), tt, (d, (p, tt)), at), tt)
-      u r (tt, (tt, tt)) (tt, (tt, tt))) $
-      says ! e $ move ! (1 ∷ []) $ frame ! $
-      nothing ! $ owned ! P.the-row (Is P.the-row) (EL.makes P.the-type P′.the-plain 𝓤 H A) p _ is-p $ fjoin ! $
-      move ! (2 ∷ 0 ∷ []) $ fjoin ! $ frame ! $ done !
+      via 𝓤 _ (returned 𝓤 H A W κ q p is-p (Slice .own r (u ∷ [])) Own e)
+      (ends-at 𝓤 H A serve.ended stayed (serve.clauses 𝓤 H A mem run) W (((κ, tt), (q, tt), tt, (d, (p, tt)), at), tt)
+      u r (tt, (tt, tt)) (tt, (tt, tt)))
 
   module _ (C : Calls 𝓤 H) (Λ : Loops 𝓤 H) (fm : FmC 𝓤 H (W .laws) C) (known : Triple 𝓤 (C #view·part·part-from) (PartFrom 𝓤 H A mem run)) where
     walk : Holds (hasTy (T′.mir (named 0)) mach) × WT mach → Holds (hasTy P′.mir mp) × WT mp
@@ -220,20 +219,13 @@ module _ {M : Type 1} (𝓤 : URA M) (H : Heap 𝓤) (A : Atoms 𝓤) (W : Given
       (LL.lawful (T.the-type (namedLft 1 0 tt κs)) (T′.the-laws (namedLft 1 0 tt κs)) 𝓤 H A W .typed (a .0) _ (are .0) .0)
       (EL.lawful P.the-type P′.the-laws 𝓤 H A W tt .typed (a .1 .0) _ (are .1 .0) .0)))
 
-serve-meets : {M : Type 1} (𝓤 : URA M) (H : Heap 𝓤) (A : Atoms 𝓤) (W : Given 𝓤 H A) (mem : Memory → SProp 𝓤) (run : Routine → Fun 𝓤) (𝓣 : Tables 𝓤 H)
-    → Triple 𝓤 (𝓣 .C #view·part·part-from) (PartFrom 𝓤 H A mem run)
-    → Meets 𝓤 H A serve.signature (WpFn 𝓤 H (𝓣 .C) (𝓣 .Λ) code.function) (serve.spec 𝓤 H A mem run)
-serve-meets 𝓤 H A W mem run 𝓣 known =
-    walk-meets 𝓤 H A serve.ended stayed W
-    (goes-none 𝓤 H A W 1 B yes (λ κs x f. refl), (goes-none 𝓤 H A W 1 (λ _. P.the-row) yes (λ κs x f. refl), tt))
-    (serve.clauses 𝓤 H A mem run) (WpFn 𝓤 H (𝓣 .C) (𝓣 .Λ) code.function) (WpFn-mono 𝓤 H (W .laws) 𝓣 code.function)
-    (serve-walks 𝓤 H A W mem run (𝓣 .C) (𝓣 .Λ) (fmOf 𝓤 H (W .laws) 𝓣) known)
-
 pub serve-spec : {M : Type 1} → stated.statement M
-unfolding code.routine tablesOf
+unfolding code.routine
 serve-spec 𝓤 H 𝓜 𝓖 𝓡 =
-    entered 𝓤 H (tripleOf 𝓤 H (𝓖 .A) serve.signature (serve.spec 𝓤 H (𝓖 .A) (𝓜 .mem) (𝓡 .run)))
-    (tables 𝓤 H 𝓜 𝓡 code.env .C) (tables 𝓤 H 𝓜 𝓡 code.env .Λ) #view·serve code.function (code.unfolded 𝓤 H 𝓜 𝓡)
-    (serve-meets 𝓤 H (𝓖 .A) (givenOf 𝓤 H 𝓜 𝓖) (𝓜 .mem) (𝓡 .run) (tablesOf 𝓤 H 𝓜 (tables 𝓤 H 𝓜 𝓡 code.env))
+    let W = givenOf 𝓤 H 𝓜 𝓖 in
+    closes 𝓤 H 𝓜 𝓖 𝓡 code.env serve.ended stayed
+    (goes-none 𝓤 H (𝓖 .A) W 1 B yes (λ κs x f. refl), (goes-none 𝓤 H (𝓖 .A) W 1 (λ _. P.the-row) yes (λ κs x f. refl), tt))
+    (serve.clauses 𝓤 H (𝓖 .A) (𝓜 .mem) (𝓡 .run)) #view·serve code.function (code.unfolded 𝓤 H 𝓜 𝓡)
+    (λ fm. serve-walks 𝓤 H (𝓖 .A) W (𝓜 .mem) (𝓡 .run) (tables 𝓤 H 𝓜 𝓡 code.env .C) (tables 𝓤 H 𝓜 𝓡 code.env .Λ) fm
     (cited 𝓤 H (PartFrom 𝓤 H (𝓖 .A) (𝓜 .mem) (𝓡 .run)) 𝓜 𝓡 code.env #view·part·part-from
     part-from-def.routine code.calls-view·part·part-from (part-from-thm.met 𝓤 H 𝓜 𝓖 𝓡)))

@@ -1,6 +1,7 @@
 -- `view::served` meets its contract: a walk of its MIR, by hand. The view that `view_of` returns is held in a local and passed to `serve`.
 -- All that the proof knows of the two is that each meets its contract; that the view of a bundle serves the bundle's parts is the law
 -- `serves`. In a local of a body MIR erases the lifetime of the view's type, so the view is shown to have the type at `erased`.
+-- `returned` of `laws.Walks` gives what is due at exit, and `closes` makes the theorem of the walk.
 -- Assumes nothing.
 use mathlib.Core.Path.{_≡_, refl, ap, _∙_}
 use Prim.Native.Nat.{ℕ}
@@ -14,14 +15,14 @@ use base.Logic.{SProp, ent, sep, emp, via, fst∗, snd∗, exE, id⊢}
 use base.Fml.{Lft, Share, Fml, ftrue, flft}
 use prog.Memory.{Memory}
 use prog.Routine.{Routine}
-use prog.Wp.{Heap, Calls, Loops, WpFn, Tables}
+use prog.Wp.{Heap, Calls, Loops, WpFn}
 use ghost.Atoms.{Atoms, sem}
 use contract.Lifetimes.{Lfts}
 use contract.Monad.{Fun, fact}
-use contract.Running.{givenOf, tables, tablesOf}
-use types.Kit.{Given, ‵, raw, _⊛_, ⋆, some, later, _$_, _∵_, !, qed, by, move, drop, use1, use2, split, join, pick, fsplit, fjoin, suffices, frame, await, done}
+use contract.Running.{givenOf, tables}
+use types.Kit.{Given, ‵, raw, _⊛_, ⋆, some, later, _$_, _∵_, !, qed, by, move, drop, use1, use2, split, join, pick, fsplit, fjoin, frame, await, done}
 use types.Run.{look, init, forget, stop, from, load, and-then, no-more, land, returns, enter, alloc1, alloc0, params1, pass1, pass0, free1, free0}
-use sound.WpLaws.{FmC, fmOf, WpFn-mono}
+use sound.WpLaws.{FmC}
 use denote.RattleType.{RattleType, owns}
 use denote.Laws.{Is, shows}
 use denote.Builtin.{u8}
@@ -34,15 +35,16 @@ use denote.Struct.Laws as LL
 use denote.Triple.Statement.{Contract, Triple}
 use denote.Triple.Call.{calls-at}
 use denote.Triple.Entry.{Vals, onEntry}
-use denote.Triple.Spec.{Meets, tripleOf}
-use denote.Triple.Table.{entered, cited}
-use denote.Triple.Walked.{says, Stays, stay-none, stay-none-slice, walkOf, goes-none, goes-none-slice, Walks, ends-at, walked, walk-meets}
+use denote.Triple.Spec.{tripleOf}
+use denote.Triple.Table.{cited}
+use denote.Triple.Walked.{Stays, stay-none, stay-none-slice, walkOf, goes-none, goes-none-slice, Walks, ends-at, walked}
 use denote.Exit.{yes}
 use denote.Triple.Clauses.{ensured, lasts}
 use Rattle.view.specs.Views.{viewOf, servedBy, partIn}
 use Rattle.view.specs.declared.View.{View}
 use Rattle.view.specs.declared.part.Part.{Part}
 use Rattle.view.proofs.laws.Serving.{serves}
+use Rattle.view.proofs.laws.Walks.{closes, returned}
 use Rattle.view.proofs.View as T
 use Rattle.view.proofs.View.Laws as T′
 use Rattle.view.proofs.part.Part as P
@@ -135,12 +137,9 @@ module _ {M : Type 1} (𝓤 : URA M) (H : Heap 𝓤) (A : Atoms 𝓤) (W : Given
   exits : (s : RefT (List ℕ)) (u : Val) → now s ≡ partIn 10 (now b) p
       → ent 𝓤 (⋆ 𝓤 H A (‵ (Slice .own s (u ∷ [])) ∷ (‵ (flft κ q) ⊛ ‵ ftrue) ∷ ‵ Own ∷ [])) (Post u)
   exits s u e =
-      qed W (‵ (Slice .own s (u ∷ [])) ∷ (‵ (flft κ q) ⊛ ‵ ftrue) ∷ ‵ Own ∷ []) ∵
-      suffices ! _ (ends-at 𝓤 H A served.ended stayed (served.clauses 𝓤 H A mem run) W (((κ, tt), (q, tt), tt, (b, (p, tt)), at), tt)
-      u s (tt, (tt, tt)) (tt, (tt, tt))) $
-      says ! e $ move ! (1 ∷ []) $ frame ! $
-      nothing ! $ owned ! P.the-row (Is P.the-row) (EL.makes P.the-type P′.the-plain 𝓤 H A) p _ is-p $ fjoin ! $
-      move ! (2 ∷ 0 ∷ []) $ fjoin ! $ frame ! $ done !
+      via 𝓤 _ (returned 𝓤 H A W κ q p is-p (Slice .own s (u ∷ [])) Own e)
+      (ends-at 𝓤 H A served.ended stayed (served.clauses 𝓤 H A mem run) W (((κ, tt), (q, tt), tt, (b, (p, tt)), at), tt)
+      u s (tt, (tt, tt)) (tt, (tt, tt)))
 
   module _ (C : Calls 𝓤 H) (Λ : Loops 𝓤 H) (fm : FmC 𝓤 H (W .laws) C)
       (known-view : Triple 𝓤 (C #view·view-of) (ViewOf 𝓤 H A mem run)) (known-serve : Triple 𝓤 (C #view·serve) (Serve 𝓤 H A mem run)) where
@@ -182,21 +181,14 @@ module _ {M : Type 1} (𝓤 : URA M) (H : Heap 𝓤) (A : Atoms 𝓤) (W : Given
       (λ κs qs bounds a g are. via 𝓤 _ (fst∗ 𝓤 _ (emp 𝓤)) (walk 𝓤 H A W mem run (κs .0) (qs .0) (a .0) (a .1 .0) (are .1 .0) C Λ fm
       known-view known-serve (are .0) (EL.lawful P.the-type P′.the-laws 𝓤 H A W tt .typed (a .1 .0) _ (are .1 .0) .0)))
 
-served-meets : {M : Type 1} (𝓤 : URA M) (H : Heap 𝓤) (A : Atoms 𝓤) (W : Given 𝓤 H A) (mem : Memory → SProp 𝓤) (run : Routine → Fun 𝓤) (𝓣 : Tables 𝓤 H)
-    → Triple 𝓤 (𝓣 .C #view·view-of) (ViewOf 𝓤 H A mem run) → Triple 𝓤 (𝓣 .C #view·serve) (Serve 𝓤 H A mem run)
-    → Meets 𝓤 H A served.signature (WpFn 𝓤 H (𝓣 .C) (𝓣 .Λ) code.function) (served.spec 𝓤 H A mem run)
-served-meets 𝓤 H A W mem run 𝓣 known-view known-serve =
-    walk-meets 𝓤 H A served.ended stayed W
-    (goes-none-slice 𝓤 H A W 1 (0 ∷ []) tt (plain (λ _. u8)) yes, (goes-none 𝓤 H A W 1 (λ _. P.the-row) yes (λ κs x f. refl), tt))
-    (served.clauses 𝓤 H A mem run) (WpFn 𝓤 H (𝓣 .C) (𝓣 .Λ) code.function) (WpFn-mono 𝓤 H (W .laws) 𝓣 code.function)
-    (served-walks 𝓤 H A W mem run (𝓣 .C) (𝓣 .Λ) (fmOf 𝓤 H (W .laws) 𝓣) known-view known-serve)
-
 pub served-spec : {M : Type 1} → stated.statement M
-unfolding code.routine tablesOf
+unfolding code.routine
 served-spec 𝓤 H 𝓜 𝓖 𝓡 =
-    entered 𝓤 H (tripleOf 𝓤 H (𝓖 .A) served.signature (served.spec 𝓤 H (𝓖 .A) (𝓜 .mem) (𝓡 .run)))
-    (tables 𝓤 H 𝓜 𝓡 code.env .C) (tables 𝓤 H 𝓜 𝓡 code.env .Λ) #view·served code.function (code.unfolded 𝓤 H 𝓜 𝓡)
-    (served-meets 𝓤 H (𝓖 .A) (givenOf 𝓤 H 𝓜 𝓖) (𝓜 .mem) (𝓡 .run) (tablesOf 𝓤 H 𝓜 (tables 𝓤 H 𝓜 𝓡 code.env))
+    let W = givenOf 𝓤 H 𝓜 𝓖 in
+    closes 𝓤 H 𝓜 𝓖 𝓡 code.env served.ended stayed
+    (goes-none-slice 𝓤 H (𝓖 .A) W 1 (0 ∷ []) tt (plain (λ _. u8)) yes, (goes-none 𝓤 H (𝓖 .A) W 1 (λ _. P.the-row) yes (λ κs x f. refl), tt))
+    (served.clauses 𝓤 H (𝓖 .A) (𝓜 .mem) (𝓡 .run)) #view·served code.function (code.unfolded 𝓤 H 𝓜 𝓡)
+    (λ fm. served-walks 𝓤 H (𝓖 .A) W (𝓜 .mem) (𝓡 .run) (tables 𝓤 H 𝓜 𝓡 code.env .C) (tables 𝓤 H 𝓜 𝓡 code.env .Λ) fm
     (cited 𝓤 H (ViewOf 𝓤 H (𝓖 .A) (𝓜 .mem) (𝓡 .run)) 𝓜 𝓡 code.env #view·view-of
     view-of-def.routine code.calls-view·view-of (view-of-thm.met 𝓤 H 𝓜 𝓖 𝓡))
     (cited 𝓤 H (Serve 𝓤 H (𝓖 .A) (𝓜 .mem) (𝓡 .run)) 𝓜 𝓡 code.env #view·serve

@@ -1,4 +1,6 @@
--- `walk_cases::changes` meets its contract. Assumes nothing.
+-- `walk_cases::changes` ensures nothing: what is left is that it ends and reads within both slices. The invariant: i is at most the new list's length;
+-- the old list is read only where i is below its own. The measure is the number of bytes left.
+-- Assumes nothing.
 use Prim.Native.Nat.{_≤_, _-_}
 use lib.ListN.{length}
 use borrow.Author.Needs.{needs}
@@ -11,6 +13,7 @@ Inv-loop old new i₀ i = i ≤ length new
 abbrev μ-loop : tie.MeasureT-loop
 μ-loop old new i₀ i = length new - i
 
+-- ---- the needs that the search closes
 loop-holds : tie.Need-loop-holds Inv-loop μ-loop
 loop-holds c = search needs
 

@@ -1,4 +1,6 @@
--- `walk_cases::every` meets its contract. Assumes nothing.
+-- `walk_cases::every` ensures nothing: what is left is that it ends and that the stop does not wrap. The invariant: the stop is at most 3,009, one
+-- behind the last lookup's. The measure is the number of stops left.
+-- Assumes nothing.
 use Prim.Native.Nat.{_≤_, _-_}
 use borrow.Author.Needs.{needs}
 use Rattle.walk_cases.proofs.every.Statement.{statement}
@@ -10,6 +12,7 @@ Inv-loop mem w₀ stop₀ w stop = stop ≤ 3009
 abbrev μ-loop : tie.MeasureT-loop
 μ-loop mem w₀ stop₀ w stop = 3009 - stop
 
+-- ---- the needs that the search closes
 loop-holds : tie.Need-loop-holds Inv-loop μ-loop
 loop-holds c = search needs
 

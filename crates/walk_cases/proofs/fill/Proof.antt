@@ -1,4 +1,6 @@
--- `walk_cases::fill` meets its contract. Assumes nothing.
+-- `walk_cases::fill` ensures nothing: what is left is that it ends, writes within the slice and gives it back as long as it was. The invariant: i is
+-- at most the length, which is kept. Each turn writes byte i, and the measure is the number of bytes left.
+-- Assumes nothing.
 use mathlib.Core.Path.{_≡_}
 use Prim.Native.Nat.{_≤_, _-_}
 use lib.ListN.{length}
@@ -12,6 +14,7 @@ Inv-loop set₀ x₀ i₀ set x i = (i ≤ length set₀) × (length set ≡ len
 abbrev μ-loop : tie.MeasureT-loop
 μ-loop set₀ x₀ i₀ set x i = length set₀ - i
 
+-- ---- the needs that the search closes
 loop-holds : tie.Need-loop-holds Inv-loop μ-loop
 loop-holds c = search needs
 

@@ -1,4 +1,6 @@
--- `walk_cases::run` meets its contract. Assumes nothing.
+-- `walk_cases::run` ensures nothing: what is left is that it ends and reads within the order's 8 bytes. The invariant: the array keeps them, and at most
+-- 10,000 orders are left, which are the measure. The number of six bytes is below 2^48, since each `three` is below 2^24.
+-- Assumes nothing.
 use mathlib.Core.Path.{_≡_}
 use lib.ListN.{length}
 use Prim.Native.Nat.{_≤_}
@@ -12,6 +14,7 @@ Inv-loop mem walk₀ h₀ left₀ walk h left = (left ≤ 10000) × (length h �
 abbrev μ-loop : tie.MeasureT-loop
 μ-loop mem walk₀ h₀ left₀ walk h left = left
 
+-- ---- the needs that the search closes
 loop-holds : tie.Need-loop-holds Inv-loop μ-loop
 loop-holds c = search needs
 

@@ -1,48 +1,81 @@
--- `walker::over_input` ends and reads within its memory. Assumes nothing.
-use mathlib.Core.Path.{_≡_}
+-- `walker::over_input` ends and reads within its memory. The loop's invariant, `Reading` of `laws.Sizes`: at most 3,008 lookups are made, and the
+-- memory has kept its length. A turn lends the front of the memory, of the size of the lookup's table, which fits (`table-fits`); it comes back
+-- as long as it was (`long-again`), and `read_full` ensures that no more was read. The measure is the number of lookups left.
+-- Assumes nothing.
+use mathlib.Core.List.{_++_}
+use mathlib.Core.Path.{_≡_, sym, _∙_}
 use Prim.Native.Nat.{_-_, _≤_}
-use lib.ListN.{length, length-take, length-drop, length-append}
-use Rattle.walker.proofs.laws.Sizes.{table-fits}
+use lib.ListN.{length, drop, length-take, length-append}
+use Rattle.walker.proofs.laws.Sizes.{table-fits, Reading, long-again}
 use borrow.Author.Needs.{needs}
 use native.Mathlib.Omega.{arith}
 use Rattle.walker.proofs.over_input.Statement.{statement}
 use Rattle.walker.proofs.over_input.Tie as tie
 
 abbrev Inv-loop : tie.InvT-loop
-Inv-loop table₀ w₀ k₀ table w k = (k ≤ 3008) × (length table ≡ 4096)
+Inv-loop table₀ w₀ k₀ table w k = Reading table k
 
 abbrev μ-loop : tie.MeasureT-loop
 μ-loop table₀ w₀ k₀ table w k = 3008 - k
 
+-- the table of the turn's lookup
+fits : (c : tie.After-place-of Inv-loop μ-loop) → c .place-of .result .size ≤ 4096
+fits c = table-fits _ _ (omega arith) (c .place-of .ensures)
+
+-- the memory behind the read, whose front has come back
+refilled : (c : tie.After-read-full Inv-loop μ-loop)
+    → let place : tie.After-place-of Inv-loop μ-loop = search in
+    let turn : tie.At-loop Inv-loop μ-loop = search in
+    length (c .read-full .last .1 .0 ++ drop (place .place-of .result .size) (turn .loop .table)) ≡ 4096
+refilled c =
+    let turn : tie.At-loop Inv-loop μ-loop = search in
+    long-again _ _ (c .read-full .last .1 .0) (fits (search)) (turn .loop .inv .long) (c .read-full .kept .1 .0)
+
+slice-relend-prefix-read-full : tie.Need-slice-relend-prefix-read-full Inv-loop μ-loop
+slice-relend-prefix-read-full c = omega (arith, fits (search))
+
+slice-aggregate-read-full : tie.Need-slice-aggregate-read-full Inv-loop μ-loop
+slice-aggregate-read-full c = simp length-take (omega (arith, fits (search)))
+
+slice-reshare-prefix-move-one : tie.Need-slice-reshare-prefix-move-one Inv-loop μ-loop
+slice-reshare-prefix-move-one c =
+    let read : tie.After-read-full Inv-loop μ-loop = search in
+    simp length-append (omega (arith, read .read-full .ensures))
+
+slice-aggregate-move-one : tie.Need-slice-aggregate-move-one Inv-loop μ-loop
+slice-aggregate-move-one c =
+    let read : tie.After-read-full Inv-loop μ-loop = search in
+    simp (length-take, length-append) (omega (arith, read .read-full .ensures))
+
+same-length : tie.Need-same-length Inv-loop μ-loop
+same-length c =
+    let entry : tie.Start Inv-loop μ-loop = search in
+    refilled (search) ∙ sym (entry .pre)
+
+loop-again : tie.Need-loop-again Inv-loop μ-loop
+loop-again c = record { within = omega arith; long = refilled (search) }
+
+same-length-2 : tie.Need-same-length-2 Inv-loop μ-loop
+same-length-2 c =
+    let turn : tie.At-loop Inv-loop μ-loop = search in
+    let entry : tie.Start Inv-loop μ-loop = search in
+    turn .loop .inv .long ∙ sym (entry .pre)
+
+-- ---- the needs that the search closes
 loop-holds : tie.Need-loop-holds Inv-loop μ-loop
-loop-holds c = (omega arith, c .before .pre)
+loop-holds c = search needs
 
 place-of-requires : tie.Need-place-of-requires Inv-loop μ-loop
 place-of-requires c κs = search needs
 
-slice-relend-prefix-read-full : tie.Need-slice-relend-prefix-read-full Inv-loop μ-loop
-slice-relend-prefix-read-full c = omega (arith, table-fits (c .before .before .loop .k) (c .place-of .result) (omega arith) (c .place-of .ensures))
-
-slice-aggregate-read-full : tie.Need-slice-aggregate-read-full Inv-loop μ-loop
-slice-aggregate-read-full c = simp length-take (omega (arith, table-fits (c .before .before .before .loop .k) (c .before .place-of .result) (omega arith) (c .before .place-of .ensures)))
-
 read-full-requires : tie.Need-read-full-requires Inv-loop μ-loop
 read-full-requires c κs = search needs
-
-slice-reshare-prefix-move-one : tie.Need-slice-reshare-prefix-move-one Inv-loop μ-loop
-slice-reshare-prefix-move-one c = simp (length-append, length-drop) (omega (arith, c .before .before .read-full .ensures, c .before .before .read-full .kept .1 .0, length-take (c .before .before .before .before .place-of .result .size) (c .before .before .before .before .before .before .loop .table), table-fits (c .before .before .before .before .before .before .loop .k) (c .before .before .before .before .place-of .result) (omega arith) (c .before .before .before .before .place-of .ensures)))
-
-slice-aggregate-move-one : tie.Need-slice-aggregate-move-one Inv-loop μ-loop
-slice-aggregate-move-one c = simp (length-take, length-append, length-drop) (omega (arith, c .before .before .before .read-full .ensures, c .before .before .before .read-full .kept .1 .0, length-take (c .before .before .before .before .before .place-of .result .size) (c .before .before .before .before .before .before .before .loop .table), table-fits (c .before .before .before .before .before .before .before .loop .k) (c .before .before .before .before .before .place-of .result) (omega arith) (c .before .before .before .before .before .place-of .ensures)))
 
 move-one-requires : tie.Need-move-one-requires Inv-loop μ-loop
 move-one-requires c κs = search needs
 
 enum-told : tie.Need-enum-told Inv-loop μ-loop
 enum-told c = search needs
-
-same-length : tie.Need-same-length Inv-loop μ-loop
-same-length c = simp (length-append, length-drop) (omega (arith, c .before .before .before .before .before .before .read-full .ensures, c .before .before .before .before .before .before .read-full .kept .1 .0, length-take (c .before .before .before .before .before .before .before .before .place-of .result .size) (c .before .before .before .before .before .before .before .before .before .before .loop .table), table-fits (c .before .before .before .before .before .before .before .before .before .before .loop .k) (c .before .before .before .before .before .before .before .before .place-of .result) (omega arith) (c .before .before .before .before .before .before .before .before .place-of .ensures)))
 
 returns : tie.Need-returns Inv-loop μ-loop
 returns c = search needs
@@ -52,12 +85,6 @@ add-k c = search needs
 
 loop-less : tie.Need-loop-less Inv-loop μ-loop
 loop-less c = search needs
-
-loop-again : tie.Need-loop-again Inv-loop μ-loop
-loop-again c = (omega arith, simp (length-append, length-drop) (omega (arith, c .before .before .before .before .before .before .before .read-full .kept .1 .0, length-take (c .before .before .before .before .before .before .before .before .before .place-of .result .size) (c .before .before .before .before .before .before .before .before .before .before .before .loop .table), table-fits (c .before .before .before .before .before .before .before .before .before .before .before .loop .k) (c .before .before .before .before .before .before .before .before .before .place-of .result) (omega arith) (c .before .before .before .before .before .before .before .before .before .place-of .ensures))))
-
-same-length-2 : tie.Need-same-length-2 Inv-loop μ-loop
-same-length-2 c = omega (arith, c .before .before .before .pre, c .before .loop .inv .1)
 
 returns-2 : tie.Need-returns-2 Inv-loop μ-loop
 returns-2 c = search needs

@@ -1,4 +1,6 @@
--- `walker::show` ends. Assumes nothing.
+-- `walker::show` ends and reads within the block: the loop's invariant is that at most 16 bytes are written, and the measure is the number of bytes
+-- left. All needs are closed by the search.
+-- Assumes nothing.
 use Prim.Native.Nat.{_-_, _≤_}
 use borrow.Author.Needs.{needs}
 use Rattle.walker.proofs.show.Statement.{statement}

@@ -3,7 +3,7 @@
 use mathlib.Core.Bool.{cond}
 use mathlib.Core.List.{List}
 use mathlib.Core.Path.{_≡_, sym, subst}
-use Prim.Native.Nat.{ℕ, _-_, _≤_, _<_}
+use Prim.Native.Nat.{ℕ, _≤_, _<_}
 use native.Mathlib.Decide.{decLt}
 use native.Mathlib.Omega.{arith}
 use borrow.Author.Tests.{lt-ltb, le-ltb}
@@ -22,7 +22,6 @@ use Rattle.bundle.specs.Format.{encodings, byteMatrices, columnMatrices, encodi
 use Rattle.bundle.specs.declared.answer.Judgement.the-variants.{Accepted}
 use Rattle.bundle.proofs.laws.Parts.{at-bytes}
 use Rattle.judgement.specs.Judge.{judge}
-use Rattle.judgement.specs.Judgements as judgements
 use Rattle.judgement.proofs.laws.Judgements.{accepted-sound}
 use Rattle.network.specs.Stages as stages
 use Rattle.network.proofs.laws.Ranges.{by-stage}

@@ -1,7 +1,6 @@
 -- Laws, not definitions: the calls' refusals and the plain count agree, and a list of calls over walks that are known at each count answers
 -- what is due.
 -- Assumes nothing.
-use mathlib.Core.Bool.{not}
 use mathlib.Core.List.{List, [], _∷_, map}
 use mathlib.Core.Logic.{⊎-elim, _⊎_, inl, inr}
 use mathlib.Core.Path.{_≡_, refl, sym, ap, ap₂, _∙_, subst}
@@ -12,8 +11,10 @@ use borrow.Author.Tests.{lt-ltb, le-ltb, eq-eqb, ne-eqb}
 use lib.ListN.{length, take, drop}
 use Rattle.network.specs.Lookups.{Walk}
 use Rattle.network.specs.Stages.{lookups, setBytes, tableSize, tableOffset}
-use Rattle.whitebox.specs.Calls.{Reply, accepted, refused, lowest, ifAccepted, judgeStop, judgeOne, judgeFetch, Call, toStop, oneLookup, fetch, step, advance, reply, handed, blockLeft, Served, serve, lastWalk}
-use Rattle.whitebox.specs.PlainCount.{Args, stopArgs, oneArgs, fetchArgs, argsOf, Counted, plain, plainCount, LentCall, Lent, blockFor, blockDue, dueServed, AlikeCall, Alike, Seen, seen}
+use Rattle.whitebox.specs.Calls.{Reply, accepted, refused, lowest, ifAccepted, judgeStop, judgeOne, judgeFetch}
+use Rattle.whitebox.specs.Calls.{Call, toStop, oneLookup, fetch, step, advance, reply, handed, blockLeft, Served, serve, lastWalk}
+use Rattle.whitebox.specs.PlainCount.{Args, stopArgs, oneArgs, fetchArgs, argsOf, Counted, plain, plainCount, LentCall, Lent}
+use Rattle.whitebox.specs.PlainCount.{blockFor, blockDue, dueServed, AlikeCall, Alike, Seen, seen}
 
 -- ---- each kind of call, by cases: accepted, or turned down for one cause by the call and by the plain count alike
 record Turned (J : Reply) (p : Counted) (n : ℕ) : Type 0 where
@@ -229,7 +230,8 @@ alike-args (fetch block) (toStop mem′ stop′) e = absurd e
 alike-args (fetch block) (oneLookup mem′) e = absurd e
 alike-args (fetch block) (fetch block′) e = ap (λ (b : List ℕ). fetchArgs (length b)) e
 
-module _ (nr : ℕ) (W W′ : ℕ → Walk) (answer answer′ : List ℕ) (counts : (n : ℕ) → W n .count ≡ n) (counts′ : (n : ℕ) → W′ n .count ≡ n) (same : answer ≡ answer′) where
+module _ (nr : ℕ) (W W′ : ℕ → Walk) (answer answer′ : List ℕ) (counts : (n : ℕ) → W n .count ≡ n) (counts′ : (n : ℕ) → W′ n .count ≡ n)
+    (same : answer ≡ answer′) where
   alike-block : (c c′ : Call) (n : ℕ) → AlikeCall c c′ → blockDue nr W answer c n ≡ blockDue nr W′ answer′ c′ n
   alike-block (toStop mem stop) (toStop mem′ stop′) n e = refl
   alike-block (toStop mem stop) (oneLookup mem′) n e = refl

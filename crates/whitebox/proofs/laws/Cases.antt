@@ -76,16 +76,20 @@ made key l p k h =
     ∙ by-stage 10 .table-is (λ n. plainEncoding) (layerOf (partsOf 4 key) plain 10) (λ s. refl) k h
 
 -- ---- XOR tables
-xor-byte : (m first x i v : ℕ) → i < 128 → pack (encode plainEncoding (bitXor (decode plainEncoding (2 * i / 16)) (decode plainEncoding (2 * i % 16)))) (encode plainEncoding (bitXor (decode plainEncoding ((2 * i + 1) / 16)) (decode plainEncoding ((2 * i + 1) % 16)))) ≡ v
+-- Entry k of such a table, and byte i of it, which has the entries 2i and 2i + 1.
+abbrev xorAt : ℕ → ℕ
+xorAt k = encode plainEncoding (bitXor (decode plainEncoding (k / 16)) (decode plainEncoding (k % 16)))
+
+xor-byte : (m first x i v : ℕ) → i < 128 → pack (xorAt (2 * i)) (xorAt (2 * i + 1)) ≡ v
     → at (xorTable (λ n. plainEncoding) m first x) i ≡ v
 unfolding xorTable xorEntry
 xor-byte m first x i v h e = at-packed 128 _ i h ∙ e
 
-first-entry : pack (encode plainEncoding (bitXor (decode plainEncoding 0) (decode plainEncoding 0))) (encode plainEncoding (bitXor (decode plainEncoding 0) (decode plainEncoding 1))) ≡ 0x01
+first-entry : pack (xorAt 0) (xorAt 1) ≡ 0x01
 unfolding plainEncoding tabulate decode
 first-entry = refl
 
-last-entry : pack (encode plainEncoding (bitXor (decode plainEncoding 15) (decode plainEncoding 14))) (encode plainEncoding (bitXor (decode plainEncoding 15) (decode plainEncoding 15))) ≡ 0x10
+last-entry : pack (xorAt 254) (xorAt 255) ≡ 0x10
 unfolding plainEncoding tabulate decode
 last-entry = refl
 
@@ -100,7 +104,8 @@ xor-table key l p k h x =
       ap (λ (u : List ℕ). at u 127) t ∙ xor-byte (L .width) (N .first) (indexOf 10 k - 16) 127 16 (lit< tt) last-entry,
     )
   where
-    behind : (L : Rattle.network.specs.Tables.Layer) (N : Numbers) (j : ℕ) → 16 ≤ j → tableIn (λ n. plainEncoding) L N j ≡ xorTable (λ n. plainEncoding) (L .width) (N .first) (j - 16)
+    behind : (L : Rattle.network.specs.Tables.Layer) (N : Numbers) (j : ℕ) → 16 ≤ j
+        → tableIn (λ n. plainEncoding) L N j ≡ xorTable (λ n. plainEncoding) (L .width) (N .first) (j - 16)
     behind L N j h = unfold tableIn in rw (le-ltb j 16 h)
 
 -- ---- table 496
@@ -174,7 +179,8 @@ entry-0 l p =
       byte 3 ∙ entry-byte 3 0xa5 (lit< tt) shown-3 N,
     )
   where
-    table-here : tableIn (λ n. plainEncoding) (layerOf (partsOf 4 zeroKey) plain 10 (stageOf 10 496)) (numbersOf 10 (stageOf 10 496)) (indexOf 10 496) ≡ spreadTable (λ n. plainEncoding) (layerOf (partsOf 4 zeroKey) plain 10 (First 1)) (numbersOf 10 (First 1)) 0
+    table-here : tableIn (λ n. plainEncoding) (layerOf (partsOf 4 zeroKey) plain 10 (stageOf 10 496)) (numbersOf 10 (stageOf 10 496)) (indexOf 10 496)
+        ≡ spreadTable (λ n. plainEncoding) (layerOf (partsOf 4 zeroKey) plain 10 (First 1)) (numbersOf 10 (First 1)) 0
     table-here = unfold stageOf indexOf tableIn in refl
 
     shown-0 : pack (encode plainEncoding (nibble word 0)) (encode plainEncoding (nibble word 1)) ≡ 0xc6

@@ -145,7 +145,8 @@ module _ (nk : ℕ) (key l : List ℕ) (given : Given nk key l) where
     begins : started x ≡ dueAt nk key l b 0
     unfolding started dueAt numbersAfter startNumbers lookupsIn walkDue walked
     begins =
-        ap (λ (r : Reply). ifAccepted r (record { count = 0; standing = x; area = zeroArea }) (record { count = 0; standing = replicate 16 0; area = zeroArea })) (presented .started)
+        let at : List ℕ → Walk = λ y. record { count = 0; standing = y; area = zeroArea } in
+        ap (λ (r : Reply). ifAccepted r (at x) (at (replicate 16 0))) (presented .started)
         ∙ from-any-layer (C .encoding) (sound .encodings) [] (layers P C nr) (layers-good P fine C nr) x block-x 0 (omega arith)
         ∙ ap (λ (y : List ℕ). closed (C .encoding) (layers P C nr) startNumbers y 0 0) (sym plain-x)
         ∙ closed-is-due P fine C sound nr b block-b (some nk) 0
@@ -186,7 +187,8 @@ module _ (nk : ℕ) (key l : List ℕ) (given : Given nk key l) where
     fetched lent room =
         let n = lookups nr in
         ap (λ (w : Walk). blockLeft shifted nr (fetch lent) (handed shifted nr (toStop (madeSet nk key l) n) w)) begins
-        ∙ ap (blockLeft shifted nr (fetch lent)) (straight shifted nr (madeTable nk key l) (madeSet nk key l) W A (counts b block-b) (steps b block-b) (ends b block-b) parts long n (le-refl n))
+        ∙ ap (blockLeft shifted nr (fetch lent))
+        (straight shifted nr (madeTable nk key l) (madeSet nk key l) W A (counts b block-b) (steps b block-b) (ends b block-b) parts long n (le-refl n))
         ∙ block-is shifted nr (madeTable nk key l) (madeSet nk key l) W A (counts b block-b) (steps b block-b) (ends b block-b) parts long (fetch lent) n
         ∙ rw (eq-eqb (length lent) 16 room, eq-eqb n n refl)
 
@@ -234,7 +236,8 @@ module _ (nk : ℕ) (key l : List ℕ) (given : Given nk key l) where
         record {
           standing = λ q c.
               subst (λ (d : Due). Reads (C .encoding) (nibble (W k .standing) q) d) (standing-due k q)
-              (subst (λ (w : Walk). Reads (C .encoding) (nibble (w .standing) q) (standingDue (valuesOf Ls plainBytes) (leftBy Ls plainBytes) startNumbers k q)) (same-walk k) (R .0 q c));
+              (subst (λ (w : Walk). Reads (C .encoding) (nibble (w .standing) q) (standingDue (valuesOf Ls plainBytes) (leftBy Ls plainBytes) startNumbers k q))
+              (same-walk k) (R .0 q c));
           area = λ q c.
               subst (λ (d : Due). Reads (C .encoding) (nibble (W k .area) q) d) (area-due k q)
               (subst (λ (w : Walk). Reads (C .encoding) (nibble (w .area) q) (areaDue (valuesOf Ls plainBytes) startNumbers k q)) (same-walk k) (R .1 q c));
@@ -249,7 +252,8 @@ demand3-for nk = record { calls = λ key l x g p cs lent. answered nk key l g x 
     two key l l′ x g g′ outer p cs cs′ alike lent lent′ =
         ap (map seen) (served nk key l g x p cs lent)
         ∙ alike-seen (roundsOf nk) (W nk key l g x p) (W nk key l′ g′ x p) (A nk key l g x p) (A nk key l′ g′ x p)
-        (counts nk key l g (b nk key l g x p) (block-b nk key l g x p)) (counts nk key l′ g′ (b nk key l′ g′ x p) (block-b nk key l′ g′ x p)) same-answer cs cs′ 0 alike
+        (counts nk key l g (b nk key l g x p) (block-b nk key l g x p)) (counts nk key l′ g′ (b nk key l′ g′ x p) (block-b nk key l′ g′ x p))
+        same-answer cs cs′ 0 alike
         ∙ sym (ap (map seen) (served nk key l′ g′ x p cs′ lent′))
       where
         nr′ : ℕ

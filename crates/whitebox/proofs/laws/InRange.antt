@@ -38,8 +38,8 @@ module _ (E : ℕ → List ℕ) (L L′ : Layer) (width : L .width ≡ L′ .wid
   entry-same : (N : Numbers) (p x h : ℕ) → p < 16 → spreadEntry E L N p x h ≡ spreadEntry E L′ N p x h
   unfolding spreadEntry
   entry-same N p x h b =
-      ap₂ (λ (m s : ℕ). encode (E (encodingNumber m (N .first) p 0 h)) (nibble (L .word p (pack (decode (E (N .standing (2 * s))) (x / 16)) (decode (E (N .standing (2 * s + 1))) (x % 16)))) h))
-      width (source p)
+      let read : ℕ → ℕ = λ s. pack (decode (E (N .standing (2 * s))) (x / 16)) (decode (E (N .standing (2 * s + 1))) (x % 16)) in
+      ap₂ (λ (m s : ℕ). encode (E (encodingNumber m (N .first) p 0 h)) (nibble (L .word p (read s)) h)) width (source p)
       ∙ ap (λ (l : List ℕ). encode (E (encodingNumber (L′ .width) (N .first) p 0 h)) (nibble l h)) (words p _ b)
 
   spread-same : (N : Numbers) (p : ℕ) → p < 16 → spreadTable E L N p ≡ spreadTable E L′ N p

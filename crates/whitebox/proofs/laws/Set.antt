@@ -70,7 +70,8 @@ module _ (P : Parts) (fine : Fine P) (C : Codings) (sound : Sound C) (nr : ℕ) 
       let t : List ℕ = tableAt E Ls startNumbers n in
       ap (λ (k : ℕ). lookupAt (shapes (P .reads) nr) k t (walkDue P C nr b n)) (due-count n)
       ∙ ap₂ (λ (Ss : List Shape) (w : Walk). lookupAt Ss n t w) (sym (shapes-are P C nr)) (sym (closed-is-due P fine C sound nr b block some n))
-      ∙ one-lookup E (sound .encodings) Ls (layers-good P fine C nr) startNumbers l (unfold multiply in bytesOf-bytes 16 _) 0 n (subst (λ (m : ℕ). n < m) (sym (lookups-are P C nr)) h)
+      ∙ one-lookup E (sound .encodings) Ls (layers-good P fine C nr) startNumbers l (unfold multiply in bytesOf-bytes 16 _) 0 n
+      (subst (λ (m : ℕ). n < m) (sym (lookups-are P C nr)) h)
       ∙ closed-is-due P fine C sound nr b block some (suc n)
 
   pub due-end : walkDue P C nr b (lookups nr) .standing ≡ encoded (C .encoding) (λ q. encodings nr - 32 + q) (ended P C nr b)
@@ -82,7 +83,8 @@ module _ (P : Parts) (fine : Fine P) (C : Codings) (sound : Sound C) (nr : ℕ) 
       (sym (closed-is-due P fine C sound nr b block some (lookups nr))
       ∙ ap (closed (C .encoding) Ls startNumbers l 0) (sym (lookups-are P C nr))
       ∙ closed-end (C .encoding) Ls startNumbers l 0)
-      ∙ ap (encoded (C .encoding) (numbersAfter (widthsOf Ls) startNumbers .standing)) (follows-left Ls (values P C nr b) l (ended P C nr b) (follows P fine C sound nr b block some) (layers-good P fine C nr))
+      ∙ ap (encoded (C .encoding) (numbersAfter (widthsOf Ls) startNumbers .standing))
+      (follows-left Ls (values P C nr b) l (ended P C nr b) (follows P fine C sound nr b block some) (layers-good P fine C nr))
       ∙ packed-ext 16 _ _ (λ q h.
       ap (λ (n : ℕ). encode (C .encoding n) (nibble (ended P C nr b) q))
       (ap (λ (ms : List ℕ). numbersAfter ms startNumbers .standing q) (widths-are P C nr) ∙ by-stage nr .output-numbers q h))

@@ -87,9 +87,11 @@ module _ (P : Parts) (fine : Fine P) (C : Codings) (sound : Sound C) (nr : ℕ) 
       (let z : k ≡ nr - 1 = omega arith in z)
       ∙ ap (placedWord P C p) (substituted-is P fine C sound nr (stateAfter P b (nr - 1)) (bytes-at (nr - 1)) p h)
 
-  from-round : (n k : ℕ) → suc k + n ≡ nr
-      → Follows (map (layerOf P C nr) (rounds (suc k) n ++ (Exit ∷ []))) (map (valuesAt P C nr b) (rounds (suc k) n ++ (Exit ∷ [])))
-      (underBytes C (suc k) (stateAfter P b k)) (ended P C nr b)
+  -- The values of n rounds from round k on, and of the exit, from the standing bytes l.
+  abbrev FromRound : ℕ → ℕ → List ℕ → Type 0
+  FromRound k n l = Follows (map (layerOf P C nr) (rounds k n ++ (Exit ∷ []))) (map (valuesAt P C nr b) (rounds k n ++ (Exit ∷ []))) l (ended P C nr b)
+
+  from-round : (n k : ℕ) → suc k + n ≡ nr → FromRound (suc k) n (underBytes C (suc k) (stateAfter P b k))
   unfolding rounds ended result
   from-round zero k e =
       let z : suc k ≡ nr = omega arith in (
@@ -104,7 +106,7 @@ module _ (P : Parts) (fine : Fine P) (C : Codings) (sound : Sound C) (nr : ℕ) 
     record { width = refl; standing = before k; words = first-words k },
     (
       record { width = refl; standing = half-way k; words = λ p h. ap (λ (l : List ℕ). secondWord P C (suc k) p (at l p)) (half-way k) },
-      subst (λ (l : List ℕ). Follows (map (layerOf P C nr) (rounds (suc (suc k)) n ++ (Exit ∷ []))) (map (valuesAt P C nr b) (rounds (suc (suc k)) n ++ (Exit ∷ []))) l (ended P C nr b))
+      subst (FromRound (suc (suc k)) n)
           (sym (second-next P fine C sound (suc k) (stateAfter P b (suc k)) (bytes-at (suc k))))
           (from-round n (suc k) (omega arith)),
     ),
@@ -118,7 +120,7 @@ module _ (P : Parts) (fine : Fine P) (C : Codings) (sound : Sound C) (nr : ℕ) 
   unfolding layers values stages
   follows h = (
     record { width = refl; standing = refl; words = λ p c. refl },
-    subst (λ (l : List ℕ). Follows (map (layerOf P C nr) (rounds 1 (nr - 1) ++ (Exit ∷ []))) (map (valuesAt P C nr b) (rounds 1 (nr - 1) ++ (Exit ∷ []))) l (ended P C nr b))
+    subst (FromRound 1 (nr - 1))
         (sym (entry-next P fine C sound nr b block ∙ start-is)) (from-round (nr - 1) 0 (omega arith)),
   )
 

@@ -4,7 +4,7 @@
 -- Assumes nothing.
 use mathlib.Core.List.{List}
 use mathlib.Core.Path.{_≡_, sym, ap, ap₂, _∙_}
-use Prim.Native.Nat.{ℕ, suc, _+_, _-_, _*_, _/_, _%_, _^_, _<_}
+use Prim.Native.Nat.{ℕ, suc, _+_, _*_, _/_, _%_, _^_, _<_}
 use native.Mathlib.Omega.{arith}
 use lib.Bits.{bitXor}
 use Rattle.bits.specs.Bytes.{Bytes, Block, number, byte, numberOf, bytesOf, placed}
@@ -42,6 +42,23 @@ under-byte n w j m b x y = ap (product 8 b) (byte-product n w j m x y) ∙ produ
 undone : (n : ℕ) (m : List ℕ) → GoodMatrix n m → (v : ℕ) → v < 2 ^ n → product n (inverseOf n m) (product n m v) ≡ v
 undone n m g v h = inverse-undoes n m (g .fits) (g .has) .left v h
 
+-- ---- the row and the column of byte 4c + t, which the sums write as c * 4 + t
+row-of : (c t : ℕ) → t < 4 → (4 * c + t) % 4 ≡ t
+row-of c t h = omega arith
+
+column-of : (c t : ℕ) → t < 4 → (4 * c + t) / 4 ≡ c
+column-of c t h = omega arith
+
+place-in : (c t : ℕ) → c * 4 + t ≡ 4 * c + t
+place-in c t = omega arith
+
+row-in : (c t : ℕ) → t < 4 → (c * 4 + t) % 4 ≡ t
+row-in c t h = omega arith
+
+column-in : (c t : ℕ) → t < 4 → (c * 4 + t) / 4 ≡ c
+column-in c t h = omega arith
+
+-- ---- the four kinds of layers
 module _ (P : Parts) (fine : Fine P) (C : Codings) (sound : Sound C) where
   under-at : (r : ℕ) (s : List ℕ) (j : ℕ) → j < 16 → at (underBytes C r s) j ≡ product 8 (byteMatrixAt C r j) (at s j)
   unfolding underBytes
@@ -83,7 +100,7 @@ module _ (P : Parts) (fine : Fine P) (C : Codings) (sound : Sound C) where
   unfolding mixed
   mixed-at s c t hc ht =
       at-tabulate 16 _ (4 * c + t) (omega arith)
-      ∙ ap₂ (λ (x y : ℕ). xorAll 4 (λ q. mul (P .coefficient x q) (at s (4 * y + q)))) (let e : (4 * c + t) % 4 ≡ t = omega arith in e) (let e : (4 * c + t) / 4 ≡ c = omega arith in e)
+      ∙ ap₂ (λ (x y : ℕ). xorAll 4 (λ q. mul (P .coefficient x q) (at s (4 * y + q)))) (row-of c t ht) (column-of c t ht)
 
   -- k is the state in front of the mixing.
   pub first-next : (r : ℕ) (l k : List ℕ) → summed (record { width = 4; standing = l; word = λ p. mixedWord P C r p (at k p) }) ≡ underColumns C r (mixed P k)
@@ -92,8 +109,9 @@ module _ (P : Parts) (fine : Fine P) (C : Codings) (sound : Sound C) where
       tabulate-ext 16 _ _ (λ q c.
       xorAll-same 4 _ (λ i. u q (number 4 (λ t. g q t i))) (λ i d.
       at-bytesOf 4 _ (q % 4) (omega arith)
-      ∙ ap (λ (x : ℕ). byte 4 (q % 4) (product 32 (columnMatrixAt C r x) (number 4 (λ t. mul (P .coefficient t ((q / 4 * 4 + i) % 4)) (at k (q / 4 * 4 + i)))))) (let e : (q / 4 * 4 + i) / 4 ≡ q / 4 = omega arith in e)
-      ∙ ap₂ (λ (x y : ℕ). u q (number 4 (λ t. mul (P .coefficient t x) (at k y)))) (let e : (q / 4 * 4 + i) % 4 ≡ i = omega arith in e) (let e : q / 4 * 4 + i ≡ 4 * (q / 4) + i = omega arith in e))
+      ∙ ap (λ (x : ℕ). byte 4 (q % 4) (product 32 (columnMatrixAt C r x) (number 4 (λ t. mul (P .coefficient t ((q / 4 * 4 + i) % 4)) (at k (q / 4 * 4 + i))))))
+      (column-in (q / 4) i d)
+      ∙ ap₂ (λ (x y : ℕ). u q (number 4 (λ t. mul (P .coefficient t x) (at k y)))) (row-in (q / 4) i d) (place-in (q / 4) i))
       ∙ sym (xorAll-linear (u q) (byte-product 4 32 (q % 4) (columnMatrixAt C r (q / 4))) 4 (λ i. number 4 (λ t. g q t i)))
       ∙ ap (u q)
       (sym (joined-xorAll 8 4 4 (g q) (λ t i h e. mul-lt (P .coefficient t i) (at k (4 * (q / 4) + i)) (fine .coefficient-lt t i)))
@@ -113,8 +131,8 @@ module _ (P : Parts) (fine : Fine P) (C : Codings) (sound : Sound C) where
       tabulate-ext 16 _ _ (λ q c.
       xorAll-same 4 _ (λ i. u (q / 4) (q % 4) (placed 4 i (byte 4 i (v (q / 4))))) (λ i d.
       at-tabulate 4 _ (q % 4) (omega arith)
-      ∙ ap₂ (λ (x y : ℕ). u x (q % 4) (placed 4 y (at (underColumns C r s) (q / 4 * 4 + i)))) (let e : (q / 4 * 4 + i) / 4 ≡ q / 4 = omega arith in e) (let e : (q / 4 * 4 + i) % 4 ≡ i = omega arith in e)
-      ∙ ap (λ (y : ℕ). u (q / 4) (q % 4) (placed 4 i (at (underColumns C r s) y))) (let e : q / 4 * 4 + i ≡ 4 * (q / 4) + i = omega arith in e)
+      ∙ ap₂ (λ (x y : ℕ). u x (q % 4) (placed 4 y (at (underColumns C r s) (q / 4 * 4 + i)))) (column-in (q / 4) i d) (row-in (q / 4) i d)
+      ∙ ap (λ (y : ℕ). u (q / 4) (q % 4) (placed 4 i (at (underColumns C r s) y))) (place-in (q / 4) i)
       ∙ ap (λ (y : ℕ). u (q / 4) (q % 4) (placed 4 i y)) (columns-at (q / 4) i (omega arith) d))
       ∙ sym (xorAll-linear (u (q / 4) (q % 4)) (under-byte 4 32 (q % 4) (inverseOf 32 (columnMatrixAt C r (q / 4))) (byteMatrixAt C (suc r) (4 * (q / 4) + q % 4))) 4 _)
       ∙ ap (u (q / 4) (q % 4)) (xor-of-placed 4 (v (q / 4)) (product-lt 32 (at (columnMatrixAt C r (q / 4))) (column (q / 4))))
@@ -133,7 +151,7 @@ module _ (P : Parts) (fine : Fine P) (C : Codings) (sound : Sound C) where
       columns-at c i hc hi =
           unfold underColumns in
           at-tabulate 16 _ (4 * c + i) (omega arith)
-          ∙ ap₂ (λ (x y : ℕ). byte 4 x (product 32 (columnMatrixAt C r y) (number 4 (λ t. at s (4 * y + t))))) (let e : (4 * c + i) % 4 ≡ i = omega arith in e) (let e : (4 * c + i) / 4 ≡ c = omega arith in e)
+          ∙ ap₂ (λ (x y : ℕ). byte 4 x (product 32 (columnMatrixAt C r y) (number 4 (λ t. at s (4 * y + t))))) (row-of c i hi) (column-of c i hi)
 
       u : ℕ → ℕ → ℕ → ℕ
       u c t x = product 8 (byteMatrixAt C (suc r) (4 * c + t)) (byte 4 t (product 32 (inverseOf 32 (columnMatrixAt C r c)) x))

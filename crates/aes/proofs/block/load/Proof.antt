@@ -1,5 +1,6 @@
--- `aes::block::load` meets its contract: byte after byte. Assumes nothing.
-use mathlib.Core.Path.{refl}
+-- `aes::block::load` meets its contract. The invariant, `Filled` of the crate bits: the first i bytes of the array are those of s. A turn copies one more
+-- (`filled-more`), and behind the last it is s (`copied`), since both have 16 bytes.
+-- Assumes nothing.
 use Prim.Native.Nat.{_-_}
 use Rattle.bits.specs.Lists.{at}
 use Rattle.bits.proofs.laws.Filled.{Filled, filled-none, filled-more, copied}
@@ -14,8 +15,15 @@ abbrev μ-loop : tie.MeasureT-loop
 μ-loop s t₀ i₀ t i = 16 - i
 
 loop-holds : tie.Need-loop-holds Inv-loop μ-loop
-loop-holds c = filled-none 16 _ _ refl
+loop-holds c = search filled-none
 
+loop-again : tie.Need-loop-again Inv-loop μ-loop
+loop-again c = search filled-more
+
+returns : tie.Need-returns Inv-loop μ-loop
+returns c = search copied
+
+-- ---- the needs that the search closes
 shared-slice-read-t : tie.Need-shared-slice-read-t Inv-loop μ-loop
 shared-slice-read-t c = omega arith
 
@@ -27,12 +35,6 @@ add-i c = omega arith
 
 loop-less : tie.Need-loop-less Inv-loop μ-loop
 loop-less c = omega arith
-
-loop-again : tie.Need-loop-again Inv-loop μ-loop
-loop-again c = filled-more (c .before .before .loop .inv) (omega arith) refl
-
-returns : tie.Need-returns Inv-loop μ-loop
-returns c = copied (c .before .loop .inv) (omega arith) (c .before .before .pre)
 
 pub load-spec : {M : Type 1} → statement M
 load-spec =

@@ -1,5 +1,6 @@
--- `aes::block::store` meets its contract: byte after byte. Assumes nothing.
-use mathlib.Core.Path.{refl}
+-- `aes::block::store` meets its contract. The invariant, `Filled` of the crate bits: the first i bytes of the slice are those of s. A turn copies one more
+-- (`filled-more`), and behind the last it is s (`copied`), since both have 16 bytes.
+-- Assumes nothing.
 use Prim.Native.Nat.{_-_}
 use Rattle.bits.specs.Lists.{at}
 use Rattle.bits.proofs.laws.Filled.{Filled, filled-none, filled-more, copied}
@@ -14,8 +15,15 @@ abbrev μ-loop : tie.MeasureT-loop
 μ-loop d₀ s i₀ d i = 16 - i
 
 loop-holds : tie.Need-loop-holds Inv-loop μ-loop
-loop-holds c = filled-none 16 _ _ (c .pre)
+loop-holds c = search filled-none
 
+loop-again : tie.Need-loop-again Inv-loop μ-loop
+loop-again c = search filled-more
+
+returns : tie.Need-returns Inv-loop μ-loop
+returns c = search copied
+
+-- ---- the needs that the search closes
 array-read-d : tie.Need-array-read-d Inv-loop μ-loop
 array-read-d c = omega arith
 
@@ -28,14 +36,8 @@ add-i c = omega arith
 loop-less : tie.Need-loop-less Inv-loop μ-loop
 loop-less c = omega arith
 
-loop-again : tie.Need-loop-again Inv-loop μ-loop
-loop-again c = filled-more (c .before .loop .inv) (omega arith) refl
-
 same-length : tie.Need-same-length Inv-loop μ-loop
 same-length c = omega arith
-
-returns : tie.Need-returns Inv-loop μ-loop
-returns c = copied (c .before .loop .inv) (omega arith) (omega arith)
 
 pub store-spec : {M : Type 1} → statement M
 store-spec =

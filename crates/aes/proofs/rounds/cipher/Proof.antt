@@ -1,25 +1,32 @@
--- `aes::rounds::cipher` meets its contract. The invariant: the state behind n rounds. Assumes nothing.
-use Rattle.aes.proofs.laws.Turns.{round-turn, round-end}
-use mathlib.Core.Path.{_≡_, refl}
-use Prim.Native.Nat.{_-_, _≤_}
-use Rattle.aes.specs.Cipher.{rounds}
+-- `aes::rounds::cipher` meets its contract. The invariant, `Rounded` of `laws.Turns`: t is the state behind n rounds. It holds behind round key 0
+-- (`rounded-none`), a turn makes round n + 1 (`rounded-more`), and behind nine the lines after the loop are the last round (`rounded-all`). The
+-- premises are what the calls ensure.
+-- Assumes nothing.
+use Prim.Native.Nat.{_-_}
+use Rattle.aes.proofs.laws.Turns.{Rounded, rounded-none, rounded-more, rounded-all}
 use native.Mathlib.Omega.{arith}
 use borrow.Author.Needs.{needs}
 use Rattle.aes.proofs.rounds.cipher.Statement.{statement}
 use Rattle.aes.proofs.rounds.cipher.Tie as tie
 
 abbrev Inv-loop : tie.InvT-loop
-Inv-loop w t₀ n₀ t n = (n ≤ 9) × (t ≡ rounds w n t₀)
+Inv-loop w t₀ n₀ t n = Rounded w t₀ t n
 
 abbrev μ-loop : tie.MeasureT-loop
 μ-loop w t₀ n₀ t n = 9 - n
 
+loop-holds : tie.Need-loop-holds Inv-loop μ-loop
+loop-holds c = search rounded-none
+
+loop-again : tie.Need-loop-again Inv-loop μ-loop
+loop-again c = search rounded-more
+
+returns : tie.Need-returns Inv-loop μ-loop
+returns c = search rounded-all
+
+-- ---- the needs that the search closes
 add-round-key-requires : tie.Need-add-round-key-requires Inv-loop μ-loop
 add-round-key-requires c κs = search needs
-
-loop-holds : tie.Need-loop-holds Inv-loop μ-loop
-unfolding rounds
-loop-holds c = (omega arith, refl)
 
 add-n : tie.Need-add-n Inv-loop μ-loop
 add-n c = omega arith
@@ -39,14 +46,6 @@ add-round-key-requires-2 c κs = search needs
 loop-less : tie.Need-loop-less Inv-loop μ-loop
 loop-less c = omega arith
 
-loop-again : tie.Need-loop-again Inv-loop μ-loop
-loop-again c =
-    let k = c .before .before .before in (
-      omega arith,
-      round-turn _ _ _ (k .before .before .loop .inv .1) (k .sub-bytes .ensures) (c .before .before .shift-rows .ensures)
-          (c .before .mix-columns .ensures) (c .add-round-key2 .ensures),
-    )
-
 sub-bytes-requires-2 : tie.Need-sub-bytes-requires-2 Inv-loop μ-loop
 sub-bytes-requires-2 c κs = search needs
 
@@ -55,12 +54,6 @@ shift-rows-requires-2 c κs = search needs
 
 add-round-key-requires-3 : tie.Need-add-round-key-requires-3 Inv-loop μ-loop
 add-round-key-requires-3 c κs = search needs
-
-returns : tie.Need-returns Inv-loop μ-loop
-returns c =
-    let k = c .before .before .before .before in
-    round-end _ _ _ (omega arith) (omega arith) (k .before .add-round-key .ensures) (k .loop .inv .1)
-    (c .before .before .sub-bytes2 .ensures) (c .before .shift-rows2 .ensures) (c .add-round-key3 .ensures)
 
 pub cipher-spec : {M : Type 1} → statement M
 cipher-spec =

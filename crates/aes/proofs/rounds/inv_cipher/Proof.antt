@@ -1,24 +1,31 @@
--- `aes::rounds::inv_cipher` meets its contract. The invariant: the n rounds left give the same as all of them. Assumes nothing.
-use Rattle.aes.proofs.laws.Turns.{inv-turn, inv-end}
-use mathlib.Core.Path.{_≡_, refl}
-use Prim.Native.Nat.{_≤_}
-use Rattle.aes.specs.Cipher.{invRounds}
+-- `aes::rounds::inv_cipher` meets its contract. The invariant, `InvRounded` of `laws.Turns`: the n rounds left of t give what all nine of the start
+-- do. It holds behind round key 10 (`inv-rounded-none`), a turn makes round n (`inv-rounded-more`), and with none left the lines after the loop are
+-- the last round (`inv-rounded-all`). The premises are what the calls ensure.
+-- Assumes nothing.
+use Rattle.aes.proofs.laws.Turns.{InvRounded, inv-rounded-none, inv-rounded-more, inv-rounded-all}
 use native.Mathlib.Omega.{arith}
 use borrow.Author.Needs.{needs}
 use Rattle.aes.proofs.rounds.inv_cipher.Statement.{statement}
 use Rattle.aes.proofs.rounds.inv_cipher.Tie as tie
 
 abbrev Inv-loop : tie.InvT-loop
-Inv-loop w t₀ n₀ t n = (n ≤ 9) × (invRounds w n t ≡ invRounds w 9 t₀)
+Inv-loop w t₀ n₀ t n = InvRounded w t₀ t n
 
 abbrev μ-loop : tie.MeasureT-loop
 μ-loop w t₀ n₀ t n = n
 
+loop-holds : tie.Need-loop-holds Inv-loop μ-loop
+loop-holds c = search inv-rounded-none
+
+loop-again : tie.Need-loop-again Inv-loop μ-loop
+loop-again c = search inv-rounded-more
+
+returns : tie.Need-returns Inv-loop μ-loop
+returns c = search inv-rounded-all
+
+-- ---- the needs that the search closes
 add-round-key-requires : tie.Need-add-round-key-requires Inv-loop μ-loop
 add-round-key-requires c κs = search needs
-
-loop-holds : tie.Need-loop-holds Inv-loop μ-loop
-loop-holds c = (omega arith, refl)
 
 inv-shift-rows-requires : tie.Need-inv-shift-rows-requires Inv-loop μ-loop
 inv-shift-rows-requires c κs = search needs
@@ -38,14 +45,6 @@ sub-n c = omega arith
 loop-less : tie.Need-loop-less Inv-loop μ-loop
 loop-less c = omega arith
 
-loop-again : tie.Need-loop-again Inv-loop μ-loop
-loop-again c =
-    let k = c .before .before .before in (
-      omega arith,
-      inv-turn _ _ _ _ (omega arith) (k .before .before .loop .inv .1) (k .inv-shift-rows .ensures)
-          (c .before .before .inv-sub-bytes .ensures) (c .before .add-round-key2 .ensures) (c .inv-mix-columns .ensures),
-    )
-
 inv-shift-rows-requires-2 : tie.Need-inv-shift-rows-requires-2 Inv-loop μ-loop
 inv-shift-rows-requires-2 c κs = search needs
 
@@ -54,12 +53,6 @@ inv-sub-bytes-requires-2 c κs = search needs
 
 add-round-key-requires-3 : tie.Need-add-round-key-requires-3 Inv-loop μ-loop
 add-round-key-requires-3 c κs = search needs
-
-returns : tie.Need-returns Inv-loop μ-loop
-returns c =
-    let k = c .before .before .before .before in
-    inv-end _ _ _ _ (omega arith) (k .before .add-round-key .ensures) (k .loop .inv .1)
-    (c .before .before .inv-shift-rows2 .ensures) (c .before .inv-sub-bytes2 .ensures) (c .add-round-key3 .ensures)
 
 pub inv-cipher-spec : {M : Type 1} → statement M
 inv-cipher-spec =

@@ -1,20 +1,20 @@
--- `bits::vector::parity` meets its contract. Assumes nothing.
-use lib.Bits.{bitAnd, bitXor, and-lt, xor-lt}
-use lib.Count.{ones-le}
+-- `bits::vector::parity` meets its contract. The ones that two vectors share are those of the high words' `and` and of the low words'; the
+-- parity of both together is that of their xor (`dot-wide` of `laws.Words`). A word has at most 64 ones (`ones-both`), so the count fits.
+-- Assumes nothing.
 use native.Mathlib.Omega.{arith}
-use Rattle.bits.proofs.laws.Words.{dot-wide}
+use Rattle.bits.proofs.laws.Words.{dot-wide, ones-both}
 use Rattle.bits.proofs.vector.parity.Statement.{statement}
 use Rattle.bits.proofs.vector.parity.Tie as tie
 
 cast-result : tie.Need-cast-result
 cast-result c =
-    let A = c .before .before .before .before .args in
-    omega (arith, ones-le 64 (bitXor (bitAnd (A .a .hi) (A .b .hi)) (bitAnd (A .a .lo) (A .b .lo))) (xor-lt 64 _ _ (and-lt 64 (A .a .hi) (A .b .hi) (omega arith) (omega arith)) (and-lt 64 (A .a .lo) (A .b .lo) (omega arith) (omega arith))))
+    let entry : tie.Start = search in
+    let a = entry .args .a in
+    let b = entry .args .b in
+    omega (arith, ones-both (a .hi) (a .lo) (b .hi) (b .lo) (omega arith) (omega arith) (omega arith) (omega arith))
 
 returns : tie.Need-returns
-returns c =
-    let A = c .before .before .before .before .args in
-    dot-wide (A .a .hi) (A .a .lo) (A .b .hi) (A .b .lo) (omega arith) (omega arith)
+returns c = dot-wide _ _ _ _ (omega arith) (omega arith)
 
 pub parity-spec : {M : Type 1} → statement M
 parity-spec = tie.close (tie.spec cast-result returns)

@@ -1,4 +1,7 @@
--- `bits::vector::push_bit` meets its contract. Assumes nothing.
+-- `bits::vector::push_bit` meets its contract. The low word's top digit goes to the bottom of the high word, both words move up by one digit,
+-- and the sum of it all is `value` written out. By the `requires` the high word is below 2^63 (`high-lt` of `laws.Words`), so there is room
+-- above it.
+-- Assumes nothing.
 use native.Mathlib.Omega.{arith}
 use Rattle.bits.specs.Words.{wide}
 use Rattle.bits.proofs.laws.Words.{high-lt}
@@ -7,20 +10,25 @@ use Rattle.bits.proofs.vector.push_bit.Statement.{statement}
 use Rattle.bits.proofs.vector.push_bit.Tie as tie
 
 mul-t5 : tie.Need-mul-t5
-mul-t5 c = omega (arith, high-lt 63 (c .before .before .before .args .v .hi) (c .before .before .before .args .v .lo) (c .before .before .before .pre .0) (omega arith))
+mul-t5 c =
+    let entry : tie.Start = search in
+    omega (arith, high-lt 63 _ _ (entry .pre .0) (omega arith))
 
 add-t6 : tie.Need-add-t6
-add-t6 c = omega (arith, high-lt 63 (c .before .before .before .args .v .hi) (c .before .before .before .args .v .lo) (c .before .before .before .pre .0) (omega arith))
+add-t6 c =
+    let entry : tie.Start = search in
+    omega (arith, high-lt 63 _ _ (entry .pre .0) (omega arith))
 
+returns : tie.Need-returns
+unfolding wide
+returns c = omega arith
+
+-- ---- the needs that the search closes
 mul-t7 : tie.Need-mul-t7
 mul-t7 c = search needs
 
 add-t8 : tie.Need-add-t8
 add-t8 c = search needs
-
-returns : tie.Need-returns
-unfolding wide
-returns c = omega arith
 
 pub push-bit-spec : {M : Type 1} → statement M
 push-bit-spec = tie.close (tie.spec mul-t5 add-t6 mul-t7 add-t8 returns)

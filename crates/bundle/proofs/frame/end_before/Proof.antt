@@ -1,14 +1,22 @@
--- `bundle::frame::end_before` meets its contract. Assumes nothing.
-use mathlib.Core.Path.{ap₂, _∙_}
-use Prim.Native.Nat.{_+_}
+-- `bundle::frame::end_before` meets its contract. The first section has to start behind the pairs, which end at byte 40 (`before-first` of
+-- `laws.Code`); each other behind the end of the one before it, which is offset and length of its pair added up (`before-next`). No sum wraps:
+-- numbers of four bytes are below 2^32.
+-- Assumes nothing.
 use Rattle.bundle.proofs.laws.Code.{before-first, before-next}
 use borrow.Author.Needs.{needs}
 use Rattle.bundle.proofs.frame.end_before.Statement.{statement}
 use Rattle.bundle.proofs.frame.end_before.Tie as tie
 
 returns : tie.Need-returns
-returns c = before-first _ _ (c .if1 .taken)
+returns c = before-first _ _ (search)
 
+returns-2 : tie.Need-returns-2
+returns-2 c =
+    let length : tie.After-number-at2 = search in
+    let offset : tie.After-number-at = search in
+    before-next _ _ (search) (offset .number-at .ensures .0) (length .number-at2 .ensures .0)
+
+-- ---- the needs that the search closes
 sub-at : tie.Need-sub-at
 sub-at c = search needs
 
@@ -26,9 +34,6 @@ number-at-requires-2 c κs = search needs
 
 add-result : tie.Need-add-result
 add-result c = search needs
-
-returns-2 : tie.Need-returns-2
-returns-2 c = ap₂ _+_ (c .before .number-at .ensures .0) (c .number-at2 .ensures .0) ∙ before-next _ _ (c .before .before .if1 .left)
 
 pub end-before-spec : {M : Type 1} → statement M
 end-before-spec =

@@ -1,39 +1,41 @@
--- `bundle::frame::first_bad_pair` meets its contract. Assumes nothing.
-use mathlib.Core.Path.{_≡_, sym, _∙_}
-use Prim.Native.Nat.{_≤_, _-_}
+-- `bundle::frame::first_bad_pair` meets its contract. The loop's invariant, `Searched` of `laws.Search`: none of the first i pairs is bad, and
+-- the search from i on has the answer of the search of all five. A bad pair is the first (`searched-here`), a good one is passed
+-- (`searched-next`), and behind the fifth there is none (`searched-all`). The measure is the number of pairs left.
+-- Assumes nothing.
+use Prim.Native.Nat.{_-_}
 use Rattle.bundle.specs.Format.{pairBad}
-use Rattle.bundle.specs.Search.{first, firstFrom}
-use Rattle.bundle.proofs.laws.Search.{first-no, first-yes, first-end, first-start}
+use Rattle.bundle.proofs.laws.Search.{Searched, searched-none, searched-here, searched-next, searched-all}
 use native.Mathlib.Omega.{arith}
 use Rattle.bundle.proofs.frame.first_bad_pair.Statement.{statement}
 use Rattle.bundle.proofs.frame.first_bad_pair.Tie as tie
 
 abbrev Inv-loop : tie.InvT-loop
-Inv-loop bundle i₀ i = (i ≤ 5) × (first 5 (pairBad 10 bundle) ≡ firstFrom (5 - i) i (pairBad 10 bundle))
+Inv-loop bundle i₀ i = Searched 5 (pairBad 10 bundle) i
 
 abbrev μ-loop : tie.MeasureT-loop
 μ-loop bundle i₀ i = 5 - i
 
 loop-holds : tie.Need-loop-holds Inv-loop μ-loop
-loop-holds c = (omega arith, first-start 5 _)
-
-pair-bad-requires : tie.Need-pair-bad-requires Inv-loop μ-loop
-pair-bad-requires c κs = omega arith
+loop-holds c = search searched-none
 
 returns : tie.Need-returns Inv-loop μ-loop
-returns c = sym (c .before .before .before .loop .inv .1 ∙ first-yes 5 _ _ (c .before .before .loop-test .taken) (sym (c .before .pair-bad .ensures) ∙ c .if1 .taken))
+returns c = search searched-here
+
+loop-again : tie.Need-loop-again Inv-loop μ-loop
+loop-again c = search searched-next
+
+returns-2 : tie.Need-returns-2 Inv-loop μ-loop
+returns-2 c = search searched-all
+
+-- ---- the needs that the search closes
+pair-bad-requires : tie.Need-pair-bad-requires Inv-loop μ-loop
+pair-bad-requires c κs = omega arith
 
 add-i : tie.Need-add-i Inv-loop μ-loop
 add-i c = omega arith
 
 loop-less : tie.Need-loop-less Inv-loop μ-loop
 loop-less c = omega arith
-
-loop-again : tie.Need-loop-again Inv-loop μ-loop
-loop-again c = (omega arith, c .before .before .before .loop .inv .1 ∙ first-no 5 _ _ (c .before .before .loop-test .taken) (sym (c .before .pair-bad .ensures) ∙ c .if1 .left))
-
-returns-2 : tie.Need-returns-2 Inv-loop μ-loop
-returns-2 c = sym (c .before .loop .inv .1 ∙ first-end 5 _ _ (c .loop-test .left))
 
 pub first-bad-pair-spec : {M : Type 1} → statement M
 first-bad-pair-spec =

@@ -1,19 +1,29 @@
--- `bundle::frame::judge_frame` meets its contract. Assumes nothing.
-use mathlib.Core.Path.{sym, _∙_}
-use Rattle.bundle.specs.declared.answer.Found.the-variants.{At, Nothing}
-use Rattle.bundle.proofs.laws.Code.{frame-short, frame-long, frame-pairs}
-use Rattle.bundle.proofs.laws.Frame.{sizes}
-use native.Mathlib.Omega.{arith}
+-- `bundle::frame::judge_frame` meets its contract. Each way out has a law of `laws.Code`, whose premises are the tests on the way and what the
+-- search for a bad pair ensures: the bundle is too short (`frame-short`) or too long (`frame-long`); a pair is bad (`frame-pair`); or neither
+-- cause applies (`frame-right`). The search may read the pairs: a bundle that is not too short has them.
+-- Assumes nothing.
+use Rattle.bundle.proofs.laws.Code.{frame-short, frame-long, frame-pair, frame-right}
 use borrow.Author.Needs.{needs}
 use Rattle.bundle.proofs.frame.judge_frame.Statement.{statement}
 use Rattle.bundle.proofs.frame.judge_frame.Tie as tie
 
 returns : tie.Need-returns
-returns c = frame-short 10 _ (omega (arith, sizes .low, c .if1 .taken))
+returns c = frame-short _ (search)
 
 returns-2 : tie.Need-returns-2
-returns-2 c = frame-long 10 _ (omega (arith, sizes .low, c .before .if1 .left)) (omega (arith, sizes .high, c .if2 .taken))
+returns-2 c = frame-long _ (search) (search)
 
+returns-3 : tie.Need-returns-3
+returns-3 c =
+    let pair : tie.After-i = search in
+    frame-pair _ (search) (search) (search) (pair .i .given .1)
+
+returns-4 : tie.Need-returns-4
+returns-4 c =
+    let none : tie.After-enum-told = search in
+    frame-right _ (search) (search) (search) (none .enum-told .given .1)
+
+-- ---- the needs that the search closes
 first-bad-pair-requires : tie.Need-first-bad-pair-requires
 first-bad-pair-requires c κs = search needs
 
@@ -22,12 +32,6 @@ enum-known-i c = search needs
 
 enum-told : tie.Need-enum-told
 enum-told c = search needs
-
-returns-3 : tie.Need-returns-3
-returns-3 c = frame-pairs 10 _ (omega (arith, sizes .low, c .before .before .before .before .before .if1 .left)) (omega (arith, sizes .high, c .before .before .before .before .if2 .left)) (At _) (sym (c .before .before .before .first-bad-pair .ensures) ∙ c .before .i .given .1)
-
-returns-4 : tie.Need-returns-4
-returns-4 c = frame-pairs 10 _ (omega (arith, sizes .low, c .before .before .before .before .if1 .left)) (omega (arith, sizes .high, c .before .before .before .if2 .left)) Nothing (sym (c .before .before .first-bad-pair .ensures) ∙ c .enum-told .given .1)
 
 pub judge-frame-spec : {M : Type 1} → statement M
 judge-frame-spec =

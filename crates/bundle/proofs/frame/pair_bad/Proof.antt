@@ -1,10 +1,34 @@
--- `bundle::frame::pair_bad` meets its contract. Assumes nothing.
-use mathlib.Core.Path.{sym, _∙_}
+-- `bundle::frame::pair_bad` meets its contract. The code reads the pair's offset and length, its section's length and what the section has to
+-- start behind; then each test has its way out, and a law of `laws.Code`, whose premises are what the calls ensure and the tests on the way: another
+-- length (`pair-length`), a start too early (`pair-order`), an end behind the bundle (`pair-end`), or none of the three (`pair-right`).
+-- No sum wraps: numbers of four bytes are below 2^32.
+-- Assumes nothing.
 use Rattle.bundle.proofs.laws.Code.{pair-length, pair-order, pair-end, pair-right}
 use borrow.Author.Needs.{needs}
 use Rattle.bundle.proofs.frame.pair_bad.Statement.{statement}
 use Rattle.bundle.proofs.frame.pair_bad.Tie as tie
 
+returns : tie.Need-returns
+returns c = pair-length 10 _ _ (search) (search) (c .if1 .taken)
+
+returns-2 : tie.Need-returns-2
+returns-2 c =
+    let long : tie.Else1 = search in
+    pair-order 10 _ _ (search) (search) (long .if1 .left) (search) (search) (c .if2 .taken)
+
+returns-3 : tie.Need-returns-3
+returns-3 c =
+    let behind : tie.Else2 = search in
+    let long : tie.Else1 = search in
+    pair-end 10 _ _ (search) (search) (long .if1 .left) (search) (search) (behind .if2 .left) (c .if3 .taken)
+
+returns-4 : tie.Need-returns-4
+returns-4 c =
+    let behind : tie.Else2 = search in
+    let long : tie.Else1 = search in
+    pair-right 10 _ _ (search) (search) (long .if1 .left) (search) (search) (behind .if2 .left) (c .if3 .left)
+
+-- ---- the needs that the search closes
 mul-at : tie.Need-mul-at
 mul-at c = search needs
 
@@ -23,20 +47,8 @@ section-length-requires c κs = search needs
 end-before-requires : tie.Need-end-before-requires
 end-before-requires c κs = search needs
 
-returns : tie.Need-returns
-returns c = pair-length 10 _ _ (λ e. c .if1 .taken (c .before .before .before .number-at2 .ensures .0 ∙ e ∙ sym (c .before .before .section-length .ensures .0)))
-
-returns-2 : tie.Need-returns-2
-returns-2 c = pair-order 10 _ _ (sym (c .before .before .before .before .number-at2 .ensures .0) ∙ c .before .if1 .left ∙ c .before .before .before .section-length .ensures .0) (rw (← c .before .before .before .before .before .number-at .ensures .0, ← c .before .before .end-before .ensures) (c .if2 .taken))
-
 add-if3 : tie.Need-add-if3
 add-if3 c = search needs
-
-returns-3 : tie.Need-returns-3
-returns-3 c = pair-end 10 _ _ (sym (c .before .before .before .before .before .number-at2 .ensures .0) ∙ c .before .before .if1 .left ∙ c .before .before .before .before .section-length .ensures .0) (rw (← c .before .before .before .before .before .before .number-at .ensures .0, ← c .before .before .before .end-before .ensures) (c .before .if2 .left)) (rw (← c .before .before .before .before .before .before .number-at .ensures .0, ← c .before .before .before .before .before .number-at2 .ensures .0) (c .if3 .taken))
-
-returns-4 : tie.Need-returns-4
-returns-4 c = pair-right 10 _ _ (sym (c .before .before .before .before .before .number-at2 .ensures .0) ∙ c .before .before .if1 .left ∙ c .before .before .before .before .section-length .ensures .0) (rw (← c .before .before .before .before .before .before .number-at .ensures .0, ← c .before .before .before .end-before .ensures) (c .before .if2 .left)) (rw (← c .before .before .before .before .before .before .number-at .ensures .0, ← c .before .before .before .before .before .number-at2 .ensures .0) (c .if3 .left))
 
 pub pair-bad-spec : {M : Type 1} → statement M
 pair-bad-spec =

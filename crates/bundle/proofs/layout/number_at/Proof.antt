@@ -1,17 +1,19 @@
--- `bundle::layout::number_at` meets its contract. Assumes nothing.
+-- `bundle::layout::number_at` meets its contract. `read` gives the four bytes as a number of two words; four bytes are below 2^32, so the number
+-- is its low word (`low-word` of `laws.Code`).
+-- Assumes nothing.
 use Rattle.bundle.proofs.laws.Code.{low-word}
 use borrow.Author.Needs.{needs}
 use Rattle.bundle.proofs.layout.number_at.Statement.{statement}
 use Rattle.bundle.proofs.layout.number_at.Tie as tie
 
-read-requires : tie.Need-read-requires
-read-requires c κs = search needs
-
 returns : tie.Need-returns
 returns c =
-    let A = c .before .before .args in
-    let v = c .read .result in
-    low-word (A .bundle .now) (A .a) (v .hi) (v .lo) (λ i. c .before .shared-slice-known .given i .fits) (c .read .ensures)
+    let bytes : tie.After-shared-slice-known = search in
+    low-word _ _ _ _ (λ i. bytes .shared-slice-known .given i .fits) (c .read .ensures)
+
+-- ---- the needs that the search closes
+read-requires : tie.Need-read-requires
+read-requires c κs = search needs
 
 pub number-at-spec : {M : Type 1} → statement M
 number-at-spec = tie.close (tie.spec read-requires returns)

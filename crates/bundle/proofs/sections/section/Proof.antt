@@ -1,12 +1,40 @@
--- `bundle::sections::section` meets its contract. Assumes nothing.
-use mathlib.Core.Path.{sym, _∙_}
-use Rattle.bundle.proofs.laws.Code.{section-cut, section-end}
-use Rattle.bundle.proofs.laws.Frame.{sizes, framed, section-none}
+-- `bundle::sections::section` meets its contract. In a bundle that the frame's judgement accepts, the pairs are there to be read
+-- (`pairs-there` of `laws.Code`), section s ends within the bundle (`section-end`), and the part from the pair's offset on is the section
+-- (`section-cut`). In one that it refuses, the section is empty (`section-empty`). No sum wraps: an offset is below 2^32.
+-- Assumes nothing.
+use Rattle.bundle.proofs.laws.Code.{pairs-there, section-cut, section-end, section-empty}
 use native.Mathlib.Omega.{arith}
 use borrow.Author.Needs.{needs}
 use Rattle.bundle.proofs.sections.section.Statement.{statement}
 use Rattle.bundle.proofs.sections.section.Tie as tie
 
+number-at-requires : tie.Need-number-at-requires
+number-at-requires c κs =
+    let accepted : tie.After-enum-told = search in
+    let judged : tie.After-judge-frame = search in
+    omega (arith, pairs-there _ (judged .judge-frame .ensures) (accepted .enum-told .given .1))
+
+part-result-end : tie.Need-part-result-end
+part-result-end c =
+    let long : tie.After-section-length = search in
+    let offset : tie.After-number-at = search in
+    let accepted : tie.After-enum-told = search in
+    section-end 10 _ _ (search) (accepted .enum-told .given .1) (offset .number-at .ensures .0)
+    (long .section-length .ensures .0) (search)
+
+returns : tie.Need-returns
+returns c =
+    let long : tie.After-section-length = search in
+    let offset : tie.After-number-at = search in
+    let accepted : tie.After-enum-told = search in
+    section-cut 10 _ _ (search) (accepted .enum-told .given .1) (offset .number-at .ensures .0) (long .section-length .ensures .0)
+
+returns-2 : tie.Need-returns-2
+returns-2 c =
+    let refused : tie.After-enum-told2 = search in
+    section-empty 10 _ _ (search) (refused .enum-told2 .given .1)
+
+-- ---- the needs that the search closes
 judge-frame-requires : tie.Need-judge-frame-requires
 judge-frame-requires c κs = search needs
 
@@ -15,9 +43,6 @@ enum-told c = search needs
 
 mul-at : tie.Need-mul-at
 mul-at c = search needs
-
-number-at-requires : tie.Need-number-at-requires
-number-at-requires c κs = omega (arith, sizes .low, framed 10 _ (sym (c .before .before .judge-frame .ensures) ∙ c .enum-told .given .1) .range .low)
 
 section-length-requires : tie.Need-section-length-requires
 section-length-requires c κs = search needs
@@ -31,11 +56,6 @@ sub-result c = search needs
 part-result-start : tie.Need-part-result-start
 part-result-start c = search needs
 
-part-result-end : tie.Need-part-result-end
-part-result-end c =
-    let E = sym (c .before .before .before .before .judge-frame .ensures) ∙ c .before .before .enum-told .given .1 in
-    section-end 10 _ E _ _ _ (c .before .before .before .before .before .before .pre) (c .before .number-at .ensures .0) (c .section-length .ensures .0)
-
 enum-told-2 : tie.Need-enum-told-2
 enum-told-2 c = search needs
 
@@ -47,14 +67,6 @@ part-result-start-2 c = search needs
 
 part-result-end-2 : tie.Need-part-result-end-2
 part-result-end-2 c = search needs
-
-returns : tie.Need-returns
-returns c =
-    let E = sym (c .before .before .before .before .before .judge-frame .ensures) ∙ c .before .before .before .enum-told .given .1 in
-    section-cut 10 _ E _ _ _ (c .before .before .number-at .ensures .0) (c .before .section-length .ensures .0)
-
-returns-2 : tie.Need-returns-2
-returns-2 c = sym (section-none 10 _ _ (sym (c .before .before .before .judge-frame .ensures) ∙ c .before .enum-told2 .given .1) _)
 
 pub section-spec : {M : Type 1} → statement M
 section-spec =

@@ -1,23 +1,56 @@
--- `entries::lists::decoded_bytes` meets its contract. Assumes nothing.
-use mathlib.Core.List.{List}
-use mathlib.Core.Path.{ap, ap₂, _∙_}
-use Prim.Native.Nat.{ℕ, _-_, _/_, _%_}
-use Rattle.bits.specs.Encodings.{imagesOf, decode}
-use Rattle.bits.specs.Lists.{tabulate}
+-- `entries::lists::decoded_bytes` has the lists made that undo the two encodings, then fills dst from the front, place x with the byte x
+-- decoded (`Filled` of bits). A turn's byte is what `decoded` makes of the two lists, by `byte-decoded` of `laws.Entries`; the lists have
+-- nibbles only, as the encodings are permutations (`places-lt`).
+-- Assumes nothing.
+use Prim.Native.Nat.{_-_, _/_, _%_}
+use Rattle.bits.specs.Encodings.{decode}
 use Rattle.bits.specs.Nibbles.{pack}
 use Rattle.bits.proofs.laws.Filled.{Filled, filled-none, filled-more, filled-all}
 use Rattle.entries.specs.Encodings.{encodingIn}
-use Rattle.entries.proofs.laws.Entries.{place-at, place-below}
+use Rattle.entries.proofs.laws.Entries.{places-lt, byte-decoded}
 use native.Mathlib.Omega.{arith}
 use Rattle.entries.proofs.lists.decoded_bytes.Statement.{statement}
 use Rattle.entries.proofs.lists.decoded_bytes.Tie as tie
 
 abbrev Inv-loop : tie.InvT-loop
-Inv-loop section high low dst₀ a b x₀ dst x = Filled 256 (λ x. pack (decode (encodingIn section high) (x / 16)) (decode (encodingIn section low) (x % 16))) dst x
+Inv-loop section high low dst₀ a b x₀ dst x =
+    Filled 256 (λ k. pack (decode (encodingIn section high) (k / 16)) (decode (encodingIn section low) (k % 16))) dst x
 
 abbrev μ-loop : tie.MeasureT-loop
 μ-loop section high low dst₀ a b x₀ dst x = 256 - x
 
+loop-holds : tie.Need-loop-holds Inv-loop μ-loop
+loop-holds c = filled-none 256 _ _ (search)
+
+decoded-requires : tie.Need-decoded-requires Inv-loop μ-loop
+decoded-requires c κs =
+    let b : tie.After-places2 Inv-loop μ-loop = search in
+    let b-part : tie.After-part2 Inv-loop μ-loop = search in
+    let a : tie.After-places Inv-loop μ-loop = search in
+    let a-part : tie.After-part Inv-loop μ-loop = search in
+    let entry : tie.Start Inv-loop μ-loop = search in (
+      omega arith,
+      omega arith,
+      omega arith,
+      places-lt _ _ _ _ (entry .pre .2) (a-part .part .ensures) (a .places .ensures),
+      places-lt _ _ _ _ (entry .pre .3) (b-part .part2 .ensures) (b .places2 .ensures),
+    )
+
+loop-again : tie.Need-loop-again Inv-loop μ-loop
+loop-again c =
+    let turn : tie.In-loop Inv-loop μ-loop = search in
+    let b : tie.After-places2 Inv-loop μ-loop = search in
+    let b-part : tie.After-part2 Inv-loop μ-loop = search in
+    let a : tie.After-places Inv-loop μ-loop = search in
+    let a-part : tie.After-part Inv-loop μ-loop = search in
+    filled-more (turn .before .loop .inv) (turn .loop-test .taken)
+    (byte-decoded _ _ _ _ _ _ _ _ _ (a-part .part .ensures) (a .places .ensures) (b-part .part2 .ensures) (b .places2 .ensures)
+    (turn .loop-test .taken) (c .decoded .ensures))
+
+returns : tie.Need-returns Inv-loop μ-loop
+returns c = search filled-all
+
+-- ---- the needs that the search closes
 part-requires : tie.Need-part-requires Inv-loop μ-loop
 part-requires c κs = omega arith
 
@@ -36,23 +69,11 @@ slice-aggregate-places-2 c = omega arith
 places-requires-2 : tie.Need-places-requires-2 Inv-loop μ-loop
 places-requires-2 c κs = omega arith
 
-loop-holds : tie.Need-loop-holds Inv-loop μ-loop
-loop-holds c = filled-none 256 _ _ ((c .before .before .before .before .before .before .before .before .before .before .pre) .1)
-
 slice-aggregate-decoded : tie.Need-slice-aggregate-decoded Inv-loop μ-loop
 slice-aggregate-decoded c = omega arith
 
 slice-aggregate-decoded-2 : tie.Need-slice-aggregate-decoded-2 Inv-loop μ-loop
 slice-aggregate-decoded-2 c = omega arith
-
-decoded-requires : tie.Need-decoded-requires Inv-loop μ-loop
-decoded-requires c κs =
-    let A = c .before .before .before .before .before .before .before .before .before .before .before .before .before .before .args in
-    let l = A .section .now in
-    let p = c .before .before .before .before .before .before .before .before .before .before .before .before .before .before .pre in
-    let a = place-below (encodingIn l (A .high)) (c .before .before .before .before .before .before .before .before .before .places .last .1 .0) (c .before .before .before .before .before .before .before .before .before .places .ensures ∙ ap (λ (t : List ℕ). tabulate 16 (decode (imagesOf t))) (c .before .before .before .before .before .before .before .before .before .before .before .part .ensures)) (p .2) in
-    let b = place-below (encodingIn l (A .low)) (c .before .before .before .before .before .places2 .last .1 .0) (c .before .before .before .before .before .places2 .ensures ∙ ap (λ (t : List ℕ). tabulate 16 (decode (imagesOf t))) (c .before .before .before .before .before .before .before .part2 .ensures)) (p .3) in
-    (omega arith, omega arith, omega arith, a, b)
 
 slice-write-dst : tie.Need-slice-write-dst Inv-loop μ-loop
 slice-write-dst c = omega arith
@@ -63,20 +84,8 @@ add-x c = omega arith
 loop-less : tie.Need-loop-less Inv-loop μ-loop
 loop-less c = omega arith
 
-loop-again : tie.Need-loop-again Inv-loop μ-loop
-loop-again c =
-    let A = c .before .before .before .before .before .before .before .before .before .before .before .before .before .before .before .args in
-    let L = c .before .before .before .before .loop in
-    let l = A .section .now in
-    let a = place-at (encodingIn l (A .high)) (c .before .before .before .before .before .before .before .before .before .before .places .last .1 .0) (c .before .before .before .before .before .before .before .before .before .before .places .ensures ∙ ap (λ (t : List ℕ). tabulate 16 (decode (imagesOf t))) (c .before .before .before .before .before .before .before .before .before .before .before .before .part .ensures)) (L .x / 16) (omega arith) in
-    let b = place-at (encodingIn l (A .low)) (c .before .before .before .before .before .before .places2 .last .1 .0) (c .before .before .before .before .before .before .places2 .ensures ∙ ap (λ (t : List ℕ). tabulate 16 (decode (imagesOf t))) (c .before .before .before .before .before .before .before .before .part2 .ensures)) (L .x % 16) (omega arith) in
-    filled-more (L .inv) (omega arith) (c .decoded .ensures ∙ ap₂ pack a b)
-
 same-length : tie.Need-same-length Inv-loop μ-loop
 same-length c = omega arith
-
-returns : tie.Need-returns Inv-loop μ-loop
-returns c = filled-all (c .before .loop .inv) (omega arith)
 
 pub decoded-bytes-spec : {M : Type 1} → statement M
 decoded-bytes-spec =

@@ -1,4 +1,5 @@
--- `entries::lists::images` meets its contract. Assumes nothing.
+-- `entries::lists::images` fills the 16 places from the front, place v with nibble v of p (`Filled` of bits); filled, they are the images.
+-- Assumes nothing.
 use Prim.Native.Nat.{_-_}
 use Rattle.bits.specs.Encodings.{imagesOf}
 use Rattle.bits.specs.Nibbles.{nibble}
@@ -14,8 +15,16 @@ abbrev μ-loop : tie.MeasureT-loop
 μ-loop p dst₀ v₀ dst v = 16 - v
 
 loop-holds : tie.Need-loop-holds Inv-loop μ-loop
-loop-holds c = filled-none 16 _ _ (c .before .before .pre)
+loop-holds c = filled-none 16 _ _ (search)
 
+loop-again : tie.Need-loop-again Inv-loop μ-loop
+loop-again c = search filled-more
+
+returns : tie.Need-returns Inv-loop μ-loop
+unfolding imagesOf
+returns c = search filled-all
+
+-- ---- the needs that the search closes
 nibble-requires : tie.Need-nibble-requires Inv-loop μ-loop
 nibble-requires c κs = omega arith
 
@@ -28,15 +37,8 @@ add-v c = omega arith
 loop-less : tie.Need-loop-less Inv-loop μ-loop
 loop-less c = omega arith
 
-loop-again : tie.Need-loop-again Inv-loop μ-loop
-loop-again c = filled-more (c .before .before .loop .inv) (omega arith) (c .nibble .ensures .0)
-
 same-length : tie.Need-same-length Inv-loop μ-loop
 same-length c = omega arith
-
-returns : tie.Need-returns Inv-loop μ-loop
-unfolding imagesOf
-returns c = filled-all (c .before .loop .inv) (omega arith)
 
 pub images-spec : {M : Type 1} → statement M
 images-spec =

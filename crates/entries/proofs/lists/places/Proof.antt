@@ -1,35 +1,33 @@
--- `entries::lists::places` meets its contract. Assumes nothing.
-use mathlib.Core.Path.{_≡_, refl, sym, ap, _∙_}
-use Prim.Native.Nat.{ℕ, _+_, _-_, _≤_}
-use native.Mathlib.Nat.{zero-add}
-use lib.ListN.{length, length-set}
-use Rattle.bits.specs.Encodings.{imagesOf, decode}
-use Rattle.bits.specs.Lists.{at, tabulate}
-use Rattle.bits.specs.Nibbles.{nibble}
-use Rattle.bits.proofs.laws.Lists.{at-tabulate, length-tabulate, tabulate-ext}
-use Rattle.entries.proofs.laws.Places.{sought, sought-none, sought-next}
+-- `entries::lists::places` writes each nibble at its image, from the last nibble down. The loop's invariant, `Placed` of `laws.Places`: dst has, for
+-- each image, the first nibble from v on that has it, and 16 where none has. That is so of no nibble (`placed-none`), a turn keeps it for
+-- the nibble before (`placed-more`), and down to nibble 0 dst undoes the encoding (`placed-all`).
+-- Assumes nothing.
+use Rattle.entries.proofs.laws.Places.{Placed, placed-none, placed-more, placed-all}
 use native.Mathlib.Omega.{arith}
-use Rattle.bits.proofs.encoding.nibble.Reads as nibble-reads
-use Rattle.bits.proofs.encoding.widened.Reads as widened-reads
 use Rattle.entries.proofs.lists.places.Statement.{statement}
 use Rattle.entries.proofs.lists.places.Tie as tie
-use Rattle.entries.proofs.lists.no_places.Reads as no-places-reads
 
 abbrev Inv-loop : tie.InvT-loop
-Inv-loop p dst₀ v₀ dst v = (v ≤ 16) × (length dst ≡ 16) × (dst ≡ tabulate 16 (sought (imagesOf p) v))
+Inv-loop p dst₀ v₀ dst v = Placed p dst v
 
 abbrev μ-loop : tie.MeasureT-loop
 μ-loop p dst₀ v₀ dst v = v
 
+loop-holds : tie.Need-loop-holds Inv-loop μ-loop
+loop-holds c = placed-none _ _ (search)
+
+loop-again : tie.Need-loop-again Inv-loop μ-loop
+loop-again c =
+    let image : tie.After-nibble Inv-loop μ-loop = search in
+    let turn : tie.In-loop Inv-loop μ-loop = search in
+    placed-more (turn .before .loop .inv) (turn .loop-test .taken) (image .nibble .ensures .0) (c .widened .ensures .0)
+
+returns : tie.Need-returns Inv-loop μ-loop
+returns c = search placed-all
+
+-- ---- the needs that the search closes
 no-places-requires : tie.Need-no-places-requires Inv-loop μ-loop
 no-places-requires c κs = omega arith
-
-loop-holds : tie.Need-loop-holds Inv-loop μ-loop
-unfolding imagesOf
-loop-holds c =
-    let A = c .before .before .before .before .before .before .args in
-    let n = length-tabulate 16 (nibble (A .p .now)) in
-    (omega arith, omega arith, c .before .before .no-places .ensures ∙ sought-none (imagesOf (A .p .now)) n)
 
 sub-v : tie.Need-sub-v Inv-loop μ-loop
 sub-v c = omega arith
@@ -49,30 +47,8 @@ slice-write-dst c = omega arith
 loop-less : tie.Need-loop-less Inv-loop μ-loop
 loop-less c = omega arith
 
-loop-again : tie.Need-loop-again Inv-loop μ-loop
-unfolding imagesOf
-loop-again c =
-    let A = c .before .before .before .before .before .before .before .before .before .before .args in
-    let L = c .before .before .before .loop in
-    let l = imagesOf (A .p .now) in
-    let s : L .v - 1 + 1 ≡ L .v = omega arith in
-    let n = length-tabulate 16 (nibble (A .p .now)) in
-    let here : c .widened .result ≡ at l (L .v - 1) = c .widened .ensures .0 ∙ c .before .nibble .ensures .0 ∙ sym (at-tabulate 16 (nibble (A .p .now)) (L .v - 1) (omega arith)) in (
-      omega arith,
-      length-set (L .dst) (c .widened .result) _ ∙ L .inv .1,
-      sought-next l (L .dst) (L .v - 1) _ _ n (omega arith) (omega arith) here refl (L .inv .2 ∙ ap (λ (k : ℕ). tabulate 16 (sought l k)) (sym s)),
-    )
-
 same-length : tie.Need-same-length Inv-loop μ-loop
 same-length c = omega arith
-
-returns : tie.Need-returns Inv-loop μ-loop
-returns c =
-    let A = c .before .before .before .before .before .before .before .before .args in
-    let L = c .before .loop in
-    let l = imagesOf (A .p .now) in
-    let done : L .v ≡ 0 = omega arith in
-    L .inv .2 ∙ ap (λ (k : ℕ). tabulate 16 (sought l k)) done ∙ tabulate-ext 16 _ _ (λ y b. zero-add (decode l y))
 
 pub places-spec : {M : Type 1} → statement M
 places-spec =

@@ -1,13 +1,35 @@
--- `entries::spread::encoded` meets its contract. Assumes nothing.
-use mathlib.Core.Path.{_≡_, ap₂}
-use Prim.Native.Nat.{ℕ, _+_, _*_, _/_, _%_}
-use Rattle.bits.specs.Lists.{at}
-use Rattle.bits.specs.Nibbles.{pack}
+-- `entries::spread::encoded` reads the images of both nibbles of b in the 32 that byte k has: at x and y, which are the contract's places
+-- (`images-read` of `laws.Entries`). The two are nibbles by the `requires`, so that packing them wraps nowhere.
+-- Assumes nothing.
+use Prim.Native.Nat.{_+_, _*_}
+use Rattle.entries.proofs.laws.Entries.{images-read}
 use native.Mathlib.Omega.{arith}
 use borrow.Author.Needs.{needs}
 use Rattle.entries.proofs.spread.encoded.Statement.{statement}
 use Rattle.entries.proofs.spread.encoded.Tie as tie
 
+mul-result : tie.Need-mul-result
+mul-result c =
+    let high : tie.After-widened = search in
+    let entry : tie.Start = search in
+    omega (arith, entry .pre .2 (32 * entry .args .k + high .widened .result) (omega arith))
+
+add-result : tie.Need-add-result
+add-result c =
+    let low : tie.After-widened2 = search in
+    let high : tie.After-widened = search in
+    let entry : tie.Start = search in
+    let k = entry .args .k in
+    omega (arith, entry .pre .2 (32 * k + high .widened .result) (omega arith), entry .pre .2 (32 * k + 16 + low .widened2 .result) (omega arith))
+
+returns : tie.Need-returns
+returns c =
+    let low : tie.After-widened2 = search in
+    let high : tie.After-widened = search in
+    let entry : tie.Start = search in
+    images-read (entry .args .images .now) (entry .args .k) _ _ _ (high .widened .ensures .0) (low .widened2 .ensures .0)
+
+-- ---- the needs that the search closes
 mul-x : tie.Need-mul-x
 mul-x c = search needs
 
@@ -32,29 +54,8 @@ add-y-2 c = search needs
 shared-slice-read-result : tie.Need-shared-slice-read-result
 shared-slice-read-result c = search needs
 
-mul-result : tie.Need-mul-result
-mul-result c =
-    let x = 32 * c .before .before .before .before .args .k + c .before .before .widened .result in
-    let h = c .before .before .before .before .pre .2 x (omega arith) in
-    omega arith
-
 shared-slice-read-result-2 : tie.Need-shared-slice-read-result-2
 shared-slice-read-result-2 c = search needs
-
-add-result : tie.Need-add-result
-add-result c =
-    let x = 32 * c .before .before .before .before .before .args .k + c .before .before .before .widened .result in
-    let y = 32 * c .before .before .before .before .before .args .k + 16 + c .before .before .widened2 .result in
-    let h = c .before .before .before .before .before .pre .2 x (omega arith) in
-    let g = c .before .before .before .before .before .pre .2 y (omega arith) in
-    omega arith
-
-returns : tie.Need-returns
-returns c =
-    let A = c .before .before .before .before .before .args in
-    let a : 32 * A .k + c .before .before .before .widened .result ≡ 16 * (2 * A .k) + A .b / 16 = omega arith in
-    let b : 32 * A .k + 16 + c .before .before .widened2 .result ≡ 16 * (2 * A .k + 1) + A .b % 16 = omega arith in
-    ap₂ (λ (x y : ℕ). pack (at (A .images .now) x) (at (A .images .now) y)) a b
 
 pub encoded-spec : {M : Type 1} → statement M
 encoded-spec =

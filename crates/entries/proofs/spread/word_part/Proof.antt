@@ -1,33 +1,37 @@
--- `entries::spread::word_part` meets its contract. Assumes nothing.
-use mathlib.Core.Path.{_≡_, ap}
-use Prim.Native.Nat.{ℕ, _+_, _-_, _*_}
-use lib.ListN.{take, drop, length-take, length-drop}
+-- `entries::spread::word_part` returns part r of m bytes. It lies within the 32 parts (`row-inside` of bits), so no sum wraps; its m bytes are
+-- those that the slice has from r * m on, by `part-taken` of `laws.Laid`.
+-- Assumes nothing.
+use Prim.Native.Nat.{_+_, _*_, _≤_}
 use Rattle.bits.proofs.laws.Multiples.{row-inside}
+use Rattle.entries.proofs.laws.Laid.{part-taken}
 use native.Mathlib.Omega.{arith}
 use Rattle.entries.proofs.spread.word_part.Statement.{statement}
 use Rattle.entries.proofs.spread.word_part.Tie as tie
 
+-- the part lies within the 32 parts
+inside : (entry : tie.Start) → entry .args .r * entry .args .m + entry .args .m ≤ 32 * entry .args .m
+inside entry = row-inside _ _ 32 (omega arith)
+
 mul-a : tie.Need-mul-a
-mul-a c = omega (arith, row-inside (c .args .r) (c .args .m) 32 (omega arith))
+mul-a c = omega (arith, inside c)
 
 add-e : tie.Need-add-e
-add-e c = omega (arith, row-inside (c .args .r) (c .args .m) 32 (omega arith))
+add-e c = omega (arith, inside c)
 
 sub-result : tie.Need-sub-result
-sub-result c = omega (arith, row-inside (c .args .r) (c .args .m) 32 (omega arith))
+sub-result c = omega (arith, inside c)
 
 part-result-start : tie.Need-part-result-start
-part-result-start c = omega (arith, row-inside (c .args .r) (c .args .m) 32 (omega arith))
+part-result-start c = omega (arith, inside c)
 
 part-result-end : tie.Need-part-result-end
-part-result-end c = omega (arith, row-inside (c .args .r) (c .args .m) 32 (omega arith))
+part-result-end c = omega (arith, inside c)
 
 returns : tie.Need-returns
 returns c =
-    let A = c .before .args in
-    let inside = row-inside (A .r) (A .m) 32 (omega arith) in
-    let size : A .r * A .m + A .m - A .r * A .m ≡ A .m = omega arith in
-    (ap (λ (n : ℕ). take n (drop (A .r * A .m) (A .words .now))) size, simp (length-take, length-drop) (omega arith))
+    let entry : tie.Start = search in
+    let a = entry .args in
+    part-taken (a .r * a .m) (a .m) (a .words .now) (omega (arith, inside entry))
 
 pub word-part-spec : {M : Type 1} → statement M
 word-part-spec =

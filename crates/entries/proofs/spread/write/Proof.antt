@@ -1,16 +1,26 @@
--- `entries::spread::write` meets its contract. Assumes nothing.
-use mathlib.Core.Path.{ap, _∙_}
-use Rattle.bits.specs.Lists.{at}
-use Rattle.bits.proofs.laws.Lists.{concat-same}
-use Rattle.matrices.specs.Rows.{rowAt}
-use Rattle.entries.specs.Spread.{encodedBytes}
-use Rattle.entries.proofs.laws.Combined.{summed-is}
+-- `entries::spread::write` has the words of the bytes with one nibble written into a local array, and the table made of them. As the word of
+-- a byte is linear in it, the sums that `write_words` makes are the words of the bytes: `words-encoded` of `laws.Combined`, from what the two
+-- calls ensure and from the values being bytes.
+-- Assumes nothing.
+use Rattle.entries.proofs.laws.Combined.{words-encoded}
 use native.Mathlib.Omega.{arith}
 use Rattle.entries.proofs.spread.write.Statement.{statement}
 use Rattle.entries.proofs.spread.write.Tie as tie
-use Rattle.entries.proofs.spread.nibble_words.Reads as nibble-words-reads
-use Rattle.entries.proofs.spread.write_words.Reads as write-words-reads
 
+write-words-requires : tie.Need-write-words-requires
+write-words-requires c κs =
+    let entry : tie.Start = search in
+    (omega arith, omega arith, omega arith, omega arith, entry .pre .4, omega arith)
+
+returns : tie.Need-returns
+returns c =
+    let written : tie.After-write-words = search in
+    let words : tie.After-nibble-words = search in
+    let bytes : tie.After-shared-slice-known = search in
+    let entry : tie.Start = search in
+    words-encoded _ _ _ (words .nibble-words .ensures) _ (entry .args .values .now) _ (λ i. bytes .shared-slice-known .given i .fits) (written .write-words .ensures)
+
+-- ---- the needs that the search closes
 slice-aggregate-nibble-words : tie.Need-slice-aggregate-nibble-words
 slice-aggregate-nibble-words c = omega arith
 
@@ -20,21 +30,8 @@ nibble-words-requires c κs = omega arith
 slice-aggregate-write-words : tie.Need-slice-aggregate-write-words
 slice-aggregate-write-words c = omega arith
 
-write-words-requires : tie.Need-write-words-requires
-write-words-requires c κs =
-    let p = c .before .before .before .before .before .before .before .before .before .pre in
-    (omega arith, omega arith, omega arith, omega arith, p .4, omega arith)
-
 same-length : tie.Need-same-length
 same-length c = omega arith
-
-returns : tie.Need-returns
-returns c =
-    let A = c .before .before .before .before .before .before .before .before .before .before .before .before .args in
-    let m = A .m in
-    let w = c .before .before .before .before .before .before .nibble-words .last .1 .1 .0 in
-    c .before .before .write-words .ensures
-    ∙ concat-same 256 _ _ (λ x h. ap (encodedBytes (at (A .images .now)) m) (summed-is (rowAt (A .basis .now)) m w (c .before .before .before .before .before .before .nibble-words .ensures) (at (A .values .now) x) (c .before .before .before .before .before .before .before .before .before .before .before .shared-slice-known .given x .fits)))
 
 pub write-spec : {M : Type 1} → statement M
 write-spec =

@@ -1,6 +1,8 @@
--- `entries::xors::write_row` meets its contract. Assumes nothing.
+-- `entries::xors::write_row` fills the 8 bytes of a row from the front, byte k with the entries 2 k and 2 k + 1 (`Filled` of bits). Both entries
+-- are elements of `result`, so nibbles by the `requires`: packing them wraps nowhere, and the bytes are the row, packed.
+-- Assumes nothing.
 use mathlib.Core.Path.{ap₂}
-use Prim.Native.Nat.{_+_, _-_, _*_}
+use Prim.Native.Nat.{_+_, _-_, _*_, _<_}
 use lib.Bits.{bitXor}
 use Rattle.bits.specs.Lists.{at}
 use Rattle.bits.specs.Nibbles.{pack, packed}
@@ -8,10 +10,10 @@ use Rattle.bits.proofs.laws.Filled.{Filled, filled-none, filled-more, filled-al
 use native.Mathlib.Omega.{arith}
 use Rattle.entries.proofs.xors.write_row.Statement.{statement}
 use Rattle.entries.proofs.xors.write_row.Tie as tie
-use Rattle.entries.proofs.xors.element.Reads as element-reads
 
 abbrev Inv-loop : tie.InvT-loop
-Inv-loop a added result dst₀ k₀ dst k = Filled 8 (λ i. pack (at result (bitXor a (at added (2 * i)))) (at result (bitXor a (at added (2 * i + 1))))) dst k
+Inv-loop a added result dst₀ k₀ dst k =
+    Filled 8 (λ i. pack (at result (bitXor a (at added (2 * i)))) (at result (bitXor a (at added (2 * i + 1))))) dst k
 
 abbrev μ-loop : tie.MeasureT-loop
 μ-loop a added result dst₀ k₀ dst k = 8 - k
@@ -19,6 +21,32 @@ abbrev μ-loop : tie.MeasureT-loop
 loop-holds : tie.Need-loop-holds Inv-loop μ-loop
 loop-holds c = filled-none 8 _ _ (omega arith)
 
+mul-dst : tie.Need-mul-dst Inv-loop μ-loop
+mul-dst c =
+    let high : tie.After-element Inv-loop μ-loop = search in
+    let entry : tie.Start Inv-loop μ-loop = search in
+    let high-lt : high .element .result < 16 = rw (high .element .ensures) (entry .pre .2 _) in
+    omega arith
+
+add-dst : tie.Need-add-dst Inv-loop μ-loop
+add-dst c =
+    let high : tie.After-element Inv-loop μ-loop = search in
+    let entry : tie.Start Inv-loop μ-loop = search in
+    let high-lt : high .element .result < 16 = rw (high .element .ensures) (entry .pre .2 _) in
+    let low-lt : c .element2 .result < 16 = rw (c .element2 .ensures) (entry .pre .2 _) in
+    omega arith
+
+loop-again : tie.Need-loop-again Inv-loop μ-loop
+loop-again c =
+    let high : tie.After-element Inv-loop μ-loop = search in
+    let turn : tie.In-loop Inv-loop μ-loop = search in
+    filled-more (turn .before .loop .inv) (turn .loop-test .taken) (ap₂ pack (high .element .ensures) (c .element2 .ensures))
+
+returns : tie.Need-returns Inv-loop μ-loop
+unfolding packed
+returns c = search filled-all
+
+-- ---- the needs that the search closes
 mul-element : tie.Need-mul-element Inv-loop μ-loop
 mul-element c = omega arith
 
@@ -40,20 +68,6 @@ shared-slice-read-element-2 c = omega arith
 element-requires-2 : tie.Need-element-requires-2 Inv-loop μ-loop
 element-requires-2 c κs = omega arith
 
-mul-dst : tie.Need-mul-dst Inv-loop μ-loop
-mul-dst c =
-    let A = c .before .before .before .before .before .before .before .before .before .args in
-    let h = (c .before .before .before .before .before .before .before .before .before .pre) .2 (bitXor (A .a) (at (A .added .now) (2 * c .before .before .before .before .before .loop .k))) in
-    let g = (c .before .before .before .before .before .before .before .before .before .pre) .2 (bitXor (A .a) (at (A .added .now) (2 * c .before .before .before .before .before .loop .k + 1))) in
-    omega (arith, h, g, c .before .before .element .ensures, c .element2 .ensures)
-
-add-dst : tie.Need-add-dst Inv-loop μ-loop
-add-dst c =
-    let A = c .before .before .before .before .before .before .before .before .before .args in
-    let h = (c .before .before .before .before .before .before .before .before .before .pre) .2 (bitXor (A .a) (at (A .added .now) (2 * c .before .before .before .before .before .loop .k))) in
-    let g = (c .before .before .before .before .before .before .before .before .before .pre) .2 (bitXor (A .a) (at (A .added .now) (2 * c .before .before .before .before .before .loop .k + 1))) in
-    omega (arith, h, g, c .before .before .element .ensures, c .element2 .ensures)
-
 slice-write-dst : tie.Need-slice-write-dst Inv-loop μ-loop
 slice-write-dst c = omega arith
 
@@ -63,15 +77,8 @@ add-k c = omega arith
 loop-less : tie.Need-loop-less Inv-loop μ-loop
 loop-less c = omega arith
 
-loop-again : tie.Need-loop-again Inv-loop μ-loop
-loop-again c = filled-more (c .before .before .before .before .before .loop .inv) (omega arith) (ap₂ pack (c .before .before .element .ensures) (c .element2 .ensures))
-
 same-length : tie.Need-same-length Inv-loop μ-loop
 same-length c = omega arith
-
-returns : tie.Need-returns Inv-loop μ-loop
-unfolding packed
-returns c = filled-all (c .before .loop .inv) (omega arith)
 
 pub write-row-spec : {M : Type 1} → statement M
 write-row-spec =

@@ -1,43 +1,37 @@
--- `evaluate::walk::advance` meets its contract. Assumes nothing.
-use mathlib.Core.Path.{_≡_, refl, sym, ap, _∙_}
-use Prim.Native.Nat.{ℕ, _-_, _≤_}
-use lib.ListN.{length}
-use Rattle.network.specs.Stages.{shifted}
-use Rattle.whitebox.specs.Calls.{advance}
-use Rattle.evaluate.proofs.laws.Calls.{advance-on}
+-- `evaluate::walk::advance` meets its contract. The loop's invariant, `Going` of `laws.Calls`: from the count reached, the lookups left up to the stop
+-- give what all of them give from the walk held, and the lists have kept their lengths. A turn goes on by what `step` ensures, one lookup or
+-- more (`going-more`); at the stop none is left (`going-all`). The measure is the number of lookups left.
+-- Assumes nothing.
+use Prim.Native.Nat.{_-_}
+use Rattle.evaluate.proofs.laws.Calls.{Going, going-none, going-more, going-all}
 use borrow.Author.Needs.{needs}
 use native.Mathlib.Omega.{arith}
 use Rattle.evaluate.proofs.walk.advance.Statement.{statement}
 use Rattle.evaluate.proofs.walk.advance.Tie as tie
 
 abbrev Inv-loop : tie.InvT-loop
-Inv-loop set stop standing₀ area₀ n₀ standing area n = (n ≤ stop) × (length standing ≡ 16) × (length area ≡ 256) × (advance shifted 10 set (stop - n₀) (record { count = n₀; standing = standing₀; area = area₀ }) ≡ advance shifted 10 set (stop - n) (record { count = n; standing = standing; area = area }))
+Inv-loop set stop standing₀ area₀ n₀ standing area n = Going set stop (record { count = n₀; standing = standing₀; area = area₀ }) standing area n
 
 abbrev μ-loop : tie.MeasureT-loop
 μ-loop set stop standing₀ area₀ n₀ standing area n = stop - n
 
 loop-holds : tie.Need-loop-holds Inv-loop μ-loop
-loop-holds c = (omega arith, search needs, search needs, refl)
-
-step-requires : tie.Need-step-requires Inv-loop μ-loop
-step-requires c κs = (c .before .before .before .before .before .before .before .pre .0, omega arith, c .before .before .before .before .before .before .before .pre .1, c .before .before .before .loop .inv .1, c .before .before .before .loop .inv .2)
+loop-holds c = going-none (search) (search needs) (search needs)
 
 loop-less : tie.Need-loop-less Inv-loop μ-loop
-loop-less c = omega (arith, c .step .ensures .more, c .step .ensures .most)
+loop-less c = omega (arith, c .step .ensures)
 
 loop-again : tie.Need-loop-again Inv-loop μ-loop
-loop-again c =
-    let d = c .step .ensures in
-    let L = c .before .before .before .before .loop in
-    (d .most, d .kept ∙ L .inv .1, d .long ∙ L .inv .2, L .inv .3 ∙ advance-on d)
+loop-again c = search going-more
 
 returns : tie.Need-returns Inv-loop μ-loop
-unfolding advance
 returns c =
-    let L = c .before .loop in
-    let A = c .before .before .before .before .before .args in
-    let z : A .stop - L .n ≡ 0 = omega arith in
-    sym (L .inv .3 ∙ ap (λ (x : ℕ). advance shifted 10 (A .set .now) x (record { count = L .n; standing = L .standing; area = L .area })) z)
+    let turn : tie.At-loop Inv-loop μ-loop = search in
+    going-all (turn .loop .inv) (search)
+
+-- ---- the needs that the search closes
+step-requires : tie.Need-step-requires Inv-loop μ-loop
+step-requires c κs = search needs
 
 pub advance-spec : {M : Type 1} → statement M
 advance-spec =

@@ -1,26 +1,41 @@
--- `external::block::decode_nibbles` meets its contract. Assumes nothing.
-use mathlib.Core.Path.{_≡_, refl, subst, _∙_}
-use Prim.Native.Nat.{ℕ, _+_, _-_, _*_, _≤_}
-use lib.ListN.{length, take, length-set}
-use Rattle.bits.specs.Encodings.{decode, Permutation}
-use Rattle.bits.specs.Lists.{tabulate}
-use Rattle.bits.proofs.laws.Lists.{fill-more, fill-all}
+-- `external::block::decode_nibbles`: the loop fills the lent block, byte i with the two nibbles of the block's byte i taken out of their encodings
+-- (`byteBy` of `laws.Code`); its invariant is `Filled` of `bits`. What `decoded` asks of byte i's two encodings is what the `requires` says of all
+-- (`byte-permutations`). Behind the loop these bytes are the decoded nibbles (`decode-filled`). The measure is the number of bytes left.
+-- Assumes nothing.
+use Prim.Native.Nat.{_-_}
+use Rattle.bits.specs.Encodings.{decode}
+use Rattle.bits.proofs.laws.Filled.{Filled, filled-none, filled-more}
 use Rattle.bundle.specs.Format.{encodingOf}
-use Rattle.external.proofs.laws.Code.{byteBy, decode-bytes}
+use Rattle.external.proofs.laws.Code.{byteBy, byte-permutations, decode-filled}
 use native.Mathlib.Omega.{arith}
 use Rattle.external.proofs.block.decode_nibbles.Statement.{statement}
 use Rattle.external.proofs.block.decode_nibbles.Tie as tie
 
 abbrev Inv-loop : tie.InvT-loop
-Inv-loop bundle first src dst₀ i₀ dst i = (i ≤ 16) × (length dst ≡ 16) × (take i dst ≡ tabulate i (byteBy decode (encodingOf 10 bundle) first src))
+Inv-loop bundle first src dst₀ i₀ dst i = Filled 16 (byteBy decode (encodingOf 10 bundle) first src) dst i
 
 abbrev μ-loop : tie.MeasureT-loop
 μ-loop bundle first src dst₀ i₀ dst i = 16 - i
 
 loop-holds : tie.Need-loop-holds Inv-loop μ-loop
-unfolding tabulate
-loop-holds c = (omega arith, c .before .before .before .pre .0 .2, refl)
+loop-holds c = filled-none _ _ _ (search)
 
+decoded-requires : tie.Need-decoded-requires Inv-loop μ-loop
+decoded-requires c κs =
+    let turn : tie.In-loop Inv-loop μ-loop = search in
+    let entry : tie.Start Inv-loop μ-loop = search in
+    let both = byte-permutations (encodingOf 10 _) (entry .args .first) (entry .pre .1) _ (turn .loop-test .taken) in
+    (omega arith, both .0, both .1)
+
+loop-again : tie.Need-loop-again Inv-loop μ-loop
+loop-again c = search filled-more
+
+returns : tie.Need-returns Inv-loop μ-loop
+returns c =
+    let loop : tie.At-loop Inv-loop μ-loop = search in
+    decode-filled _ _ _ (loop .loop .inv) (search)
+
+-- ---- the needs that the search closes
 mul-decoded : tie.Need-mul-decoded Inv-loop μ-loop
 mul-decoded c = omega arith
 
@@ -29,13 +44,6 @@ add-decoded c = omega arith
 
 shared-slice-read-decoded : tie.Need-shared-slice-read-decoded Inv-loop μ-loop
 shared-slice-read-decoded c = omega arith
-
-decoded-requires : tie.Need-decoded-requires Inv-loop μ-loop
-decoded-requires c κs =
-    let A = c .before .before .before .before .before .before .args in
-    let i = c .before .before .loop .i in
-    let k : A .first + (2 * i + 1) ≡ A .first + 2 * i + 1 = omega arith in
-    (omega arith, c .before .before .before .before .before .before .pre .1 (2 * i) (omega arith), subst (λ (z : ℕ). Permutation (encodingOf 10 (A .bundle .now) z)) k (c .before .before .before .before .before .before .pre .1 (2 * i + 1) (omega arith)))
 
 slice-write-dst : tie.Need-slice-write-dst Inv-loop μ-loop
 slice-write-dst c = omega arith
@@ -46,19 +54,8 @@ add-i c = omega arith
 loop-less : tie.Need-loop-less Inv-loop μ-loop
 loop-less c = omega arith
 
-loop-again : tie.Need-loop-again Inv-loop μ-loop
-loop-again c =
-    let L = c .before .before .before .loop in
-    let A = c .before .before .before .before .before .before .before .args in
-    (omega arith, length-set (L .dst) (L .i) (c .decoded .result) ∙ L .inv .1, fill-more (L .dst) (L .i) _ (c .decoded .result) (omega arith) (L .inv .2) (c .decoded .ensures))
-
 same-length : tie.Need-same-length Inv-loop μ-loop
 same-length c = omega arith
-
-returns : tie.Need-returns Inv-loop μ-loop
-returns c =
-    let L = c .before .loop in
-    fill-all 16 (L .dst) (L .i) _ (L .inv .1) (omega arith) (L .inv .2) ∙ decode-bytes _ _ _
 
 pub decode-nibbles-spec : {M : Type 1} → statement M
 decode-nibbles-spec =

@@ -1,26 +1,33 @@
--- `external::block::encode_nibbles` meets its contract. Assumes nothing.
-use mathlib.Core.Path.{_≡_, refl, _∙_}
-use Prim.Native.Nat.{_-_, _≤_}
-use lib.ListN.{length, take, length-set}
+-- `external::block::encode_nibbles`: the loop fills the lent block, byte i with the two images of the block's byte i (`byteBy` of `laws.Code`);
+-- its invariant is `Filled` of `bits`. Behind the loop these bytes are the encoded nibbles (`encode-filled`). The measure is the number of bytes left.
+-- Assumes nothing.
+use Prim.Native.Nat.{_-_}
 use Rattle.bits.specs.Encodings.{encode}
-use Rattle.bits.specs.Lists.{tabulate}
-use Rattle.bits.proofs.laws.Lists.{fill-more, fill-all}
+use Rattle.bits.proofs.laws.Filled.{Filled, filled-none, filled-more}
 use Rattle.bundle.specs.Format.{encodingOf}
-use Rattle.external.proofs.laws.Code.{byteBy, encode-bytes}
+use Rattle.external.proofs.laws.Code.{byteBy, encode-filled}
 use native.Mathlib.Omega.{arith}
 use Rattle.external.proofs.block.encode_nibbles.Statement.{statement}
 use Rattle.external.proofs.block.encode_nibbles.Tie as tie
 
 abbrev Inv-loop : tie.InvT-loop
-Inv-loop bundle first src dst₀ i₀ dst i = (i ≤ 16) × (length dst ≡ 16) × (take i dst ≡ tabulate i (byteBy encode (encodingOf 10 bundle) first src))
+Inv-loop bundle first src dst₀ i₀ dst i = Filled 16 (byteBy encode (encodingOf 10 bundle) first src) dst i
 
 abbrev μ-loop : tie.MeasureT-loop
 μ-loop bundle first src dst₀ i₀ dst i = 16 - i
 
 loop-holds : tie.Need-loop-holds Inv-loop μ-loop
-unfolding tabulate
-loop-holds c = (omega arith, c .before .before .before .pre .2, refl)
+loop-holds c = filled-none _ _ _ (search)
 
+loop-again : tie.Need-loop-again Inv-loop μ-loop
+loop-again c = search filled-more
+
+returns : tie.Need-returns Inv-loop μ-loop
+returns c =
+    let loop : tie.At-loop Inv-loop μ-loop = search in
+    encode-filled _ _ _ (loop .loop .inv) (search)
+
+-- ---- the needs that the search closes
 mul-encoded : tie.Need-mul-encoded Inv-loop μ-loop
 mul-encoded c = omega arith
 
@@ -42,19 +49,8 @@ add-i c = omega arith
 loop-less : tie.Need-loop-less Inv-loop μ-loop
 loop-less c = omega arith
 
-loop-again : tie.Need-loop-again Inv-loop μ-loop
-loop-again c =
-    let L = c .before .before .before .loop in
-    let A = c .before .before .before .before .before .before .before .args in
-    (omega arith, length-set (L .dst) (L .i) (c .encoded .result) ∙ L .inv .1, fill-more (L .dst) (L .i) _ (c .encoded .result) (omega arith) (L .inv .2) (c .encoded .ensures))
-
 same-length : tie.Need-same-length Inv-loop μ-loop
 same-length c = omega arith
-
-returns : tie.Need-returns Inv-loop μ-loop
-returns c =
-    let L = c .before .loop in
-    fill-all 16 (L .dst) (L .i) _ (L .inv .1) (omega arith) (L .inv .2) ∙ encode-bytes _ _ _
 
 pub encode-nibbles-spec : {M : Type 1} → statement M
 encode-nibbles-spec =

@@ -1,12 +1,14 @@
--- `external::block::encoded` meets its contract. Assumes nothing.
-use mathlib.Core.Path.{ap, ap₂, _∙_}
-use mathlib.Core.List.{List}
-use Prim.Native.Nat.{ℕ, _+_, _*_, _/_, _%_}
-use Rattle.bits.specs.Encodings.{imagesOf, encode}
+-- `external::block::encoded`: the two nibbles of b, each under its encoding, packed again. The parts of the bundle hold the encodings, so the
+-- result is the calls' equations put together. An image is below 16, so nothing overflows.
+-- Assumes nothing.
 use borrow.Author.Needs.{needs}
 use Rattle.external.proofs.block.encoded.Statement.{statement}
 use Rattle.external.proofs.block.encoded.Tie as tie
 
+returns : tie.Need-returns
+returns c = cc
+
+-- ---- the needs that the search closes
 encoding-part-requires : tie.Need-encoding-part-requires
 encoding-part-requires c κs = search needs
 
@@ -27,13 +29,6 @@ mul-result c = search needs
 
 add-result : tie.Need-add-result
 add-result c = search needs
-
-returns : tie.Need-returns
-returns c =
-    let A = c .before .before .before .before .before .args in
-    ap₂ (λ (h l : ℕ). h * 16 + l)
-    (c .before .before .image .ensures .0 ∙ ap (λ (p : List ℕ). encode (imagesOf p) (A .b / 16)) (c .before .before .before .encoding-part .ensures))
-    (c .image2 .ensures .0 ∙ ap (λ (p : List ℕ). encode (imagesOf p) (A .b % 16)) (c .before .encoding-part2 .ensures))
 
 pub encoded-spec : {M : Type 1} → statement M
 encoded-spec =

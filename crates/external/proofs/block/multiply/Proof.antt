@@ -1,14 +1,19 @@
--- `external::block::multiply` meets its contract. Assumes nothing.
-use mathlib.Core.Path.{ap, _∙_}
-use mathlib.Core.List.{List}
-use Prim.Native.Nat.{ℕ}
-use Rattle.matrices.proofs.laws.Stored.{read-rows}
-use Rattle.external.specs.Coding.{multiply}
+-- `external::block::multiply`: the bytes are read into rows, and `times` multiplies by these. That the rows read are the matrix that the bytes
+-- write is in `multiplied-read` of `laws.Code`.
+-- Assumes nothing.
+use Rattle.external.proofs.laws.Code.{multiplied-read}
 use native.Mathlib.Omega.{arith}
 use borrow.Author.Needs.{needs}
 use Rattle.external.proofs.block.multiply.Statement.{statement}
 use Rattle.external.proofs.block.multiply.Tie as tie
 
+returns : tie.Need-returns
+returns c =
+    let times : tie.After-times = search in
+    let read : tie.After-read = search in
+    multiplied-read _ _ _ _ _ (omega arith) (read .read .ensures) (times .times .ensures)
+
+-- ---- the needs that the search closes
 slice-aggregate-read : tie.Need-slice-aggregate-read
 slice-aggregate-read c = search needs
 
@@ -23,12 +28,6 @@ times-requires c κs = search needs
 
 same-length : tie.Need-same-length
 same-length c = search needs
-
-returns : tie.Need-returns
-returns c =
-    let A = c .before .before .before .before .before .before .before .before .before .before .before .args in
-    let R = c .before .before .before .before .before .before .read in
-    c .before .before .times .ensures ∙ ap (λ (r : List ℕ). multiply r (A .src .now)) (read-rows 16 (A .m .now) _ _ (omega arith) (R .ensures))
 
 pub multiply-spec : {M : Type 1} → statement M
 multiply-spec =

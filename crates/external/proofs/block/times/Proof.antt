@@ -1,11 +1,20 @@
--- `external::block::times` meets its contract. Assumes nothing.
-use Rattle.bits.specs.Words.{value}
-use Rattle.matrices.specs.Rows.{rowsOf}
+-- `external::block::times`: the block is read as a vector of 128 bits, multiplied and written again, as `multiply` of specs/ says
+-- (`multiplied` of `laws.Code`, whose premises are what the three calls ensure).
+-- Assumes nothing.
 use Rattle.external.proofs.laws.Code.{multiplied}
 use borrow.Author.Needs.{needs}
 use Rattle.external.proofs.block.times.Statement.{statement}
 use Rattle.external.proofs.block.times.Tie as tie
 
+returns : tie.Need-returns
+returns c =
+    let write : tie.After-write = search in
+    let product : tie.After-multiply = search in
+    let read : tie.After-read = search in
+    let entry : tie.Start = search in
+    multiplied _ _ _ _ _ _ (entry .pre .2) (read .read .ensures) (product .multiply .ensures) (write .write .ensures)
+
+-- ---- the needs that the search closes
 read-requires : tie.Need-read-requires
 read-requires c κs = search needs
 
@@ -17,11 +26,6 @@ write-requires c κs = search needs
 
 same-length : tie.Need-same-length
 same-length c = search needs
-
-returns : tie.Need-returns
-returns c =
-    let A = c .before .before .before .before .before .before .before .before .before .args in
-    multiplied (rowsOf 128 (A .rows .now)) (A .src .now) (A .dst .now) _ (value (c .before .before .before .before .before .read .result)) (value (c .before .before .before .before .multiply .result)) (c .before .before .before .before .before .before .before .before .before .pre .2) (c .before .before .before .before .before .read .ensures) (c .before .before .before .before .multiply .ensures) (c .before .before .write .ensures)
 
 pub times-spec : {M : Type 1} → statement M
 times-spec =

@@ -1,17 +1,33 @@
--- `external::block::unmultiply` meets its contract. Assumes nothing.
-use mathlib.Core.Path.{ap, _∙_}
-use mathlib.Core.List.{List}
-use Prim.Native.Nat.{ℕ}
-use Rattle.inversion.specs.Elimination.{invert, hasInverse}
-use Rattle.matrices.specs.Matrices.{matrixOf}
-use Rattle.matrices.proofs.laws.Stored.{read-rows}
-use Rattle.external.specs.Coding.{multiply}
-use Rattle.external.proofs.laws.Code.{inverse-rows, never}
+-- `external::block::unmultiply`: the bytes are read into rows, these are inverted, and `times` multiplies by the inverse (`multiplied-back` of
+-- `laws.Code`). The `requires` says that the matrix has an inverse, so the way past the `if` is never taken (`never-singular`).
+-- Assumes nothing.
+use Rattle.external.proofs.laws.Code.{multiplied-back, never-singular}
 use native.Mathlib.Omega.{arith}
 use borrow.Author.Needs.{needs}
 use Rattle.external.proofs.block.unmultiply.Statement.{statement}
 use Rattle.external.proofs.block.unmultiply.Tie as tie
 
+returns : tie.Need-returns
+returns c =
+    let times : tie.After-times = search in
+    let inverted : tie.After-invert = search in
+    let read : tie.After-read = search in
+    let bytes : tie.After-shared-slice-known = search in
+    let entry : tie.Start = search in
+    multiplied-back _ (λ i. bytes .shared-slice-known .given i .fits) (entry .pre .1) _ _ (omega arith) (read .read .ensures)
+    _ _ _ _ (omega arith) (inverted .invert .ensures .1) (times .times .ensures)
+
+returns-2 : tie.Need-returns-2
+returns-2 c =
+    let inverted : tie.After-invert = search in
+    let read : tie.After-read = search in
+    let bytes : tie.After-shared-slice-known = search in
+    let entry : tie.Start = search in
+    absurd
+    (never-singular _ (λ i. bytes .shared-slice-known .given i .fits) (entry .pre .1) _ _ (omega arith) (read .read .ensures)
+    _ (inverted .invert .ensures .0) (c .if1 .left))
+
+-- ---- the needs that the search closes
 slice-aggregate-read : tie.Need-slice-aggregate-read
 slice-aggregate-read c = search needs
 
@@ -35,24 +51,6 @@ times-requires c κs = search needs
 
 same-length : tie.Need-same-length
 same-length c = search needs
-
-returns : tie.Need-returns
-returns c =
-    let A = c .before .before .before .before .before .before .before .before .before .before .before .before .before .before .before .before .args in
-    let R = c .before .before .before .before .before .before .before .before .before .before .before .read in
-    let I = c .before .before .before .before .before .before .before .invert in
-    let e = read-rows 16 (A .m .now) _ (R .last .1 .0) (omega arith) (R .ensures) in
-    c .before .before .times .ensures
-    ∙ ap (λ (r : List ℕ). multiply r (A .src .now))
-    (inverse-rows (A .m .now) (R .last .1 .0) _ (I .last .1 .0) (λ i. c .before .before .before .before .before .before .before .before .before .before .before .before .before .before .before .shared-slice-known .given i .fits) (omega arith) e (c .before .before .before .before .before .before .before .before .before .before .before .before .before .before .before .before .pre .1) (I .ensures .1))
-
-returns-2 : tie.Need-returns-2
-returns-2 c =
-    let A = c .before .before .before .before .before .before .before .before .before .before .before .args in
-    let R = c .before .before .before .before .before .before .read in
-    let I = c .before .before .invert in
-    let e = read-rows 16 (A .m .now) _ (R .last .1 .0) (omega arith) (R .ensures) in
-    absurd (never (I .result) (invert 128 (matrixOf 16 (A .m .now))) (c .before .before .before .before .before .before .before .before .before .before .before .pre .1) (I .ensures .0 ∙ ap (λ (r : List ℕ). hasInverse (invert 128 r)) e) (c .if1 .left))
 
 pub unmultiply-spec : {M : Type 1} → statement M
 unmultiply-spec =

@@ -1,24 +1,32 @@
--- `external::coding::decode_input` meets its contract. Assumes nothing.
-use mathlib.Core.Path.{_∙_}
-use Rattle.external.specs.Coding.{decodeInput}
-use Rattle.external.proofs.laws.Code.{matrix-room, input-has}
+-- `external::coding::decode_input`: `decode_by` with the bundle's input matrix and the encodings from 0 on, which is the input coding taken off
+-- (`input-decoded` of `laws.Code`). The matrix of an accepted bundle has its 2,048 bytes and an inverse (`input-has`).
+-- Assumes nothing.
+use Rattle.external.proofs.laws.Code.{input-has, input-decoded}
 use native.Mathlib.Omega.{arith}
 use borrow.Author.Needs.{needs}
 use Rattle.external.proofs.coding.decode_input.Statement.{statement}
 use Rattle.external.proofs.coding.decode_input.Tie as tie
 
+decode-by-requires : tie.Need-decode-by-requires
+decode-by-requires c κs =
+    let part : tie.After-input-matrix-part = search in
+    let bytes : tie.After-shared-slice-known = search in
+    (omega arith, input-has _ _ (part .input-matrix-part .ensures) (λ i. bytes .shared-slice-known .given i .fits))
+
+returns : tie.Need-returns
+returns c =
+    let call : tie.After-decode-by = search in
+    let part : tie.After-input-matrix-part = search in
+    let entry : tie.Start = search in
+    let out = input-decoded _ (entry .args .block .now) (entry .args .out .now) (part .input-matrix-part .ensures) (call .decode-by .ensures .1) in
+    (call .decode-by .ensures .0, out)
+
+-- ---- the needs that the search closes
 input-matrix-part-requires : tie.Need-input-matrix-part-requires
 input-matrix-part-requires c κs = search needs
 
-decode-by-requires : tie.Need-decode-by-requires
-decode-by-requires c κs = (omega arith, λ a. (matrix-room 10 _ 3 (omega arith) (omega arith) _ (c .before .input-matrix-part .ensures) a, input-has 10 _ _ (λ i. c .before .before .before .before .shared-slice-known .given i .fits) (c .before .input-matrix-part .ensures) a))
-
 same-length : tie.Need-same-length
 same-length c = search needs
-
-returns : tie.Need-returns
-unfolding decodeInput
-returns c = (c .before .before .decode-by .ensures .0, c .before .before .decode-by .ensures .1 ∙ rw (c .before .before .before .before .input-matrix-part .ensures))
 
 pub decode-input-spec : {M : Type 1} → statement M
 decode-input-spec =

@@ -1,24 +1,32 @@
--- `external::coding::decode_output` meets its contract. Assumes nothing.
-use mathlib.Core.Path.{_∙_}
-use Rattle.external.specs.Coding.{decodeOutput}
-use Rattle.external.proofs.laws.Code.{matrix-room, output-first, output-has}
+-- `external::coding::decode_output`: `decode_by` with the bundle's output matrix and the encodings from 6,016 on, which is the output coding taken off
+-- (`output-decoded` of `laws.Code`). The matrix of an accepted bundle has its 2,048 bytes and an inverse (`output-has`).
+-- Assumes nothing.
+use Rattle.external.proofs.laws.Code.{output-has, output-decoded}
 use native.Mathlib.Omega.{arith}
 use borrow.Author.Needs.{needs}
 use Rattle.external.proofs.coding.decode_output.Statement.{statement}
 use Rattle.external.proofs.coding.decode_output.Tie as tie
 
+decode-by-requires : tie.Need-decode-by-requires
+decode-by-requires c κs =
+    let part : tie.After-output-matrix-part = search in
+    let bytes : tie.After-shared-slice-known = search in
+    (omega arith, output-has _ _ (part .output-matrix-part .ensures) (λ i. bytes .shared-slice-known .given i .fits))
+
+returns : tie.Need-returns
+returns c =
+    let call : tie.After-decode-by = search in
+    let part : tie.After-output-matrix-part = search in
+    let entry : tie.Start = search in
+    let out = output-decoded _ (entry .args .block .now) (entry .args .out .now) (part .output-matrix-part .ensures) (call .decode-by .ensures .1) in
+    (call .decode-by .ensures .0, out)
+
+-- ---- the needs that the search closes
 output-matrix-part-requires : tie.Need-output-matrix-part-requires
 output-matrix-part-requires c κs = search needs
 
-decode-by-requires : tie.Need-decode-by-requires
-decode-by-requires c κs = (omega arith, λ a. (matrix-room 10 _ 4 (omega arith) (omega arith) _ (c .before .output-matrix-part .ensures) a, output-has 10 _ _ (λ i. c .before .before .before .before .shared-slice-known .given i .fits) (c .before .output-matrix-part .ensures) a))
-
 same-length : tie.Need-same-length
 same-length c = search needs
-
-returns : tie.Need-returns
-unfolding decodeOutput
-returns c = (c .before .before .decode-by .ensures .0, c .before .before .decode-by .ensures .1 ∙ rw (c .before .before .before .before .output-matrix-part .ensures, ← output-first))
 
 pub decode-output-spec : {M : Type 1} → statement M
 decode-output-spec =

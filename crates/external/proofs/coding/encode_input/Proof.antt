@@ -1,24 +1,31 @@
--- `external::coding::encode_input` meets its contract. Assumes nothing.
-use mathlib.Core.Path.{_∙_}
-use Rattle.external.specs.Coding.{encodeInput}
-use Rattle.external.proofs.laws.Code.{matrix-room}
+-- `external::coding::encode_input`: `encode_by` with the bundle's input matrix and the encodings from 0 on, which is the input coding
+-- (`input-encoded` of `laws.Code`). The part of an accepted bundle that holds the matrix has its 2,048 bytes (`input-long`).
+-- Assumes nothing.
+use Rattle.external.proofs.laws.Code.{input-long, input-encoded}
 use native.Mathlib.Omega.{arith}
 use borrow.Author.Needs.{needs}
 use Rattle.external.proofs.coding.encode_input.Statement.{statement}
 use Rattle.external.proofs.coding.encode_input.Tie as tie
 
+encode-by-requires : tie.Need-encode-by-requires
+encode-by-requires c κs =
+    let part : tie.After-input-matrix-part = search in
+    (omega arith, input-long _ _ (part .input-matrix-part .ensures))
+
+returns : tie.Need-returns
+returns c =
+    let call : tie.After-encode-by = search in
+    let part : tie.After-input-matrix-part = search in
+    let entry : tie.Start = search in
+    let out = input-encoded _ (entry .args .block .now) (entry .args .out .now) (part .input-matrix-part .ensures) (call .encode-by .ensures .1) in
+    (call .encode-by .ensures .0, out)
+
+-- ---- the needs that the search closes
 input-matrix-part-requires : tie.Need-input-matrix-part-requires
 input-matrix-part-requires c κs = search needs
 
-encode-by-requires : tie.Need-encode-by-requires
-encode-by-requires c κs = (omega arith, matrix-room 10 _ 3 (omega arith) (omega arith) _ (c .before .input-matrix-part .ensures))
-
 same-length : tie.Need-same-length
 same-length c = search needs
-
-returns : tie.Need-returns
-unfolding encodeInput
-returns c = (c .before .before .encode-by .ensures .0, c .before .before .encode-by .ensures .1 ∙ rw (c .before .before .before .before .input-matrix-part .ensures))
 
 pub encode-input-spec : {M : Type 1} → statement M
 encode-input-spec =

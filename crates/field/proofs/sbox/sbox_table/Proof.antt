@@ -1,4 +1,6 @@
--- `field::sbox::sbox_table` meets its contract. Assumes nothing.
+-- `field::sbox::sbox_table` meets its contract. The constant is `sboxTable` of `laws.Tables`: a list is its entries, tabulated, and each is tested
+-- against the rule (`sbox-at` of `laws.Sbox`).
+-- Assumes nothing.
 use mathlib.Core.Path.{refl, sym, _∙_}
 use Rattle.bits.proofs.laws.Lists.{tabulate-at, tabulate-ext}
 use Rattle.field.proofs.laws.Tables.{sboxTable}

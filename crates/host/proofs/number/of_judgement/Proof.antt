@@ -1,12 +1,31 @@
--- `host::number::of_judgement` meets its contract. Assumes nothing.
-use Rattle.host.proofs.laws.Numbers.{cause-below}
-use Rattle.host.specs.Numbers.{secondOf, ofJudgement}
-use mathlib.Core.Path.{subst, sym, ap, _∙_}
-use Prim.Native.Nat.{_<_}
+-- `host::number::of_judgement`: 0 of an accepted bundle (`number-accepted` of `laws.Numbers`), else the refusal's two numbers put into one
+-- (`number-refused`). Its cause is below 16, and the number returned with it below 65,536 by the `requires`, so both fit (`refused-fits`).
+-- Assumes nothing.
+use Rattle.host.proofs.laws.Numbers.{number-accepted, refused-fits, number-refused}
 use borrow.Author.Needs.{needs}
 use Rattle.host.proofs.number.of_judgement.Statement.{statement}
 use Rattle.host.proofs.number.of_judgement.Tie as tie
 
+returns : tie.Need-returns
+returns c =
+    let told : tie.After-enum-told = search in
+    number-accepted (told .enum-told .given .1) (c .returned .ensures)
+
+returned-requires-2 : tie.Need-returned-requires-2
+returned-requires-2 c κs =
+    let cause : tie.After-cause = search in
+    let refused : tie.After-j = search in
+    let entry : tie.Start = search in
+    refused-fits (refused .j .given .1) (cause .cause .ensures) (c .second .ensures) (entry .pre)
+
+returns-2 : tie.Need-returns-2
+returns-2 c =
+    let second : tie.After-second = search in
+    let cause : tie.After-cause = search in
+    let refused : tie.After-j = search in
+    number-refused (refused .j .given .1) (cause .cause .ensures) (second .second .ensures) (c .returned2 .ensures)
+
+-- ---- the needs that the search closes
 enum-told : tie.Need-enum-told
 enum-told c = search needs
 
@@ -21,18 +40,6 @@ cause-requires c κs = search needs
 
 second-requires : tie.Need-second-requires
 second-requires c κs = search needs
-
-returned-requires-2 : tie.Need-returned-requires-2
-returned-requires-2 c κs = (
-  subst (λ n. n < 16) (sym (c .before .cause .ensures)) (cause-below (c .before .before .before .j .given .0 .0)),
-  subst (λ n. n < 65536) (sym (c .second .ensures)) (subst (λ j. secondOf j < 65536) (c .before .before .before .j .given .1) (c .before .before .before .before .before .pre)),
-)
-
-returns : tie.Need-returns
-returns c = c .returned .ensures ∙ ap ofJudgement (sym (c .before .enum-told .given .1))
-
-returns-2 : tie.Need-returns-2
-returns-2 c = c .returned2 .ensures ∙ rw (c .before .before .cause .ensures, c .before .second .ensures, c .before .before .before .before .j .given .1)
 
 pub of-judgement-spec : {M : Type 1} → statement M
 of-judgement-spec =

@@ -1,22 +1,32 @@
--- `inversion::elimination::find` meets its contract. Assumes nothing.
-use mathlib.Core.Path.{_≡_, refl, sym, ap, _∙_}
-use Prim.Native.Nat.{ℕ, _-_, _≤_, _/_, _%_, _^_}
-use Rattle.inversion.specs.Elimination.{pivotFrom}
-use Rattle.inversion.specs.Work.{leftAt}
-use Rattle.inversion.proofs.laws.Work.{pivot-here, pivot-on, pivot-end}
+-- `inversion::elimination::find` meets its contract. The loop's invariant, `Sought` of `laws.Loops`: of the rows from k on, none before row i
+-- has bit k. A turn reads bit k of row i: where it is 1, row i is the pivot (`sought-here`), else the search goes on (`sought-more`); behind
+-- the last row there is none (`sought-all`). The measure is the number of rows left.
+-- Assumes nothing.
+use Prim.Native.Nat.{_-_}
+use Rattle.inversion.proofs.laws.Loops.{Sought, sought-none, sought-here, sought-more, sought-all}
 use native.Mathlib.Omega.{arith}
 use Rattle.inversion.proofs.elimination.find.Statement.{statement}
 use Rattle.inversion.proofs.elimination.find.Tie as tie
 
 abbrev Inv-loop : tie.InvT-loop
-Inv-loop work n k i₀ i = (k ≤ i) × (i ≤ n) × (pivotFrom n k (leftAt work) (n - k) k ≡ pivotFrom n k (leftAt work) (n - i) i)
+Inv-loop work n k i₀ i = Sought n k work i
 
 abbrev μ-loop : tie.MeasureT-loop
 μ-loop work n k i₀ i = n - i
 
 loop-holds : tie.Need-loop-holds Inv-loop μ-loop
-loop-holds c = (omega arith, omega arith, refl)
+loop-holds c = search sought-none
 
+returns : tie.Need-returns Inv-loop μ-loop
+returns c = search sought-here
+
+loop-again : tie.Need-loop-again Inv-loop μ-loop
+loop-again c = search sought-more
+
+returns-2 : tie.Need-returns-2 Inv-loop μ-loop
+returns-2 c = search sought-all
+
+-- ---- the needs that the search closes
 mul-row : tie.Need-mul-row Inv-loop μ-loop
 mul-row c = omega arith
 
@@ -32,32 +42,11 @@ sub-digit-2 c = omega arith
 digit-requires : tie.Need-digit-requires Inv-loop μ-loop
 digit-requires c κs = omega arith
 
-returns : tie.Need-returns Inv-loop μ-loop
-returns c =
-    let L = c .before .before .before .before .loop in
-    let A = c .before .before .before .before .before .before .args in
-    pivot-here (A .n) (A .k) (leftAt (A .work .now)) (L .i) (c .before .digit .result) (omega arith) (c .before .digit .ensures ∙ ap (λ (x : ℕ). x / 2 ^ (A .n - 1 - A .k) % 2) (c .before .before .row .ensures)) (c .if1 .taken) ∙ sym (L .inv .2)
-
 add-i : tie.Need-add-i Inv-loop μ-loop
 add-i c = omega arith
 
 loop-less : tie.Need-loop-less Inv-loop μ-loop
 loop-less c = omega arith
-
-loop-again : tie.Need-loop-again Inv-loop μ-loop
-loop-again c =
-    let L = c .before .before .before .before .loop in
-    let A = c .before .before .before .before .before .before .args in (
-      omega arith,
-      omega arith,
-      L .inv .2 ∙ pivot-on (A .n) (A .k) (leftAt (A .work .now)) (L .i) (c .before .digit .result) (omega arith) (c .before .digit .ensures ∙ ap (λ (x : ℕ). x / 2 ^ (A .n - 1 - A .k) % 2) (c .before .before .row .ensures)) (c .if1 .left),
-    )
-
-returns-2 : tie.Need-returns-2 Inv-loop μ-loop
-returns-2 c =
-    let L = c .before .loop in
-    let A = c .before .before .before .args in
-    pivot-end (A .n) (A .k) (leftAt (A .work .now)) (L .i) (omega arith) ∙ sym (L .inv .2)
 
 pub find-spec : {M : Type 1} → statement M
 find-spec =

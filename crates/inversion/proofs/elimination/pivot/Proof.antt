@@ -1,16 +1,20 @@
--- `inversion::elimination::pivot` meets its contract. Assumes nothing.
-use mathlib.Core.List.{List}
-use mathlib.Core.Path.{_≡_, ap, _∙_}
-use Prim.Native.Nat.{ℕ, _-_, _/_, _%_, _^_}
-use Rattle.bits.specs.Lists.{tabulate}
-use Rattle.bits.proofs.laws.Lists.{tabulate-ext}
-use Rattle.inversion.specs.Work.{leftAt, rightAt, lefts, rights}
-use Rattle.inversion.proofs.laws.Work.{added-left, added-right, pivot-rows}
+-- `inversion::elimination::pivot` meets its contract. The digit read is bit k of row k on the left; row p is added to row k where that bit is
+-- 0, which is the step of `pivotBy` (`pivot-step` of `laws.Work`). Its premises are what the calls ensure.
+-- Assumes nothing.
+use Rattle.inversion.proofs.laws.Work.{pivot-step}
 use native.Mathlib.Omega.{arith}
 use borrow.Author.Needs.{needs}
 use Rattle.inversion.proofs.elimination.pivot.Statement.{statement}
 use Rattle.inversion.proofs.elimination.pivot.Tie as tie
 
+returns : tie.Need-returns
+returns c =
+    let added : tie.After-add-row = search in
+    let digit : tie.After-digit = search in
+    let row : tie.After-row = search in
+    pivot-step _ _ _ _ _ _ _ (omega arith) (row .row .ensures) (digit .digit .ensures) (added .add-row .ensures)
+
+-- ---- the needs that the search closes
 mul-row : tie.Need-mul-row
 mul-row c = search needs
 
@@ -34,19 +38,6 @@ add-row-requires c κs = search needs
 
 same-length : tie.Need-same-length
 same-length c = search needs
-
-returns : tie.Need-returns
-unfolding lefts rights
-returns c =
-    let A = c .before .before .before .before .before .before .before .before .args in
-    let m = A .work .now in
-    let b = c .before .before .before .before .digit .result in
-    let e : b ≡ leftAt m (A .k) / 2 ^ (A .n - 1 - A .k) % 2 = c .before .before .before .before .digit .ensures ∙ ap (λ (x : ℕ). x / 2 ^ (A .n - 1 - A .k) % 2) (c .before .before .before .before .before .row .ensures) in (
-      ap (λ (w : List ℕ). tabulate (A .n) (leftAt w)) (c .before .before .add-row .ensures)
-          ∙ tabulate-ext (A .n) _ _ (pivot-rows (A .n) (A .k) (A .p) (leftAt m) (leftAt m) _ b e (added-left m (A .k) (A .p) (1 - b) (omega arith))),
-      ap (λ (w : List ℕ). tabulate (A .n) (rightAt w)) (c .before .before .add-row .ensures)
-          ∙ tabulate-ext (A .n) _ _ (pivot-rows (A .n) (A .k) (A .p) (leftAt m) (rightAt m) _ b e (added-right m (A .k) (A .p) (1 - b) (omega arith))),
-    )
 
 pub pivot-spec : {M : Type 1} → statement M
 pivot-spec =

@@ -1,25 +1,39 @@
--- `inversion::elimination::start` meets its contract. Assumes nothing.
-use mathlib.Core.Path.{_≡_, refl, _∙_}
-use Prim.Native.Nat.{_-_, _≤_}
-use lib.ListN.{length}
-use Rattle.bits.proofs.laws.Lists.{tabulate-ext}
-use Rattle.matrices.specs.Matrices.{identity}
-use Rattle.matrices.specs.Rows.{rowsOf}
-use Rattle.inversion.specs.Work.{lefts, rights}
-use Rattle.inversion.proofs.laws.Work.{Started, started-none, started-more}
+-- `inversion::elimination::start` meets its contract. The loop's invariant, `Started` of `laws.Loops`: the first i rows of a stand on the left
+-- and those of the identity on the right, and the work area has kept its length. A turn stores row i of a and the vector whose only one is bit
+-- i (`started-more`); behind the last row both sides are whole (`started-all`). The measure is the number of rows left.
+-- Assumes nothing.
+use Prim.Native.Nat.{_-_}
+use Rattle.inversion.proofs.laws.Loops.{Started, started-none, started-more, started-all}
 use native.Mathlib.Omega.{arith}
 use Rattle.inversion.proofs.elimination.start.Statement.{statement}
 use Rattle.inversion.proofs.elimination.start.Tie as tie
 
 abbrev Inv-loop : tie.InvT-loop
-Inv-loop a work₀ n i₀ work i = (i ≤ n) × (length work ≡ length work₀) × Started n a i work
+Inv-loop a work₀ n i₀ work i = Started n a work₀ work i
 
 abbrev μ-loop : tie.MeasureT-loop
 μ-loop a work₀ n i₀ work i = n - i
 
 loop-holds : tie.Need-loop-holds Inv-loop μ-loop
-loop-holds c = (omega arith, refl, started-none _ _ _)
+loop-holds c = started-none
 
+loop-again : tie.Need-loop-again Inv-loop μ-loop
+loop-again c =
+    let right : tie.After-set-row2 Inv-loop μ-loop = search in
+    let one : tie.After-power Inv-loop μ-loop = search in
+    let left : tie.After-set-row Inv-loop μ-loop = search in
+    let row : tie.After-row Inv-loop μ-loop = search in
+    let turn : tie.In-loop Inv-loop μ-loop = search in
+    let entry : tie.Start Inv-loop μ-loop = search in
+    started-more (turn .before .loop .inv) (entry .pre .2) (turn .loop-test .taken)
+    (row .row .ensures) (left .set-row .ensures) (one .power .ensures) (right .set-row2 .ensures)
+
+returns : tie.Need-returns Inv-loop μ-loop
+returns c =
+    let end : tie.At-loop Inv-loop μ-loop = search in
+    started-all (end .loop .inv) (search)
+
+-- ---- the needs that the search closes
 mul-set-row : tie.Need-mul-set-row Inv-loop μ-loop
 mul-set-row c = omega arith
 
@@ -53,26 +67,8 @@ add-i c = omega arith
 loop-less : tie.Need-loop-less Inv-loop μ-loop
 loop-less c = omega arith
 
-loop-again : tie.Need-loop-again Inv-loop μ-loop
-loop-again c =
-    let L = c .before .before .before .before .before .before .before .before .before .before .before .loop in
-    let A = c .before .before .before .before .before .before .before .before .before .before .before .before .before .before .args in (
-      omega arith,
-      c .before .before .set-row2 .kept .0 ∙ c .before .before .before .before .before .before .before .set-row .kept .0 ∙ L .inv .1,
-      started-more (A .n) (A .a .now) (L .i) (L .work) (c .before .before .before .before .before .before .before .set-row .last .0) (c .before .before .set-row2 .last .0) _ _ (omega arith) (L .inv .2) (c .before .before .before .before .before .before .before .before .row .ensures) (c .before .before .before .power .ensures) (c .before .before .before .before .before .before .before .set-row .ensures) (c .before .before .set-row2 .ensures),
-    )
-
 same-length : tie.Need-same-length Inv-loop μ-loop
 same-length c = omega arith
-
-returns : tie.Need-returns Inv-loop μ-loop
-unfolding lefts rights rowsOf identity
-returns c =
-    let L = c .before .loop in
-    let A = c .before .before .before .before .args in (
-      tabulate-ext (A .n) _ _ (λ j h. L .inv .2 .left j (omega arith)),
-      tabulate-ext (A .n) _ _ (λ j h. L .inv .2 .right j (omega arith)),
-    )
 
 pub start-spec : {M : Type 1} → statement M
 start-spec =

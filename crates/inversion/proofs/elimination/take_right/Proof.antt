@@ -1,25 +1,30 @@
--- `inversion::elimination::take_right` meets its contract. Assumes nothing.
-use mathlib.Core.Path.{_≡_, refl, sym, ap, ap₂, _∙_}
-use mathlib.Core.List.{List}
-use Prim.Native.Nat.{ℕ, _-_, _≤_}
-use lib.ListN.{length}
-use Rattle.matrices.specs.Rows.{setRow, stored}
-use Rattle.matrices.proofs.laws.Rows.{stored-next}
+-- `inversion::elimination::take_right` meets its contract. The loop's invariant, `Stored` of matrices: the first i rows on the right of the
+-- work area are stored in b, which has kept its length. A turn stores row i (`stored-more`), and behind the last row all are (`stored-all`).
+-- The measure is the number of rows left.
+-- Assumes nothing.
+use Prim.Native.Nat.{_-_}
+use Rattle.matrices.proofs.laws.Rows.{Stored, stored-none, stored-more, stored-all}
 use Rattle.inversion.specs.Work.{rightAt}
 use native.Mathlib.Omega.{arith}
 use Rattle.inversion.proofs.elimination.take_right.Statement.{statement}
 use Rattle.inversion.proofs.elimination.take_right.Tie as tie
 
 abbrev Inv-loop : tie.InvT-loop
-Inv-loop work b₀ n i₀ b i = (i ≤ n) × (length b ≡ length b₀) × (b ≡ stored i (rightAt work) b₀)
+Inv-loop work b₀ n i₀ b i = Stored n (rightAt work) b₀ b i
 
 abbrev μ-loop : tie.MeasureT-loop
 μ-loop work b₀ n i₀ b i = n - i
 
 loop-holds : tie.Need-loop-holds Inv-loop μ-loop
-unfolding stored
-loop-holds c = (omega arith, refl, refl)
+loop-holds c = stored-none
 
+loop-again : tie.Need-loop-again Inv-loop μ-loop
+loop-again c = search stored-more
+
+returns : tie.Need-returns Inv-loop μ-loop
+returns c = search stored-all
+
+-- ---- the needs that the search closes
 mul-row : tie.Need-mul-row Inv-loop μ-loop
 mul-row c = omega arith
 
@@ -38,24 +43,8 @@ add-i c = omega arith
 loop-less : tie.Need-loop-less Inv-loop μ-loop
 loop-less c = omega arith
 
-loop-again : tie.Need-loop-again Inv-loop μ-loop
-loop-again c =
-    let L = c .before .before .before .before .before .before .loop in
-    let A = c .before .before .before .before .before .before .before .before .before .args in (
-      omega arith,
-      c .before .before .set-row .kept .0 ∙ L .inv .1,
-      c .before .before .set-row .ensures ∙ ap₂ (λ (x : List ℕ) (y : ℕ). setRow x (L .i) y) (L .inv .2) (c .before .before .before .row .ensures) ∙ sym (stored-next (L .i) (rightAt (A .work .now)) (A .b .now)),
-    )
-
 same-length : tie.Need-same-length Inv-loop μ-loop
 same-length c = omega arith
-
-returns : tie.Need-returns Inv-loop μ-loop
-returns c =
-    let L = c .before .loop in
-    let A = c .before .before .before .before .args in
-    let done : L .i ≡ A .n = omega arith in
-    L .inv .2 ∙ ap (λ (k : ℕ). stored k (rightAt (A .work .now)) (A .b .now)) done
 
 pub take-right-spec : {M : Type 1} → statement M
 take-right-spec =

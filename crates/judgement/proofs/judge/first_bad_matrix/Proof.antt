@@ -1,10 +1,22 @@
--- `judgement::judge::first_bad_matrix` meets its contract. Assumes nothing.
-use mathlib.Core.Path.{_∙_}
-use Rattle.judgement.proofs.laws.Judging.{section-search, section-room}
+-- `judgement::judge::first_bad_matrix` meets its contract. The section's matrices are searched; section, size and count are those of the calls before
+-- (`matrices-searched` of `laws.Judging`). The section has room for them all, as the frame is accepted (`matrices-asked`).
+-- Assumes nothing.
+use Rattle.judgement.proofs.laws.Judging.{matrices-asked, matrices-searched}
 use borrow.Author.Needs.{needs}
 use Rattle.judgement.proofs.judge.first_bad_matrix.Statement.{statement}
 use Rattle.judgement.proofs.judge.first_bad_matrix.Tie as tie
 
+first-singular-requires : tie.Need-first-singular-requires
+first-singular-requires c κs =
+    let size : tie.After-part-size = search in
+    let section : tie.After-section = search in
+    let entry : tie.Start = search in
+    matrices-asked 10 _ _ (section .section .ensures) (size .part-size .ensures .0) (c .part-count .ensures .0) _ (entry .pre)
+
+returns : tie.Need-returns
+returns c = matrices-searched 10 _ _ (search) (search) (search) _ (c .first-singular .ensures)
+
+-- ---- the needs that the search closes
 section-requires : tie.Need-section-requires
 section-requires c κs = search needs
 
@@ -13,12 +25,6 @@ part-size-requires c κs = search needs
 
 part-count-requires : tie.Need-part-count-requires
 part-count-requires c κs = search needs
-
-first-singular-requires : tie.Need-first-singular-requires
-first-singular-requires c κs = (c .before .before .before .before .pre .2, c .before .part-size .ensures .0 ∙ c .before .before .before .before .pre .3, section-room 10 _ _ _ _ _ (c .before .before .before .before .pre .0) (c .before .before .before .before .pre .1) (c .before .before .section .ensures) (c .before .part-size .ensures .0) (c .part-count .ensures .0))
-
-returns : tie.Need-returns
-returns c = section-search 10 _ _ _ _ _ _ _ (c .before .before .before .section .ensures) (c .before .before .part-size .ensures .0) (c .before .part-count .ensures .0) (c .first-singular .ensures)
 
 pub first-bad-matrix-spec : {M : Type 1} → statement M
 first-bad-matrix-spec =

@@ -1,11 +1,22 @@
--- `layers::inverses::inverse` meets its contract. Assumes nothing.
-use Rattle.matrices.proofs.laws.Stored.{read-rows}
-use Rattle.layers.proofs.laws.Code.{inverse-rows}
+-- `layers::inverses::inverse`: the bytes are read into rows and these are inverted; the matrix has an inverse by the `requires`, so `invert` leaves
+-- its rows (`inverse-left` of `laws.Inverses`, whose premises are what the calls ensure).
+-- Assumes nothing.
+use Rattle.layers.proofs.laws.Inverses.{inverse-left}
 use native.Mathlib.Omega.{arith}
 use borrow.Author.Needs.{needs}
 use Rattle.layers.proofs.inverses.inverse.Statement.{statement}
 use Rattle.layers.proofs.inverses.inverse.Tie as tie
 
+returns : tie.Need-returns
+returns c =
+    let inverted : tie.After-invert = search in
+    let read : tie.After-read = search in
+    let bytes : tie.After-shared-slice-known = search in
+    let entry : tie.Start = search in
+    inverse-left _ _ _ _ _ _ (λ i. bytes .shared-slice-known .given i .fits) (entry .pre .3) (omega arith) (read .read .ensures)
+    (entry .pre .2) (inverted .invert .ensures .1)
+
+-- ---- the needs that the search closes
 mul-n : tie.Need-mul-n
 mul-n c = search needs
 
@@ -23,11 +34,6 @@ invert-requires c κs = search needs
 
 same-length : tie.Need-same-length
 same-length c = search needs
-
-returns : tie.Need-returns
-returns c =
-    let A = c .before .before .before .before .before .before .before .before .before .before .args in
-    inverse-rows (A .w) (A .p .now) (c .before .before .before .before .before .before .read .last .1 .0) (A .b .now) _ (λ i. c .before .before .before .before .before .before .before .before .before .shared-slice-known .given i .fits) (omega arith) (c .before .before .before .before .before .before .before .before .before .before .pre .3) (read-rows (A .w) (A .p .now) _ _ (omega arith) (c .before .before .before .before .before .before .read .ensures)) (c .before .before .invert .ensures .1)
 
 pub inverse-spec : {M : Type 1} → statement M
 inverse-spec =

@@ -1,19 +1,59 @@
--- `layers::inverses::of_table` meets its contract. Assumes nothing.
-use mathlib.Core.Path.{_≡_, sym, ap, _∙_, subst}
-use Prim.Native.Nat.{ℕ}
-use lib.ListN.{length}
-use Rattle.bundle.specs.Format.{columnMatrix}
-use Rattle.inversion.specs.Elimination.{inverseOf}
-use Rattle.layers.specs.Layers.{roundOf, InverseFor}
-use Rattle.network.specs.declared.stage.Stage.{Stage}
+-- `layers::inverses::of_table`: by stage, each with a law of `laws.Inverses`: the entry's table needs the input matrix's inverse (`for-entry`), that
+-- of a second half its column matrix's, which has number 4 (r - 1) + j / 4 (`for-second`), that of a first half or of the exit none (`for-first`,
+-- `for-exit`); `Beyond` is never met (`never-beyond`). From table 16 on there is nothing to prove. A second half's round is 1 to 9 by the
+-- `requires` (`Round`).
+-- Assumes nothing.
+use Rattle.layers.proofs.laws.Inverses.{for-entry, for-first, for-second, for-exit}
+use Rattle.layers.proofs.laws.Numbers.{round-second, never-beyond}
 use native.Mathlib.Omega.{arith}
 use borrow.Author.Needs.{needs}
 use Rattle.layers.proofs.inverses.of_table.Statement.{statement}
 use Rattle.layers.proofs.inverses.of_table.Tie as tie
 
 returns : tie.Need-returns
-returns c = λ h. absurd (omega (arith, h, c .if1 .taken))
+returns c = λ h. absurd (omega arith)
 
+returns-2 : tie.Need-returns-2
+returns-2 c =
+    let call : tie.After-of-input = search in
+    let told : tie.After-enum-told = search in
+    let entry : tie.Start = search in
+    λ h. for-entry _ _ _ (told .enum-told .given .1) (omega (arith, call .of-input .kept, entry .pre)) (call .of-input .ensures)
+
+returns-3 : tie.Need-returns-3
+returns-3 c = λ h. for-first _ _ _ (c .enum-told2 .given .1)
+
+column-number-requires : tie.Need-column-number-requires
+column-number-requires c κs =
+    let half : tie.After-s = search in
+    let entry : tie.Start = search in
+    omega (arith, round-second (half .s .given .1) (entry .pre .1) (entry .pre .2))
+
+of-column-requires : tie.Need-of-column-requires
+of-column-requires c κs =
+    let number : tie.After-column-number = search in
+    let entry : tie.Start = search in
+    (entry .pre .0, number .column-number .ensures .1, omega (arith, entry .pre))
+
+returns-4 : tie.Need-returns-4
+returns-4 c =
+    let call : tie.After-of-column = search in
+    let number : tie.After-column-number = search in
+    let half : tie.After-s = search in
+    let entry : tie.Start = search in
+    λ h.
+    for-second _ _ _ (half .s .given .1) (number .column-number .ensures .0) (omega (arith, call .of-column .kept, entry .pre))
+    (call .of-column .ensures)
+
+returns-5 : tie.Need-returns-5
+returns-5 c = λ h. for-exit _ _ _ (c .enum-told3 .given .1)
+
+returns-6 : tie.Need-returns-6
+returns-6 c =
+    let entry : tie.Start = search in
+    absurd (never-beyond (c .enum-told4 .given .1) (entry .pre .1))
+
+-- ---- the needs that the search closes
 enum-told : tie.Need-enum-told
 enum-told c = search needs
 
@@ -26,12 +66,6 @@ enum-told-2 c = search needs
 enum-known-s : tie.Need-enum-known-s
 enum-known-s c = search needs
 
-column-number-requires : tie.Need-column-number-requires
-column-number-requires c κs = omega (arith, ap roundOf (c .before .s .given .1), c .before .before .before .before .before .before .pre, c .before .before .before .if1 .left)
-
-of-column-requires : tie.Need-of-column-requires
-of-column-requires c κs = (c .before .before .before .before .before .before .before .before .pre .0, c .before .column-number .ensures .1, omega (arith, c .before .before .before .before .before .before .before .before .pre))
-
 enum-told-3 : tie.Need-enum-told-3
 enum-told-3 c = search needs
 
@@ -41,35 +75,8 @@ enum-told-4 c = search needs
 same-length : tie.Need-same-length
 same-length c = search needs
 
-returns-2 : tie.Need-returns-2
-returns-2 c =
-    let A = c .before .before .before .before .before .before .before .before .before .args in
-    let long : length (c .before .before .of-input .last .1 .0) ≡ 256 = c .before .before .of-input .kept .1 .0 ∙ (c .before .before .before .before .before .before .before .before .before .pre) .3 in
-    λ h. subst (λ (t : Stage). InverseFor (A .bundle .now) t (A .j) (c .before .before .of-input .last .1 .0)) (sym (c .before .before .before .before .enum-told .given .1)) (omega arith, c .before .before .of-input .ensures)
-
-returns-3 : tie.Need-returns-3
-returns-3 c =
-    let A = c .before .before .before .before .before .args in
-    λ h. subst (λ (t : Stage). InverseFor (A .bundle .now) t (A .j) (A .dst .now)) (sym (c .enum-told2 .given .1)) tt
-
 same-length-2 : tie.Need-same-length-2
 same-length-2 c = search needs
-
-returns-4 : tie.Need-returns-4
-returns-4 c =
-    let A = c .before .before .before .before .before .before .before .before .before .before .before .args in
-    let D = c .before .before .of-column .last .1 .1 .0 in
-    let long : length D ≡ 256 = c .before .before .of-column .kept .1 .1 .0 ∙ c .before .before .before .before .before .before .before .before .before .before .before .pre .3 in
-    let rows = c .before .before .of-column .ensures ∙ ap (λ (n : ℕ). inverseOf 32 (columnMatrix 10 (A .bundle .now) n)) (c .before .before .before .before .column-number .ensures .0) in
-    λ h. subst (λ (t : Stage). InverseFor (A .bundle .now) t (A .j) D) (sym (c .before .before .before .before .before .before .s .given .1)) (omega arith, rows)
-
-returns-5 : tie.Need-returns-5
-returns-5 c =
-    let A = c .before .before .before .before .before .args in
-    λ h. subst (λ (t : Stage). InverseFor (A .bundle .now) t (A .j) (A .dst .now)) (sym (c .enum-told3 .given .1)) tt
-
-returns-6 : tie.Need-returns-6
-returns-6 c = absurd (omega (arith, ap roundOf (c .enum-told4 .given .1), c .before .before .before .before .before .pre))
 
 pub of-table-spec : {M : Type 1} → statement M
 of-table-spec =

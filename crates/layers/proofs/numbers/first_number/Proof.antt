@@ -1,38 +1,66 @@
--- `layers::numbers::first_number` meets its contract. Assumes nothing.
-use mathlib.Core.Path.{sym, ap}
-use Rattle.layers.specs.Layers.{roundOf}
-use Rattle.network.specs.Stages.{firstNumber}
+-- `layers::numbers::first_number`: by stage, as `firstNumber` of specs/ has it. In a half of round r the two laws `first-in-first` and
+-- `first-in-second` of `laws.Numbers` say so; r is 1 to 9 by the `requires` (`Round`), so nothing overflows or falls below 0. `Beyond` has no
+-- round, so it is never met (`never-beyond`).
+-- Assumes nothing.
+use Rattle.layers.proofs.laws.Numbers.{Round, round-first, round-second, never-beyond, first-in-first, first-in-second}
 use native.Mathlib.Omega.{arith}
 use borrow.Author.Needs.{needs}
 use Rattle.layers.proofs.numbers.first_number.Statement.{statement}
 use Rattle.layers.proofs.numbers.first_number.Tie as tie
 
+-- the round of a first half, and of a second half
+round : (c : tie.After-s) → Round (c .s .given .0 .0)
+round c =
+    let entry : tie.Start = search in
+    round-first (c .s .given .1) (entry .pre .0) (entry .pre .1)
+
+round-2 : (c : tie.After-s2) → Round (c .s2 .given .0 .0)
+round-2 c =
+    let entry : tie.Start = search in
+    round-second (c .s2 .given .1) (entry .pre .0) (entry .pre .1)
+
+sub-result : tie.Need-sub-result
+sub-result c = omega (arith, round (search))
+
+mul-result : tie.Need-mul-result
+mul-result c = omega (arith, round (search))
+
+add-result : tie.Need-add-result
+add-result c = omega (arith, round (search))
+
+sub-result-2 : tie.Need-sub-result-2
+sub-result-2 c = omega (arith, round-2 (search))
+
+mul-result-2 : tie.Need-mul-result-2
+mul-result-2 c = omega (arith, round-2 (search))
+
+add-result-2 : tie.Need-add-result-2
+add-result-2 c = omega (arith, round-2 (search))
+
+returns-2 : tie.Need-returns-2
+returns-2 c =
+    let half : tie.After-s = search in
+    first-in-first (half .s .given .1) (round half)
+
+returns-3 : tie.Need-returns-3
+returns-3 c =
+    let half : tie.After-s2 = search in
+    first-in-second (half .s2 .given .1) (round-2 half)
+
+returns-5 : tie.Need-returns-5
+returns-5 c =
+    let entry : tie.Start = search in
+    absurd (never-beyond (c .enum-told3 .given .1) (entry .pre .0))
+
+-- ---- the needs that the search closes
 enum-told : tie.Need-enum-told
 enum-told c = search needs
 
 enum-known-s : tie.Need-enum-known-s
 enum-known-s c = search needs
 
-sub-result : tie.Need-sub-result
-sub-result c = omega (arith, ap roundOf (c .before .s .given .1), c .before .before .before .pre)
-
-mul-result : tie.Need-mul-result
-mul-result c = omega (arith, ap roundOf (c .before .s .given .1), c .before .before .before .pre)
-
-add-result : tie.Need-add-result
-add-result c = omega (arith, ap roundOf (c .before .s .given .1), c .before .before .before .pre)
-
 enum-known-s-2 : tie.Need-enum-known-s-2
 enum-known-s-2 c = search needs
-
-sub-result-2 : tie.Need-sub-result-2
-sub-result-2 c = omega (arith, ap roundOf (c .before .s2 .given .1), c .before .before .before .pre)
-
-mul-result-2 : tie.Need-mul-result-2
-mul-result-2 c = omega (arith, ap roundOf (c .before .s2 .given .1), c .before .before .before .pre)
-
-add-result-2 : tie.Need-add-result-2
-add-result-2 c = omega (arith, ap roundOf (c .before .s2 .given .1), c .before .before .before .pre)
 
 enum-told-2 : tie.Need-enum-told-2
 enum-told-2 c = search needs
@@ -43,17 +71,8 @@ enum-told-3 c = search needs
 returns : tie.Need-returns
 returns c = search needs
 
-returns-2 : tie.Need-returns-2
-returns-2 c = (ap (firstNumber 10) (sym (c .before .s .given .1)), omega (arith, ap roundOf (c .before .s .given .1), c .before .before .before .pre))
-
-returns-3 : tie.Need-returns-3
-returns-3 c = (ap (firstNumber 10) (sym (c .before .s2 .given .1)), omega (arith, ap roundOf (c .before .s2 .given .1), c .before .before .before .pre))
-
 returns-4 : tie.Need-returns-4
 returns-4 c = search needs
-
-returns-5 : tie.Need-returns-5
-returns-5 c = absurd (omega (arith, ap roundOf (c .enum-told3 .given .1), c .before .before .pre))
 
 pub first-number-spec : {M : Type 1} → statement M
 first-number-spec =

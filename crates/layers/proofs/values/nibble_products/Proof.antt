@@ -1,25 +1,30 @@
--- `layers::values::nibble_products` meets its contract. Assumes nothing.
-use mathlib.Core.Path.{ap, _∙_}
+-- `layers::values::nibble_products` fills the 32 places. The loop's invariant is `Filled` of `bits`: place k has the product of the matrix and
+-- the k-th byte with one nibble (`nibbleProduct` of `laws.Values`). A turn stores one more (`products-more`); behind the last the list is whole
+-- (`filled-all`).
+-- Assumes nothing.
 use Prim.Native.Nat.{_-_}
-use Rattle.matrices.specs.Matrices.{product}
-use Rattle.matrices.specs.Rows.{rowsOf}
-use Rattle.bits.proofs.laws.Filled.{Filled, filled-none, filled-more, filled-all}
-use Rattle.entries.specs.Spread.{nibbleByte}
+use Rattle.bits.proofs.laws.Filled.{Filled, filled-none, filled-all}
+use Rattle.layers.proofs.laws.Values.{nibbleProduct, products-more}
 use native.Mathlib.Omega.{arith}
-use Rattle.entries.proofs.spread.nibble_byte.Reads as nibble-byte-reads
 use Rattle.layers.proofs.values.nibble_products.Statement.{statement}
 use Rattle.layers.proofs.values.nibble_products.Tie as tie
-use Rattle.layers.proofs.words.byte_by.Reads as byte-by-reads
 
 abbrev Inv-loop : tie.InvT-loop
-Inv-loop inverse dst₀ r₀ dst r = Filled 32 (λ r. product 8 (rowsOf 8 inverse) (nibbleByte r)) dst r
+Inv-loop inverse dst₀ r₀ dst r = Filled 32 (nibbleProduct inverse) dst r
 
 abbrev μ-loop : tie.MeasureT-loop
 μ-loop inverse dst₀ r₀ dst r = 32 - r
 
 loop-holds : tie.Need-loop-holds Inv-loop μ-loop
-loop-holds c = filled-none 32 _ _ ((c .before .before .pre) .1)
+loop-holds c = search filled-none
 
+loop-again : tie.Need-loop-again Inv-loop μ-loop
+loop-again c = search products-more
+
+returns : tie.Need-returns Inv-loop μ-loop
+returns c = search filled-all
+
+-- ---- the needs that the search closes
 nibble-byte-requires : tie.Need-nibble-byte-requires Inv-loop μ-loop
 nibble-byte-requires c κs = omega arith
 
@@ -35,14 +40,8 @@ add-r c = omega arith
 loop-less : tie.Need-loop-less Inv-loop μ-loop
 loop-less c = omega arith
 
-loop-again : tie.Need-loop-again Inv-loop μ-loop
-loop-again c = filled-more (c .before .before .before .loop .inv) (omega arith) (c .byte-by .ensures ∙ ap (product 8 (rowsOf 8 (c .before .before .before .before .before .before .args .inverse .now))) (c .before .nibble-byte .ensures))
-
 same-length : tie.Need-same-length Inv-loop μ-loop
 same-length c = omega arith
-
-returns : tie.Need-returns Inv-loop μ-loop
-returns c = filled-all (c .before .loop .inv) (omega arith)
 
 pub nibble-products-spec : {M : Type 1} → statement M
 nibble-products-spec =

@@ -1,27 +1,34 @@
--- `layers::values::substitute` meets its contract. Assumes nothing.
-use mathlib.Core.Path.{ap, _∙_}
-use Prim.Native.Nat.{ℕ, _-_}
-use lib.Bits.{bitXor}
-use Rattle.bits.specs.Lists.{at}
-use Rattle.bits.proofs.laws.Filled.{Filled, filled-none, filled-more, filled-all}
-use Rattle.matrices.specs.Matrices.{product}
-use Rattle.matrices.specs.Rows.{rowsOf}
-use Rattle.field.specs.Sbox.{sboxOf}
-use Rattle.layers.proofs.laws.Code.{substituted-is}
+-- `layers::values::substitute` fills the 256 places. The loop's invariant is `Filled` of `bits`: place k has byte k of `read` behind the S-box
+-- (`behindAt` of `laws.Values`). A turn puts one more byte through the products of its nibbles and the S-box as a table, which
+-- `nibble_products` and `sbox_table` have made (`substituted-more`); behind the last the list is whole (`filled-all`). The sum that is looked up
+-- is a byte since `before` is one.
+-- Assumes nothing.
+use Prim.Native.Nat.{_-_, _<_}
+use Rattle.bits.proofs.laws.Filled.{Filled, filled-none, filled-all}
+use Rattle.layers.proofs.laws.Values.{behindAt, substituted-more}
 use native.Mathlib.Omega.{arith}
-use Rattle.bits.proofs.encoding.widened.Reads as widened-reads
-use Rattle.field.proofs.sbox_table.Reads as sbox-table-reads
 use Rattle.layers.proofs.values.substitute.Statement.{statement}
 use Rattle.layers.proofs.values.substitute.Tie as tie
-use Rattle.layers.proofs.values.nibble_products.Reads as nibble-products-reads
-use Rattle.layers.proofs.values.substituted.Reads as substituted-reads
 
 abbrev Inv-loop : tie.InvT-loop
-Inv-loop inverse before behind read dst₀ products sbox x₀ dst x = Filled 256 (λ k. bitXor (sboxOf (bitXor (product 8 (rowsOf 8 inverse) (at read k)) before)) behind) dst x
+Inv-loop inverse before behind read dst₀ products sbox x₀ dst x = Filled 256 (behindAt inverse before behind read) dst x
 
 abbrev μ-loop : tie.MeasureT-loop
 μ-loop inverse before behind read dst₀ products sbox x₀ dst x = 256 - x
 
+loop-holds : tie.Need-loop-holds Inv-loop μ-loop
+loop-holds c = search filled-none
+
+loop-again : tie.Need-loop-again Inv-loop μ-loop
+loop-again c =
+    let entry : tie.Start Inv-loop μ-loop = search in
+    let byte : entry .args .before < 256 = omega (arith, entry .fits) in
+    search substituted-more
+
+returns : tie.Need-returns Inv-loop μ-loop
+returns c = search filled-all
+
+-- ---- the needs that the search closes
 slice-aggregate-nibble-products : tie.Need-slice-aggregate-nibble-products Inv-loop μ-loop
 slice-aggregate-nibble-products c = omega arith
 
@@ -30,9 +37,6 @@ nibble-products-requires c κs = omega arith
 
 sbox-table-requires : tie.Need-sbox-table-requires Inv-loop μ-loop
 sbox-table-requires c κs = omega arith
-
-loop-holds : tie.Need-loop-holds Inv-loop μ-loop
-loop-holds c = filled-none 256 _ _ ((c .before .before .before .before .before .before .before .pre) .2)
 
 shared-slice-read-widened : tie.Need-shared-slice-read-widened Inv-loop μ-loop
 shared-slice-read-widened c = omega arith
@@ -58,19 +62,8 @@ add-x c = omega arith
 loop-less : tie.Need-loop-less Inv-loop μ-loop
 loop-less c = omega arith
 
-loop-again : tie.Need-loop-again Inv-loop μ-loop
-loop-again c =
-    let A = c .before .before .before .before .before .before .before .before .before .before .before .before .before .before .args in
-    let L = c .before .before .before .before .before .before .loop in
-    filled-more (L .inv) (omega arith)
-    (c .substituted .ensures
-    ∙ ap (λ (z : ℕ). bitXor z (A .behind)) (substituted-is (rowsOf 8 (A .inverse .now)) (c .before .before .before .before .before .before .before .before .before .nibble-products .last .1 .0) (c .before .before .before .before .before .before .before .sbox-table .result) (A .before) _ (c .before .before .before .widened .result) (c .before .before .before .before .before .before .before .before .before .nibble-products .ensures) (c .before .before .before .before .before .before .before .sbox-table .ensures) (c .before .before .before .widened .ensures .1) (omega arith) (c .before .before .before .widened .ensures .0)))
-
 same-length : tie.Need-same-length Inv-loop μ-loop
 same-length c = omega arith
-
-returns : tie.Need-returns Inv-loop μ-loop
-returns c = filled-all (c .before .loop .inv) (omega arith)
 
 pub substitute-spec : {M : Type 1} → statement M
 substitute-spec =

@@ -1,13 +1,15 @@
--- `layers::values::substituted` meets its contract. Assumes nothing.
-use mathlib.Core.Path.{ap}
-use Prim.Native.Nat.{ℕ}
-use lib.Bits.{bitXor}
-use Rattle.bits.specs.Lists.{at}
+-- `layers::values::substituted` adds the products of the two nibbles of x and the key byte, and looks the sum up in the S-box: the contract
+-- written out, but for `widened`, which only makes the sum an index. That it is one of the 256 places `widened` ensures; that the nibbles are
+-- places of the 32 products follows from x below 256.
+-- Assumes nothing.
 use native.Mathlib.Omega.{arith}
 use Rattle.layers.proofs.values.substituted.Statement.{statement}
 use Rattle.layers.proofs.values.substituted.Tie as tie
-use Rattle.bits.proofs.encoding.widened.Reads as widened-reads
 
+returns : tie.Need-returns
+returns c = cc
+
+-- ---- the needs that the search closes
 shared-slice-read-y : tie.Need-shared-slice-read-y
 shared-slice-read-y c = omega arith
 
@@ -22,9 +24,6 @@ widened-requires c κs = omega arith
 
 shared-slice-read-result : tie.Need-shared-slice-read-result
 shared-slice-read-result c = omega arith
-
-returns : tie.Need-returns
-returns c = ap (λ (z : ℕ). bitXor (at (c .before .before .before .before .before .before .args .sbox .now) z) (c .before .before .before .before .before .before .args .behind)) (c .before .widened .ensures .0)
 
 pub substituted-spec : {M : Type 1} → statement M
 substituted-spec =

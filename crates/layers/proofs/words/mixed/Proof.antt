@@ -1,26 +1,30 @@
--- `layers::words::mixed` meets its contract. Assumes nothing.
-use mathlib.Core.Path.{_≡_, refl, ap, _∙_}
-use Prim.Native.Nat.{ℕ, _-_, _≤_}
-use lib.ListN.{length, take, length-set}
-use Rattle.round.specs.State.{mixRows, entry}
-use Rattle.bits.specs.Lists.{tabulate}
-use Rattle.bits.proofs.laws.Lists.{fill-more}
-use Rattle.field.specs.Field.{mul}
-use Rattle.layers.proofs.laws.Code.{front-number}
+-- `layers::words::mixed` fills the first four of 16 places, then reads them as a vector. The loop's invariant is `Filled` of `bits`, with `mixedBy` of
+-- `laws.Words`: place t has row t of column q of MixColumns times y. A turn stores one more such product (`mixed-more`); the number of the
+-- first four places is what is asked (`filled-number`).
+-- Assumes nothing.
+use Prim.Native.Nat.{_-_}
+use Rattle.bits.proofs.laws.Filled.{Filled, filled-none}
+use Rattle.layers.proofs.laws.Words.{mixedBy, mixed-more, filled-number}
 use native.Mathlib.Omega.{arith}
 use Rattle.layers.proofs.words.mixed.Statement.{statement}
 use Rattle.layers.proofs.words.mixed.Tie as tie
 
 abbrev Inv-loop : tie.InvT-loop
-Inv-loop q y b₀ t₀ b t = (t ≤ 4) × (length b ≡ 16) × (take t b ≡ tabulate t (λ k. mul (entry mixRows k q) y))
+Inv-loop q y b₀ t₀ b t = Filled 16 (mixedBy q y) b t
 
 abbrev μ-loop : tie.MeasureT-loop
 μ-loop q y b₀ t₀ b t = 4 - t
 
 loop-holds : tie.Need-loop-holds Inv-loop μ-loop
-unfolding tabulate
-loop-holds c = (omega arith, refl, refl)
+loop-holds c = search filled-none
 
+loop-again : tie.Need-loop-again Inv-loop μ-loop
+loop-again c = search mixed-more
+
+returns : tie.Need-returns Inv-loop μ-loop
+returns c = search filled-number
+
+-- ---- the needs that the search closes
 coefficient-requires : tie.Need-coefficient-requires Inv-loop μ-loop
 coefficient-requires c κs = omega arith
 
@@ -36,27 +40,11 @@ add-t c = omega arith
 loop-less : tie.Need-loop-less Inv-loop μ-loop
 loop-less c = omega arith
 
-loop-again : tie.Need-loop-again Inv-loop μ-loop
-loop-again c =
-    let L = c .before .before .before .loop in
-    let A = c .before .before .before .before .args in (
-      omega arith,
-      simp length-set (L .inv .1),
-      fill-more (L .b) (L .t) (λ k. mul (entry mixRows k (A .q)) (A .y)) (c .product .result) (omega arith) (L .inv .2) (c .product .ensures ∙ ap (λ (x : ℕ). mul x (A .y)) (c .before .coefficient .ensures)),
-    )
-
 slice-aggregate-read : tie.Need-slice-aggregate-read Inv-loop μ-loop
 slice-aggregate-read c = omega arith
 
 read-requires : tie.Need-read-requires Inv-loop μ-loop
 read-requires c κs = omega arith
-
-returns : tie.Need-returns Inv-loop μ-loop
-returns c =
-    let L = c .before .before .before .loop in
-    let A = c .before .before .before .before .args in
-    let done : L .t ≡ 4 = omega arith in
-    c .read .ensures ∙ front-number 4 (L .b) (λ k. mul (entry mixRows k (A .q)) (A .y)) (rw done at (L .inv .2))
 
 pub mixed-spec : {M : Type 1} → statement M
 mixed-spec =

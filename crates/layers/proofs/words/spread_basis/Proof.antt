@@ -1,30 +1,39 @@
--- `layers::words::spread_basis` meets its contract. Assumes nothing.
-use mathlib.Core.List.{List}
-use mathlib.Core.Path.{_≡_, refl, sym, ap, ap₂, _∙_}
-use Prim.Native.Nat.{ℕ, _+_, _-_, _*_, _^_, _≤_}
-use lib.ListN.{length}
-use Rattle.bits.specs.Bytes.{number, byte, placed}
-use Rattle.matrices.specs.Matrices.{product}
-use Rattle.matrices.specs.Rows.{rowsOf, setRow, stored}
-use Rattle.matrices.proofs.laws.Rows.{stored-next}
-use Rattle.bundle.specs.Format.{byteMatrix}
-use Rattle.layers.proofs.laws.Code.{byte-section-long, byte-matrices-in}
+-- `layers::words::spread_basis` writes eight rows, for the bytes 2^0 to 2^7. The loop's invariant, `Basis` of `laws.Bases`: the rows below k
+-- are the words of their bytes (`spreadWord`). A turn places 2^k at i of n bytes, multiplies it by the matrix m and each byte by its byte
+-- matrix, which makes the word (`spread-row`), and stores it as row k (`basis-more`); behind row 7 the basis is whole (`basis-all`). The section
+-- that `by_bytes` asks for has 160 byte matrices, since the bundle's frame is right (`byte-section-long`).
+-- Assumes nothing.
+use Prim.Native.Nat.{_-_}
+use Rattle.layers.proofs.laws.Bases.{Basis, basis-none, basis-more, basis-all, spreadWord, byte-section-long, spread-row}
 use native.Mathlib.Omega.{arith}
+use borrow.Author.Needs.{needs}
 use Rattle.layers.proofs.words.spread_basis.Statement.{statement}
 use Rattle.layers.proofs.words.spread_basis.Tie as tie
 
 abbrev Inv-loop : tie.InvT-loop
-Inv-loop bundle m n i first basis₀ section k₀ basis k = (k ≤ 8) × (length basis ≡ 16) × (basis ≡ stored k (λ i₁. number n (λ j. product 8 (byteMatrix 10 bundle (first + j)) (byte n j (product (8 * n) (rowsOf (8 * n) m) (placed n i (2 ^ i₁)))))) basis₀)
+Inv-loop bundle m n i first basis₀ section k₀ basis k = Basis (spreadWord bundle m n i first) basis₀ basis k
 
 abbrev μ-loop : tie.MeasureT-loop
 μ-loop bundle m n i first basis₀ section k₀ basis k = 8 - k
 
+loop-holds : tie.Need-loop-holds Inv-loop μ-loop
+loop-holds c = search basis-none
+
+by-bytes-requires : tie.Need-by-bytes-requires Inv-loop μ-loop
+by-bytes-requires c κs = search (byte-section-long, needs)
+
+loop-again : tie.Need-loop-again Inv-loop μ-loop
+loop-again c = search (basis-more, spread-row)
+
+returns : tie.Need-returns Inv-loop μ-loop
+returns c =
+    let all : tie.After-loop Inv-loop μ-loop = search in
+    let rows : tie.At-loop Inv-loop μ-loop = search in
+    basis-all (rows .loop .inv) (all .loop-test .left)
+
+-- ---- the needs that the search closes
 section-requires : tie.Need-section-requires Inv-loop μ-loop
 section-requires c κs = omega arith
-
-loop-holds : tie.Need-loop-holds Inv-loop μ-loop
-unfolding stored
-loop-holds c = (omega arith, (c .before .before .before .before .pre) .5, refl)
 
 mul-multiply : tie.Need-mul-multiply Inv-loop μ-loop
 mul-multiply c = omega arith
@@ -38,9 +47,6 @@ placed-requires c κs = omega arith
 multiply-requires : tie.Need-multiply-requires Inv-loop μ-loop
 multiply-requires c κs = omega arith
 
-by-bytes-requires : tie.Need-by-bytes-requires Inv-loop μ-loop
-by-bytes-requires c κs = (byte-section-long (c .before .before .before .before .before .before .before .before .before .before .args .bundle .now) _ (c .before .before .before .before .before .before .section .ensures) ((c .before .before .before .before .before .before .before .before .before .before .pre) .0), omega arith, omega arith)
-
 set-row-requires : tie.Need-set-row-requires Inv-loop μ-loop
 set-row-requires c κs = omega arith
 
@@ -50,25 +56,8 @@ add-k c = omega arith
 loop-less : tie.Need-loop-less Inv-loop μ-loop
 loop-less c = omega arith
 
-loop-again : tie.Need-loop-again Inv-loop μ-loop
-loop-again c =
-    let L = c .before .before .before .before .before .before .before .before .before .loop in
-    let A = c .before .before .before .before .before .before .before .before .before .before .before .before .before .before .args in
-    let n = A .n in
-    let v = c .before .before .before .before .before .multiply .ensures ∙ ap (product (8 * n) (rowsOf (8 * n) (A .m .now))) (c .before .before .before .before .before .before .placed .ensures ∙ ap (placed n (A .i)) (c .before .before .before .before .before .before .before .power .ensures)) in
-    let is = c .before .before .before .by-bytes .ensures ∙ ap₂ (λ (f : ℕ → List ℕ) (x : ℕ). number n (λ j. product 8 (f (A .first + j)) (byte n j x))) (byte-matrices-in (A .bundle .now) _ (c .before .before .before .before .before .before .before .before .before .before .section .ensures)) v in (
-      omega arith,
-      c .before .before .set-row .kept .0 ∙ L .inv .1,
-      c .before .before .set-row .ensures ∙ ap₂ (λ (t : List ℕ) (x : ℕ). setRow t (L .k) x) (L .inv .2) is ∙ sym (stored-next (L .k) _ (A .basis .now)),
-    )
-
 same-length : tie.Need-same-length Inv-loop μ-loop
 same-length c = omega arith
-
-returns : tie.Need-returns Inv-loop μ-loop
-returns c =
-    let done : c .before .loop .k ≡ 8 = omega arith in
-    rw done at (c .before .loop .inv .2)
 
 pub spread-basis-spec : {M : Type 1} → statement M
 spread-basis-spec =

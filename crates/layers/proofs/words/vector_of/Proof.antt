@@ -1,4 +1,5 @@
--- `layers::words::vector_of` meets its contract. Assumes nothing.
+-- `layers::words::vector_of` puts x into the low word and 0 into the high one, so the two words' number (`wide`) is x.
+-- Assumes nothing.
 use Rattle.bits.specs.Words.{wide}
 use native.Mathlib.Omega.{arith}
 use Rattle.layers.proofs.words.vector_of.Statement.{statement}

@@ -1,39 +1,46 @@
--- `lookups::area::spread` meets its contract. Assumes nothing.
-use mathlib.Core.Path.{_≡_, ap, _∙_}
-use Prim.Native.Nat.{_+_, _-_, _*_, _≤_}
-use native.Mathlib.Nat.{mul-le-mul-right}
-use lib.ListN.{length, drop, length-drop}
-use lib.Seq.{paste, paste-zero, length-paste}
-use Rattle.lookups.proofs.laws.Area.{copy-more}
+-- `lookups::area::spread` meets its contract. The loop copies a word of the table into the area, byte by byte: the invariant is `Pasted` of
+-- `laws.Area`, which also holds that word p ends within the area and the word of byte s within the table (`pasted-none`, `pasted-more`). Behind
+-- the last byte the word is copied (`pasted-all`, `length-pasted`). No product wraps: a word has at most 16 bytes, and there are 256 of them.
+-- Assumes nothing.
+use Prim.Native.Nat.{_-_}
+use Rattle.bits.proofs.laws.Multiples.{product-le}
+use Rattle.lookups.proofs.laws.Area.{Pasted, pasted-none, pasted-more, pasted-all, length-pasted}
 use native.Mathlib.Omega.{arith}
+use borrow.Author.Needs.{needs}
 use Rattle.lookups.proofs.area.spread.Statement.{statement}
 use Rattle.lookups.proofs.area.spread.Tie as tie
 
 abbrev Inv-loop : tie.InvT-loop
-Inv-loop area₀ table width p s to from b₀ area b = (b ≤ width) × (to + width ≤ 256) × (from + width ≤ length table) × (length area₀ ≡ 256) × (area ≡ paste area₀ to (drop from table) b)
+Inv-loop area₀ table width p s to from b₀ area b = Pasted area₀ table to from width area b
 
 abbrev μ-loop : tie.MeasureT-loop
 μ-loop area₀ table width p s to from b₀ area b = width - b
 
 mul-to : tie.Need-mul-to Inv-loop μ-loop
-mul-to c = record { fits = omega (arith, mul-le-mul-right (c .before .args .width) (c .before .pre .2)) }
-
-widened-requires : tie.Need-widened-requires Inv-loop μ-loop
-widened-requires c κs = omega arith
+mul-to c =
+    let entry : tie.Start Inv-loop μ-loop = search in
+    omega (arith, product-le (entry .args .p) (entry .args .width) 15 16 (omega arith) (omega arith))
 
 mul-from : tie.Need-mul-from Inv-loop μ-loop
-mul-from c = record { fits = omega (arith, mul-le-mul-right (c .before .before .args .width) (c .widened .ensures .1)) }
+mul-from c =
+    let entry : tie.Start Inv-loop μ-loop = search in
+    omega (arith, product-le (c .widened .result) (entry .args .width) 255 16 (omega arith) (omega arith))
 
 loop-holds : tie.Need-loop-holds Inv-loop μ-loop
-loop-holds c =
-    let w = c .before .before .args .width in
-    let e : c .widened .result ≡ c .before .before .args .s = c .widened .ensures .0 in (
-      omega arith,
-      omega (arith, mul-le-mul-right w (c .before .before .pre .2)),
-      omega (arith, mul-le-mul-right w (c .widened .ensures .1)),
-      c .before .before .pre .0,
-      paste-zero (c .before .before .args .area .now) (c .before .before .args .p * w) (drop (c .widened .result * w) (c .before .before .args .table .now)),
-    )
+loop-holds c = pasted-none _ _ _ _ _ (search) (search) (search) (search) (search)
+
+loop-again : tie.Need-loop-again Inv-loop μ-loop
+loop-again c = search pasted-more
+
+returns : tie.Need-returns Inv-loop μ-loop
+returns c =
+    let copied : tie.At-loop Inv-loop μ-loop = search in
+    let widened : tie.After-widened Inv-loop μ-loop = search in
+    (rw (widened .widened .ensures .0) at (pasted-all (copied .loop .inv) (search)), length-pasted (copied .loop .inv) (search))
+
+-- ---- the needs that the search closes
+widened-requires : tie.Need-widened-requires Inv-loop μ-loop
+widened-requires c κs = search needs
 
 add-area : tie.Need-add-area Inv-loop μ-loop
 add-area c = omega arith
@@ -52,27 +59,6 @@ add-b c = omega arith
 
 loop-less : tie.Need-loop-less Inv-loop μ-loop
 loop-less c = omega arith
-
-loop-again : tie.Need-loop-again Inv-loop μ-loop
-loop-again c =
-    let L = c .before .before .loop in
-    let A = c .before .before .before .before .before .args in (
-      omega arith,
-      L .inv .1,
-      L .inv .2,
-      L .inv .3,
-      copy-more (A .area .now) (A .table .now) (L .area) (A .p * A .width) (c .before .before .before .widened .result * A .width) (L .b) (L .inv .4) (omega arith) (omega arith),
-    )
-
-returns : tie.Need-returns Inv-loop μ-loop
-returns c =
-    let L = c .before .loop in
-    let A = c .before .before .before .before .args in
-    let d : L .b ≡ A .width = omega arith in
-    let e : L .area ≡ paste (A .area .now) (A .p * A .width) (drop (c .before .before .widened .result * A .width) (A .table .now)) (A .width) = L .inv .4 ∙ ap (paste (A .area .now) (A .p * A .width) (drop (c .before .before .widened .result * A .width) (A .table .now))) d in (
-      e ∙ cc,
-      ap length e ∙ length-paste (A .area .now) (A .p * A .width) (drop (c .before .before .widened .result * A .width) (A .table .now)) (A .width) (omega arith) (omega (arith, length-drop (c .before .before .widened .result * A .width) (A .table .now))),
-    )
 
 pub spread-spec : {M : Type 1} → statement M
 spread-spec =

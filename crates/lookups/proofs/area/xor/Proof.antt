@@ -1,9 +1,16 @@
--- `lookups::area::xor` meets its contract. Assumes nothing.
+-- `lookups::area::xor` meets its contract. The code reads two nibbles, looks their entry up and writes it over the first: `setNibble` and `nibble`,
+-- written out, so the result is the calls' equations put together.
+-- Assumes nothing.
 use Rattle.bits.specs.Nibbles.{nibble, setNibble}
 use borrow.Author.Needs.{needs}
 use Rattle.lookups.proofs.area.xor.Statement.{statement}
 use Rattle.lookups.proofs.area.xor.Tie as tie
 
+returns : tie.Need-returns
+unfolding nibble setNibble
+returns c = cc
+
+-- ---- the needs that the search closes
 element-copy-out-half-of : tie.Need-element-copy-out-half-of
 element-copy-out-half-of c = search needs
 
@@ -27,10 +34,6 @@ with-half-requires c κs = search needs
 
 element-write-area : tie.Need-element-write-area
 element-write-area c = search needs
-
-returns : tie.Need-returns
-unfolding nibble setNibble
-returns c = cc
 
 pub xor-spec : {M : Type 1} → statement M
 xor-spec =

@@ -1,9 +1,16 @@
--- `lookups::area::xor_byte` meets its contract. Assumes nothing.
+-- `lookups::area::xor_byte` meets its contract. The code reads two bytes, looks up an entry for the high halves and one for the low halves, and
+-- writes both as one byte: `xorByte`, written out, so the result is the calls' equations put together.
+-- Assumes nothing.
 use Rattle.lookups.specs.InPlace.{xorByte}
 use borrow.Author.Needs.{needs}
 use Rattle.lookups.proofs.area.xor_byte.Statement.{statement}
 use Rattle.lookups.proofs.area.xor_byte.Tie as tie
 
+returns : tie.Need-returns
+unfolding xorByte
+returns c = cc
+
+-- ---- the needs that the search closes
 element-copy-out-a : tie.Need-element-copy-out-a
 element-copy-out-a c = search needs
 
@@ -36,10 +43,6 @@ add-area c = search needs
 
 element-write-area : tie.Need-element-write-area
 element-write-area c = search needs
-
-returns : tie.Need-returns
-unfolding xorByte
-returns c = cc
 
 pub xor-byte-spec : {M : Type 1} → statement M
 xor-byte-spec =

@@ -1,9 +1,16 @@
--- `lookups::area::xor_entry` meets its contract. Assumes nothing.
+-- `lookups::area::xor_entry` meets its contract. The number 16a + b, the byte that holds that entry and its half: `nibble` of the packed byte,
+-- written out, so the result is the calls' equations put together.
+-- Assumes nothing.
 use Rattle.bits.specs.Nibbles.{nibble}
 use borrow.Author.Needs.{needs}
 use Rattle.lookups.proofs.area.xor_entry.Statement.{statement}
 use Rattle.lookups.proofs.area.xor_entry.Tie as tie
 
+returns : tie.Need-returns
+unfolding nibble
+returns c = (cc, search needs)
+
+-- ---- the needs that the search closes
 widened-requires : tie.Need-widened-requires
 widened-requires c κs = search needs
 
@@ -21,10 +28,6 @@ shared-slice-read-half-of c = search needs
 
 half-of-requires : tie.Need-half-of-requires
 half-of-requires c κs = search needs
-
-returns : tie.Need-returns
-unfolding nibble
-returns c = (cc, search needs)
 
 pub xor-entry-spec : {M : Type 1} → statement M
 xor-entry-spec =

@@ -1,34 +1,44 @@
--- `lookups::layer::layer_in` meets its contract. Assumes nothing.
-use mathlib.Core.Path.{sym, subst}
-use Prim.Native.Nat.{ℕ, _+_, _≤_}
-use Rattle.network.specs.Sizes.{layerBytes}
-use Rattle.network.specs.Stages.{shapeAt, shifted}
+-- `lookups::layer::layer_in` meets its contract. The calls make all spread lookups, all XOR lookups, take the sums and clear the area; each ensures
+-- its part, and `sums-are` of `laws.Whole` puts them together. What they ask is in the `requires`, at the width that `width_of` ensures.
+-- Assumes nothing.
 use Rattle.lookups.proofs.laws.Whole.{sums-are}
 use borrow.Author.Needs.{needs}
 use Rattle.lookups.proofs.layer.layer_in.Statement.{statement}
 use Rattle.lookups.proofs.layer.layer_in.Tie as tie
 
+xor-all-requires : tie.Need-xor-all-requires
+xor-all-requires c κs =
+    let spread : tie.After-spread-all = search in
+    let width : tie.After-width-of = search in
+    let entry : tie.Start = search in
+    let same = width .width-of .ensures .0 in
+    (entry .pre .0, rw same (entry .pre .1), spread .spread-all .ensures .1, rw same (entry .pre .2))
+
+take-sums-requires : tie.Need-take-sums-requires
+take-sums-requires c κs =
+    let width : tie.After-width-of = search in
+    let entry : tie.Start = search in
+    (entry .pre .4, rw (width .width-of .ensures .0) (entry .pre .2))
+
+returns : tie.Need-returns
+returns c =
+    let taken : tie.After-take-sums = search in
+    let xored : tie.After-xor-all = search in
+    let spread : tie.After-spread-all = search in
+    let width : tie.After-width-of = search in
+    let sums =
+    sums-are _ _ _ _ _ _ _ _ _ (width .width-of .ensures .0) (spread .spread-all .ensures .0) (xored .xor-all .ensures .0) (taken .take-sums .ensures) in
+    (sums, c .clear .ensures)
+
+-- ---- the needs that the search closes
 width-of-requires : tie.Need-width-of-requires
 width-of-requires c κs = search needs
 
 spread-all-requires : tie.Need-spread-all-requires
-spread-all-requires c κs = (c .before .before .before .before .pre .0, c .before .before .before .before .pre .1, c .before .before .before .before .pre .3, c .before .before .before .before .pre .4)
-
-xor-all-requires : tie.Need-xor-all-requires
-xor-all-requires c κs =
-    let e = c .before .before .before .before .width-of .ensures .0 in
-    (c .before .before .before .before .before .before .pre .0, subst (λ (m : ℕ). c .before .before .before .before .before .before .args .from + layerBytes m ≤ 770048) (sym e) (c .before .before .before .before .before .before .pre .1), c .before .spread-all .ensures .1, rw e (c .before .before .before .before .before .before .pre .2))
-
-take-sums-requires : tie.Need-take-sums-requires
-take-sums-requires c κs = (c .before .before .before .before .before .before .before .before .before .pre .4, rw (c .before .before .before .before .before .before .before .width-of .ensures .0) (c .before .before .before .before .before .before .before .before .before .pre .2))
+spread-all-requires c κs = search needs
 
 clear-requires : tie.Need-clear-requires
 clear-requires c κs = search needs
-
-returns : tie.Need-returns
-returns c =
-    let A = c .before .before .before .before .before .before .before .before .before .before .before .before .args in
-    (sums-are (shapeAt shifted (A .stage)) (A .set .now) (A .from) (A .standing .now) (A .area .now) (c .before .before .before .before .before .before .before .before .before .before .width-of .result) _ _ _ (c .before .before .before .before .before .before .before .before .before .before .width-of .ensures .0) (c .before .before .before .before .before .before .before .spread-all .ensures .0) (c .before .before .before .before .before .xor-all .ensures .0) (c .before .before .take-sums .ensures), c .clear .ensures)
 
 pub layer-in-spec : {M : Type 1} → statement M
 layer-in-spec =

@@ -1,42 +1,71 @@
--- `lookups::layer::spread_all` meets its contract. Assumes nothing.
-use mathlib.Core.Path.{_≡_, refl, ap, _∙_}
-use Prim.Native.Nat.{ℕ, _+_, _-_, _*_, _≤_}
-use lib.ListN.{length}
-use Rattle.network.specs.Stages.{widthOf, shapeAt, shifted}
-use Rattle.lookups.specs.InPlace.{spreadsIn}
-use Rattle.lookups.proofs.laws.Whole.{part-is, length-part, spread-within, spreads-more}
+-- `lookups::layer::spread_all` meets its contract. The loop's invariant, `Spreads` of `laws.Whole`: p spread lookups are made, the area has kept
+-- its length, and the 16 tables lie within the set. A turn makes lookup p over its table, a part of the set (`spreads-more`); behind lookup 15
+-- all are made (`spreads-all`). No sum wraps: the table of a turn ends within the set (`table-ends`).
+-- Assumes nothing.
+use Prim.Native.Nat.{_+_, _-_, _*_, _≤_}
+use Rattle.network.specs.Stages.{shapeAt, shifted}
+use Rattle.lookups.proofs.laws.Whole.{Spreads, spreads-none, table-ends, table-long, spreads-more, spreads-all}
 use native.Mathlib.Omega.{arith}
 use borrow.Author.Needs.{needs}
 use Rattle.lookups.proofs.layer.spread_all.Statement.{statement}
 use Rattle.lookups.proofs.layer.spread_all.Tie as tie
 
 abbrev Inv-loop : tie.InvT-loop
-Inv-loop standing area₀ set from stage width size p₀ area p = (p ≤ 16) × (length area ≡ 256) × (area ≡ spreadsIn (shapeAt shifted stage) set from standing p area₀)
+Inv-loop standing area₀ set from stage width size p₀ area p = Spreads (shapeAt shifted stage) set from width standing area₀ area p
 
 abbrev μ-loop : tie.MeasureT-loop
 μ-loop standing area₀ set from stage width size p₀ area p = 16 - p
 
+-- the table of the turn ends within the set
+ends : (c : tie.In-loop Inv-loop μ-loop)
+    → let turn : tie.At-loop Inv-loop μ-loop = search in
+    let width : tie.After-width-of Inv-loop μ-loop = search in
+    let entry : tie.Start Inv-loop μ-loop = search in
+    entry .args .from + turn .loop .p * (256 * width .width-of .result) + 256 * width .width-of .result ≤ 770048
+ends c =
+    let turn : tie.At-loop Inv-loop μ-loop = search in
+    table-ends (turn .loop .inv) (c .loop-test .taken)
+
+loop-holds : tie.Need-loop-holds Inv-loop μ-loop
+loop-holds c = search spreads-none
+
+mul-start : tie.Need-mul-start Inv-loop μ-loop
+mul-start c = omega (arith, ends (search))
+
+add-start : tie.Need-add-start Inv-loop μ-loop
+add-start c = omega (arith, ends (search))
+
+add-end : tie.Need-add-end Inv-loop μ-loop
+add-end c = omega (arith, ends (search))
+
+part-spread-end : tie.Need-part-spread-end Inv-loop μ-loop
+part-spread-end c = omega (arith, ends (search))
+
+spread-requires : tie.Need-spread-requires Inv-loop μ-loop
+spread-requires c κs =
+    let turn : tie.At-loop Inv-loop μ-loop = search in
+    (turn .loop .inv .long, search needs, search, table-long (turn .loop .inv) (search) (search))
+
+loop-again : tie.Need-loop-again Inv-loop μ-loop
+loop-again c =
+    let turn : tie.At-loop Inv-loop μ-loop = search in
+    let source : tie.After-source-of Inv-loop μ-loop = search in
+    spreads-more (turn .loop .inv) _ _ (search) (source .source-of .ensures .0) (c .spread .ensures .0) (c .spread .ensures .1)
+
+returns : tie.Need-returns Inv-loop μ-loop
+returns c =
+    let turn : tie.At-loop Inv-loop μ-loop = search in
+    spreads-all (turn .loop .inv) (search)
+
+-- ---- the needs that the search closes
 width-of-requires : tie.Need-width-of-requires Inv-loop μ-loop
 width-of-requires c κs = search needs
 
 mul-size : tie.Need-mul-size Inv-loop μ-loop
 mul-size c = omega arith
 
-loop-holds : tie.Need-loop-holds Inv-loop μ-loop
-unfolding spreadsIn
-loop-holds c = (omega arith, c .before .before .pre .2, refl)
-
 source-of-requires : tie.Need-source-of-requires Inv-loop μ-loop
 source-of-requires c κs = omega arith
-
-mul-start : tie.Need-mul-start Inv-loop μ-loop
-mul-start c = omega (arith, spread-within (c .before .before .before .before .before .args .from) (c .before .before .before .width-of .result) (widthOf (c .before .before .before .before .before .args .stage)) (c .before .before .loop .p) (c .before .before .before .width-of .ensures .0) (c .before .before .before .before .before .pre .1) (omega arith))
-
-add-start : tie.Need-add-start Inv-loop μ-loop
-add-start c = omega (arith, spread-within (c .before .before .before .before .before .args .from) (c .before .before .before .width-of .result) (widthOf (c .before .before .before .before .before .args .stage)) (c .before .before .loop .p) (c .before .before .before .width-of .ensures .0) (c .before .before .before .before .before .pre .1) (omega arith))
-
-add-end : tie.Need-add-end Inv-loop μ-loop
-add-end c = omega (arith, spread-within (c .before .before .before .before .before .args .from) (c .before .before .before .width-of .result) (widthOf (c .before .before .before .before .before .args .stage)) (c .before .before .loop .p) (c .before .before .before .width-of .ensures .0) (c .before .before .before .before .before .pre .1) (omega arith))
 
 sub-spread : tie.Need-sub-spread Inv-loop μ-loop
 sub-spread c = omega arith
@@ -44,39 +73,14 @@ sub-spread c = omega arith
 part-spread-start : tie.Need-part-spread-start Inv-loop μ-loop
 part-spread-start c = omega arith
 
-part-spread-end : tie.Need-part-spread-end Inv-loop μ-loop
-part-spread-end c = omega (arith, spread-within (c .before .before .before .before .before .before .args .from) (c .before .before .before .before .width-of .result) (widthOf (c .before .before .before .before .before .before .args .stage)) (c .before .before .before .loop .p) (c .before .before .before .before .width-of .ensures .0) (c .before .before .before .before .before .before .pre .1) (omega arith))
-
 element-copy-out-spread : tie.Need-element-copy-out-spread Inv-loop μ-loop
 element-copy-out-spread c = omega arith
-
-spread-requires : tie.Need-spread-requires Inv-loop μ-loop
-spread-requires c κs =
-    let A = c .before .before .before .before .before .before .before .before .args in
-    let m = c .before .before .before .before .before .before .width-of .result in
-    let p = c .before .before .before .before .before .loop .p in
-    let b = spread-within (A .from) m (widthOf (A .stage)) p (c .before .before .before .before .before .before .width-of .ensures .0) (c .before .before .before .before .before .before .before .before .pre .1) (omega arith) in
-    (c .before .before .before .before .before .loop .inv .1, omega arith, omega arith, length-part (A .set .now) (A .from + p * (256 * m)) (256 * m) (omega arith))
 
 add-p : tie.Need-add-p Inv-loop μ-loop
 add-p c = omega arith
 
 loop-less : tie.Need-loop-less Inv-loop μ-loop
 loop-less c = omega arith
-
-loop-again : tie.Need-loop-again Inv-loop μ-loop
-loop-again c =
-    let A = c .before .before .before .before .before .before .before .before .before .args in
-    let L = c .before .before .before .before .before .before .loop in
-    let m = c .before .before .before .before .before .before .before .width-of .result in
-    (omega arith, c .spread .ensures .1 ∙ L .inv .1, spreads-more (shapeAt shifted (A .stage)) (A .set .now) (A .from) (A .standing .now) (A .area .now) (L .p) m (c .before .before .before .before .source-of .result) (L .area) _ _ (omega arith) (c .before .before .before .before .before .before .before .width-of .ensures .0) (c .before .before .before .before .source-of .ensures .0) (L .inv .2) (part-is (A .set .now) (A .from + L .p * (256 * m)) (256 * m)) (c .spread .ensures .0))
-
-returns : tie.Need-returns Inv-loop μ-loop
-returns c =
-    let A = c .before .before .before .before .args in
-    let L = c .before .loop in
-    let e : L .p ≡ 16 = omega arith in
-    (L .inv .2 ∙ ap (λ (x : ℕ). spreadsIn (shapeAt shifted (A .stage)) (A .set .now) (A .from) (A .standing .now) x (A .area .now)) e, L .inv .1)
 
 pub spread-all-spec : {M : Type 1} → statement M
 spread-all-spec =

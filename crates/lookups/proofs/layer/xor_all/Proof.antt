@@ -1,54 +1,67 @@
--- `lookups::layer::xor_all` meets its contract. Assumes nothing.
-use mathlib.Core.Path.{_≡_, refl, ap, _∙_}
-use Prim.Native.Nat.{ℕ, _+_, _-_, _*_, _/_, _≤_}
-use lib.ListN.{length}
-use Rattle.lookups.specs.InPlace.{xorsIn}
-use Rattle.lookups.proofs.laws.Whole.{part-is, length-part, spreads-room, xors-more, length-xors, pairs}
+-- `lookups::layer::xor_all` meets its contract. The loop's invariant, `Xors` of `laws.Whole`: y of the turns are made, two XOR lookups each; the
+-- turns are half of the XOR lookups, their tables lie within the set, and the area has kept its length. A turn makes lookups 2y and 2y + 1 over
+-- their tables, two parts of the set one behind the other (`pair-asked`, `xors-more`); behind the last turn all are made (`xors-all`). No sum
+-- wraps: the tables end within the set.
+-- Assumes nothing.
+use Prim.Native.Nat.{_+_, _-_, _*_, _≤_}
+use Rattle.lookups.proofs.laws.Whole.{Xors, spreads-room, spreads-least, xors-none, pair-asked, xors-more, xors-all}
 use native.Mathlib.Omega.{arith}
+use borrow.Author.Needs.{needs}
 use Rattle.lookups.proofs.layer.xor_all.Statement.{statement}
 use Rattle.lookups.proofs.layer.xor_all.Tie as tie
 
 abbrev Inv-loop : tie.InvT-loop
-Inv-loop area₀ set from width start bytes y₀ area y = (y ≤ bytes) × (length area ≡ 256) × (area ≡ xorsIn width set from (2 * y) area₀)
+Inv-loop area₀ set from width start bytes y₀ area y = Xors width set from bytes area₀ area y
 
 abbrev μ-loop : tie.MeasureT-loop
 μ-loop area₀ set from width start bytes y₀ area y = bytes - y
 
+-- the tables of the spread lookups end within the set
+room : (s : tie.Start Inv-loop μ-loop) → s .args .from + 4096 * s .args .width ≤ 770048
+room s = spreads-room _ _ (s .pre .1)
+
 mul-start : tie.Need-mul-start Inv-loop μ-loop
-mul-start c = omega (arith, spreads-room (c .before .args .from) (c .before .args .width) (c .before .pre .1))
+mul-start c = omega (arith, room (search))
 
 add-start : tie.Need-add-start Inv-loop μ-loop
-add-start c = omega (arith, spreads-room (c .before .args .from) (c .before .args .width) (c .before .pre .1))
-
-lookups-of-requires : tie.Need-lookups-of-requires Inv-loop μ-loop
-lookups-of-requires c κs = c .before .pre .3
+add-start c = omega (arith, room (search))
 
 sub-bytes : tie.Need-sub-bytes Inv-loop μ-loop
-sub-bytes c = pairs (c .before .before .args .width) (c .lookups-of .result) (c .before .before .pre .3) (c .lookups-of .ensures) .least
+sub-bytes c = spreads-least _ _ (c .lookups-of .ensures)
 
 loop-holds : tie.Need-loop-holds Inv-loop μ-loop
-unfolding xorsIn
-loop-holds c = (omega arith, c .before .before .pre .2, refl)
+loop-holds c = xors-none (search) (c .lookups-of .ensures) (search) (search)
+
+xor-pair-in-requires : tie.Need-xor-pair-in-requires Inv-loop μ-loop
+xor-pair-in-requires c κs =
+    let turn : tie.At-loop Inv-loop μ-loop = search in
+    pair-asked (turn .loop .inv) (search) (search)
+
+loop-again : tie.Need-loop-again Inv-loop μ-loop
+loop-again c =
+    let turn : tie.At-loop Inv-loop μ-loop = search in
+    xors-more (turn .loop .inv) (search) (c .xor-pair-in .ensures)
+
+returns : tie.Need-returns Inv-loop μ-loop
+returns c =
+    let turn : tie.At-loop Inv-loop μ-loop = search in
+    xors-all (turn .loop .inv) (search)
+
+-- ---- the needs that the search closes
+lookups-of-requires : tie.Need-lookups-of-requires Inv-loop μ-loop
+lookups-of-requires c κs = search needs
 
 mul-high : tie.Need-mul-high Inv-loop μ-loop
-mul-high c =
-    let P = pairs (c .before .before .before .before .args .width) (c .before .before .lookups-of .result) (c .before .before .before .before .pre .3) (c .before .before .lookups-of .ensures) in
-    omega (arith, P .twice, P .most, P .bytes)
+mul-high c = omega arith
 
 add-high : tie.Need-add-high Inv-loop μ-loop
-add-high c =
-    let P = pairs (c .before .before .before .before .args .width) (c .before .before .lookups-of .result) (c .before .before .before .before .pre .3) (c .before .before .lookups-of .ensures) in
-    omega (arith, P .twice, P .most, P .bytes)
+add-high c = omega arith
 
 add-low : tie.Need-add-low Inv-loop μ-loop
-add-low c =
-    let P = pairs (c .before .before .before .before .args .width) (c .before .before .lookups-of .result) (c .before .before .before .before .pre .3) (c .before .before .lookups-of .ensures) in
-    omega (arith, P .twice, P .most, P .bytes)
+add-low c = omega arith
 
 add-end : tie.Need-add-end Inv-loop μ-loop
-add-end c =
-    let P = pairs (c .before .before .before .before .args .width) (c .before .before .lookups-of .result) (c .before .before .before .before .pre .3) (c .before .before .lookups-of .ensures) in
-    omega (arith, P .twice, P .most, P .bytes)
+add-end c = omega arith
 
 sub-xor-pair-in : tie.Need-sub-xor-pair-in Inv-loop μ-loop
 sub-xor-pair-in c = omega arith
@@ -57,9 +70,7 @@ part-xor-pair-in-start : tie.Need-part-xor-pair-in-start Inv-loop μ-loop
 part-xor-pair-in-start c = omega arith
 
 part-xor-pair-in-end : tie.Need-part-xor-pair-in-end Inv-loop μ-loop
-part-xor-pair-in-end c =
-    let P = pairs (c .before .before .before .before .before .args .width) (c .before .before .before .lookups-of .result) (c .before .before .before .before .before .pre .3) (c .before .before .before .lookups-of .ensures) in
-    omega (arith, P .twice, P .most, P .bytes)
+part-xor-pair-in-end c = omega arith
 
 sub-xor-pair-in-2 : tie.Need-sub-xor-pair-in-2 Inv-loop μ-loop
 sub-xor-pair-in-2 c = omega arith
@@ -68,40 +79,13 @@ part-xor-pair-in-start-2 : tie.Need-part-xor-pair-in-start-2 Inv-loop μ-loop
 part-xor-pair-in-start-2 c = omega arith
 
 part-xor-pair-in-end-2 : tie.Need-part-xor-pair-in-end-2 Inv-loop μ-loop
-part-xor-pair-in-end-2 c =
-    let P = pairs (c .before .before .before .before .before .before .args .width) (c .before .before .before .before .lookups-of .result) (c .before .before .before .before .before .before .pre .3) (c .before .before .before .before .lookups-of .ensures) in
-    omega (arith, P .twice, P .most, P .bytes)
-
-xor-pair-in-requires : tie.Need-xor-pair-in-requires Inv-loop μ-loop
-xor-pair-in-requires c κs =
-    let A = c .before .before .before .before .before .before .before .args in
-    let L = c .before .before .before .before .loop in
-    let P = pairs (A .width) (c .before .before .before .before .before .lookups-of .result) (c .before .before .before .before .before .before .before .pre .3) (c .before .before .before .before .before .lookups-of .ensures) in
-    let t = P .twice in
-    let b = P .bytes in
-    (P .inside (L .y) (omega arith), length-part (A .set .now) (A .from + 4096 * A .width + L .y * 256) 128 (omega arith), length-part (A .set .now) (A .from + 4096 * A .width + L .y * 256 + 128) 128 (omega arith), L .inv .1)
+part-xor-pair-in-end-2 c = omega arith
 
 add-y : tie.Need-add-y Inv-loop μ-loop
 add-y c = omega arith
 
 loop-less : tie.Need-loop-less Inv-loop μ-loop
 loop-less c = omega arith
-
-loop-again : tie.Need-loop-again Inv-loop μ-loop
-loop-again c =
-    let A = c .before .before .before .before .before .before .before .before .args in
-    let L = c .before .before .before .before .before .loop in
-    let h : ℕ = A .from + 4096 * A .width + L .y * 256 in
-    let e = xors-more (A .width) (A .set .now) (A .from) (A .area .now) (L .y) (L .area) _ _ _ (L .inv .2) (part-is (A .set .now) h 128) (part-is (A .set .now) (h + 128) 128) (c .xor-pair-in .ensures) in
-    (omega arith, ap length e ∙ length-xors (A .width) (A .set .now) (A .from) (A .area .now) (2 * (L .y + 1)) ∙ c .before .before .before .before .before .before .before .before .pre .2, e)
-
-returns : tie.Need-returns Inv-loop μ-loop
-returns c =
-    let A = c .before .before .before .before .args in
-    let L = c .before .loop in
-    let P = pairs (A .width) (c .before .before .lookups-of .result) (c .before .before .before .before .pre .3) (c .before .before .lookups-of .ensures) in
-    let e : L .y ≡ (c .before .before .lookups-of .result - 16) / 2 = omega arith in
-    (L .inv .2 ∙ ap (λ (x : ℕ). xorsIn (A .width) (A .set .now) (A .from) x (A .area .now)) (ap (λ (x : ℕ). 2 * x) e ∙ P .twice), L .inv .1)
 
 pub xor-all-spec : {M : Type 1} → statement M
 xor-all-spec =

@@ -1,42 +1,50 @@
--- `lookups::layer::xor_in` meets its contract. Assumes nothing.
-use mathlib.Core.Path.{_∙_}
+-- `lookups::layer::xor_in` meets its contract. The two places that XOR lookup x reads are those of the one group of 16 words (`xor-16` of
+-- `laws.Layers`) or of one of the four groups of 4 words (`xor-4`), by the width. Both lie in the area, and no sum wraps: x is below 480 in
+-- entry and exit (`below-480`) and below 96 in a half (`is-4`).
+-- Assumes nothing.
+use Prim.Native.Nat.{_<_}
 use Rattle.lookups.proofs.laws.Layers.{below-480, xor-16, is-4, xor-4}
 use native.Mathlib.Omega.{arith}
 use Rattle.lookups.proofs.layer.xor_in.Statement.{statement}
 use Rattle.lookups.proofs.layer.xor_in.Tie as tie
 
+-- XOR lookups of entry and exit, and of a half
+wide : (c : tie.Then1) → let entry : tie.Start = search in entry .args .x < 480
+wide c =
+    let entry : tie.Start = search in
+    below-480 (entry .pre .0) (c .if1 .taken)
+
+narrow : (c : tie.Else1) → let entry : tie.Start = search in entry .args .x < 96
+narrow c =
+    let entry : tie.Start = search in
+    is-4 (entry .pre .0) (c .if1 .left) .1
+
 add-xor : tie.Need-add-xor
-add-xor c = omega (arith, below-480 (c .before .before .before .args .width) (c .before .before .before .args .x) (c .before .if1 .taken) (c .before .before .before .pre .0))
+add-xor c = omega (arith, wide (search))
 
 xor-requires : tie.Need-xor-requires
-xor-requires c κs = omega (arith, below-480 (c .before .before .before .args .width) (c .before .before .before .args .x) (c .before .if1 .taken) (c .before .before .before .pre .0))
-
-mul-group : tie.Need-mul-group
-mul-group c = omega (arith, is-4 (c .before .before .args .width) (c .before .before .args .x) (c .if1 .left) (c .before .before .pre .0))
-
-add-xor-2 : tie.Need-add-xor-2
-add-xor-2 c = omega (arith, is-4 (c .before .before .before .args .width) (c .before .before .before .args .x) (c .before .if1 .left) (c .before .before .before .pre .0))
-
-add-xor-3 : tie.Need-add-xor-3
-add-xor-3 c = omega (arith, is-4 (c .before .before .before .args .width) (c .before .before .before .args .x) (c .before .if1 .left) (c .before .before .before .pre .0))
-
-add-xor-4 : tie.Need-add-xor-4
-add-xor-4 c = omega (arith, is-4 (c .before .before .before .args .width) (c .before .before .before .args .x) (c .before .if1 .left) (c .before .before .before .pre .0))
-
-xor-requires-2 : tie.Need-xor-requires-2
-xor-requires-2 c κs = omega (arith, is-4 (c .before .before .before .args .width) (c .before .before .before .args .x) (c .before .if1 .left) (c .before .before .before .pre .0))
+xor-requires c κs = omega (arith, wide (search))
 
 returns : tie.Need-returns
-returns c =
-    let A = c .before .before .before .before .args in
-    let h = below-480 (A .width) (A .x) (c .before .before .if1 .taken) (c .before .before .before .before .pre .0) in
-    c .xor .ensures ∙ xor-16 (A .width) (A .x) _ _ (A .table .now) (A .area .now) (c .before .before .if1 .taken) (omega arith) (omega arith)
+returns c = xor-16 _ _ _ _ _ (search) (search) (search)
+
+mul-group : tie.Need-mul-group
+mul-group c = omega (arith, narrow (search))
+
+add-xor-2 : tie.Need-add-xor-2
+add-xor-2 c = omega (arith, narrow (search))
+
+add-xor-3 : tie.Need-add-xor-3
+add-xor-3 c = omega (arith, narrow (search))
+
+add-xor-4 : tie.Need-add-xor-4
+add-xor-4 c = omega (arith, narrow (search))
+
+xor-requires-2 : tie.Need-xor-requires-2
+xor-requires-2 c κs = omega (arith, narrow (search))
 
 returns-2 : tie.Need-returns-2
-returns-2 c =
-    let A = c .before .before .before .before .args in
-    let h = is-4 (A .width) (A .x) (c .before .before .if1 .left) (c .before .before .before .before .pre .0) in
-    c .xor2 .ensures ∙ xor-4 (A .width) (A .x) _ _ (A .table .now) (A .area .now) (h .0) (omega arith) (omega arith)
+returns-2 c = xor-4 _ _ _ _ _ (search) (search) (search)
 
 pub xor-in-spec : {M : Type 1} → statement M
 xor-in-spec =

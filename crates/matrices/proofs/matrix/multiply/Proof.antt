@@ -1,69 +1,53 @@
--- `matrices::matrix::multiply` meets its contract. Assumes nothing.
-use mathlib.Core.Path.{_≡_, refl, sym, ap, ap₂, _∙_, subst}
-use Prim.Native.Nat.{ℕ, _+_, _-_, _*_, _^_, _≤_, _<_}
-use native.Mathlib.Nat.{lt-of-lt-of-le}
-use lib.Pow.{pow-mono}
-use Rattle.bits.specs.Groups.{joined}
-use Rattle.bits.specs.Lists.{at}
+-- `matrices::matrix::multiply` meets its contract. The loop's invariant, `Joined` of bits: the vector p is made of the parities of the first i
+-- rows and v. A turn pushes the parity of row i (`joined-more`), and behind the last row p is the product (`multiplied` of `laws.Rows`).
+-- Before a push p has at most 127 bits (`joined-room`), and a parity is 0 or 1 (`dot-lt`). The measure is the number of rows left.
+-- Assumes nothing.
+use Prim.Native.Nat.{_-_}
 use Rattle.bits.specs.Vectors.{dot}
-use Rattle.bits.specs.Words.{wide, value}
+use Rattle.bits.specs.Words.{value}
+use Rattle.bits.proofs.laws.Joined.{Joined, joined-none, joined-more, joined-room}
 use Rattle.bits.proofs.laws.Vectors.{dot-lt}
-use Rattle.matrices.specs.Matrices.{productBy}
-use Rattle.matrices.specs.Rows.{rowAt, rowsOf}
-use Rattle.matrices.proofs.laws.Matrices.{product-lt, product-next, product-rows}
-use Rattle.matrices.proofs.laws.Rows.{at-rowsOf}
+use Rattle.bits.proofs.laws.Words.{wide-zero}
+use Rattle.matrices.specs.Rows.{rowAt}
+use Rattle.matrices.proofs.laws.Rows.{multiplied}
 use native.Mathlib.Omega.{arith}
 use Rattle.matrices.proofs.matrix.multiply.Statement.{statement}
 use Rattle.matrices.proofs.matrix.multiply.Tie as tie
 
 abbrev Inv-loop : tie.InvT-loop
-Inv-loop m n v p₀ i₀ p i = (i ≤ n) × (value p ≡ productBy i (rowAt m) (value v))
+Inv-loop m n v p₀ i₀ p i = Joined 1 n (λ j. dot (rowAt m j) (value v)) (value p) i
 
 abbrev μ-loop : tie.MeasureT-loop
 μ-loop m n v p₀ i₀ p i = n - i
 
 loop-holds : tie.Need-loop-holds Inv-loop μ-loop
-unfolding wide productBy joined
-loop-holds c = (omega arith, refl)
+loop-holds c = joined-none wide-zero
 
+push-bit-requires : tie.Need-push-bit-requires Inv-loop μ-loop
+push-bit-requires c κs =
+    let turn : tie.At-loop Inv-loop μ-loop = search in
+    (joined-room (turn .loop .inv) 127 (omega arith) (λ j. dot-lt _ _), rw (c .parity .ensures) (dot-lt _ _))
+
+loop-again : tie.Need-loop-again Inv-loop μ-loop
+loop-again c =
+    let turn : tie.In-loop Inv-loop μ-loop = search in
+    joined-more (turn .before .loop .inv) (turn .loop-test .taken) (cc)
+
+returns : tie.Need-returns Inv-loop μ-loop
+returns c = search multiplied
+
+-- ---- the needs that the search closes
 row-requires : tie.Need-row-requires Inv-loop μ-loop
 row-requires c κs = omega arith
 
 parity-requires : tie.Need-parity-requires Inv-loop μ-loop
 parity-requires c κs = omega arith
 
-push-bit-requires : tie.Need-push-bit-requires Inv-loop μ-loop
-push-bit-requires c κs =
-    let L = c .before .before .before .loop in
-    let A = c .before .before .before .before .before .args in
-    let few : L .i ≤ 127 = omega arith in (
-      subst (λ (x : ℕ). x < 2 ^ 127) (sym (L .inv .1)) (lt-of-lt-of-le (product-lt (L .i) (rowAt (A .m .now)) (value (A .v))) (pow-mono few)),
-      subst (λ (x : ℕ). x < 2) (sym (c .parity .ensures)) (dot-lt (value (c .before .row .result)) (value (A .v))),
-    )
-
 add-i : tie.Need-add-i Inv-loop μ-loop
 add-i c = omega arith
 
 loop-less : tie.Need-loop-less Inv-loop μ-loop
 loop-less c = omega arith
-
-loop-again : tie.Need-loop-again Inv-loop μ-loop
-loop-again c =
-    let L = c .before .before .before .before .loop in
-    let A = c .before .before .before .before .before .before .args in (
-      omega arith,
-      c .push-bit .ensures
-          ∙ ap₂ (λ (x y : ℕ). x * 2 + y) (L .inv .1) (c .before .parity .ensures ∙ ap (λ (x : ℕ). dot x (value (A .v))) (c .before .before .row .ensures))
-          ∙ sym (product-next (L .i) (rowAt (A .m .now)) (value (A .v))),
-    )
-
-returns : tie.Need-returns Inv-loop μ-loop
-returns c =
-    let L = c .before .loop in
-    let A = c .before .before .before .args in
-    let done : L .i ≡ A .n = omega arith in
-    L .inv .1 ∙ ap (λ (k : ℕ). productBy k (rowAt (A .m .now)) (value (A .v))) done
-    ∙ product-rows (A .n) (rowAt (A .m .now)) (at (rowsOf (A .n) (A .m .now))) (value (A .v)) (λ i h. sym (at-rowsOf (A .n) (A .m .now) i h))
 
 pub multiply-spec : {M : Type 1} → statement M
 multiply-spec =

@@ -1,42 +1,45 @@
--- `matrices::matrix::read` meets its contract. Assumes nothing.
-use mathlib.Core.List.{List}
-use mathlib.Core.Path.{_≡_, refl, sym, ap, ap₂, _∙_}
-use Prim.Native.Nat.{ℕ, _-_, _*_, _≤_, _<_}
-use lib.ListN.{length}
+-- `matrices::matrix::read` meets its contract. The loop's invariant, `Stored` of `laws.Rows`: the first i rows of the matrix that the bytes
+-- write are stored, and the words have kept their length. A turn reads the w bytes of row i (`row-read` of `laws.Stored`) and stores the row
+-- (`stored-more`); behind the last row all are (`stored-all`). The bytes of a row lie within those of the matrix (`row-within`), at most 2048
+-- of them, so no index wraps. The measure is the number of rows left.
+-- Assumes nothing.
+use Prim.Native.Nat.{_-_}
 use Rattle.bits.specs.Lists.{at}
-use Rattle.bits.proofs.laws.Multiples.{row-inside}
 use Rattle.matrices.specs.Matrices.{matrixOf}
-use Rattle.matrices.specs.Rows.{setRow, stored}
-use Rattle.matrices.proofs.laws.Stored.{matrixOf-at}
-use Rattle.matrices.proofs.laws.Rows.{stored-next}
+use Rattle.matrices.proofs.laws.Rows.{Stored, stored-none, stored-more, stored-all}
+use Rattle.matrices.proofs.laws.Stored.{row-within, row-read}
 use native.Mathlib.Omega.{arith}
 use Rattle.matrices.proofs.matrix.read.Statement.{statement}
 use Rattle.matrices.proofs.matrix.read.Tie as tie
 
 abbrev Inv-loop : tie.InvT-loop
-Inv-loop s m₀ w n i₀ m i = (n ≡ 8 * w) × (i ≤ n) × (length m ≡ length m₀) × (m ≡ stored i (at (matrixOf w s)) m₀)
+Inv-loop s m₀ w n i₀ m i = Stored n (at (matrixOf w s)) m₀ m i
 
 abbrev μ-loop : tie.MeasureT-loop
 μ-loop s m₀ w n i₀ m i = n - i
 
-mul-n : tie.Need-mul-n Inv-loop μ-loop
-mul-n c = omega arith
-
 loop-holds : tie.Need-loop-holds Inv-loop μ-loop
-unfolding stored
-loop-holds c = (refl, omega arith, refl, refl)
+loop-holds c = stored-none
 
 mul-read : tie.Need-mul-read Inv-loop μ-loop
 mul-read c =
-    let L = c .before .loop in
-    let A = c .before .before .before .before .args in
-    omega (arith, row-inside (L .i) (A .w) (8 * A .w) (omega arith))
+    let turn : tie.In-loop Inv-loop μ-loop = search in
+    omega (arith, row-within _ _ (turn .loop-test .taken))
 
 read-requires : tie.Need-read-requires Inv-loop μ-loop
 read-requires c κs =
-    let L = c .before .loop in
-    let A = c .before .before .before .before .args in
-    omega (arith, row-inside (L .i) (A .w) (8 * A .w) (omega arith))
+    let turn : tie.In-loop Inv-loop μ-loop = search in
+    omega (arith, row-within _ _ (turn .loop-test .taken))
+
+loop-again : tie.Need-loop-again Inv-loop μ-loop
+loop-again c = search (stored-more, row-read)
+
+returns : tie.Need-returns Inv-loop μ-loop
+returns c = search stored-all
+
+-- ---- the needs that the search closes
+mul-n : tie.Need-mul-n Inv-loop μ-loop
+mul-n c = omega arith
 
 set-row-requires : tie.Need-set-row-requires Inv-loop μ-loop
 set-row-requires c κs = omega arith
@@ -47,28 +50,8 @@ add-i c = omega arith
 loop-less : tie.Need-loop-less Inv-loop μ-loop
 loop-less c = omega arith
 
-loop-again : tie.Need-loop-again Inv-loop μ-loop
-loop-again c =
-    let L = c .before .before .before .before .before .before .loop in
-    let A = c .before .before .before .before .before .before .before .before .before .args in
-    let h : L .i < 8 * A .w = omega arith in (
-      omega arith,
-      omega arith,
-      c .before .before .set-row .kept .0 ∙ L .inv .2,
-      c .before .before .set-row .ensures
-          ∙ ap₂ (λ (x : List ℕ) (y : ℕ). setRow x (L .i) y) (L .inv .3) (c .before .before .before .before .read .ensures ∙ sym (matrixOf-at (A .w) (A .s .now) (L .i) h))
-          ∙ sym (stored-next (L .i) (at (matrixOf (A .w) (A .s .now))) (A .m .now)),
-    )
-
 same-length : tie.Need-same-length Inv-loop μ-loop
 same-length c = omega arith
-
-returns : tie.Need-returns Inv-loop μ-loop
-returns c =
-    let L = c .before .loop in
-    let A = c .before .before .before .before .args in
-    let done : L .i ≡ 8 * A .w = omega arith in
-    L .inv .3 ∙ ap (λ (k : ℕ). stored k (at (matrixOf (A .w) (A .s .now))) (A .m .now)) done
 
 pub read-spec : {M : Type 1} → statement M
 read-spec =

@@ -1,10 +1,16 @@
--- `matrices::matrix::set_row` meets its contract. Assumes nothing.
+-- `matrices::matrix::set_row` meets its contract. The two words of v go to places 2 i and 2 i + 1, which is `setRow` (`set-words` of `laws.Rows`).
+-- By the `requires` both places are within the words.
+-- Assumes nothing.
 use Rattle.matrices.proofs.laws.Rows.{set-words}
 use native.Mathlib.Omega.{arith}
 use borrow.Author.Needs.{needs}
 use Rattle.matrices.proofs.matrix.set_row.Statement.{statement}
 use Rattle.matrices.proofs.matrix.set_row.Tie as tie
 
+returns : tie.Need-returns
+returns c = set-words _ _ _ _ (omega arith)
+
+-- ---- the needs that the search closes
 mul-k : tie.Need-mul-k
 mul-k c = search needs
 
@@ -25,11 +31,6 @@ slice-write-m-2 c = search needs
 
 same-length : tie.Need-same-length
 same-length c = search needs
-
-returns : tie.Need-returns
-returns c =
-    let A = c .args in
-    set-words (A .m .now) (A .i) (A .v .hi) (A .v .lo) (omega arith)
 
 pub set-row-spec : {M : Type 1} → statement M
 set-row-spec =

@@ -1,11 +1,19 @@
--- `network::stage::in_round` meets its contract. Assumes nothing.
-use mathlib.Core.Path.{_∙_}
+-- `network::stage::in_round` meets its contract. A round has two halves of 112 lookups: below 112 it is the first (`first-half` of `laws.Place`), else
+-- the second (`second-half`). The products are small: at most eight rounds of 57,344 bytes are before.
+-- Assumes nothing.
 use Rattle.network.proofs.laws.Place.{first-half, second-half}
 use native.Mathlib.Omega.{arith}
 use borrow.Author.Needs.{needs}
 use Rattle.network.proofs.stage.in_round.Statement.{statement}
 use Rattle.network.proofs.stage.in_round.Tie as tie
 
+returns : tie.Need-returns
+returns c = first-half _ _ (omega arith) (search)
+
+returns-2 : tie.Need-returns-2
+returns-2 c = second-half _ _ (omega arith) (search)
+
+-- ---- the needs that the search closes
 sub-before : tie.Need-sub-before
 sub-before c = search needs
 
@@ -23,12 +31,6 @@ add-placed-2 c = search needs
 
 placed-requires-2 : tie.Need-placed-requires-2
 placed-requires-2 c κs = search needs
-
-returns : tie.Need-returns
-returns c = c .placed .ensures ∙ first-half _ _ (omega arith)
-
-returns-2 : tie.Need-returns-2
-returns-2 c = c .placed2 .ensures ∙ second-half _ _ (omega arith)
 
 pub in-round-spec : {M : Type 1} → statement M
 in-round-spec =

@@ -1,21 +1,35 @@
--- `network::stage::placed` meets its contract. Assumes nothing.
+-- `network::stage::placed` meets its contract. The first 16 lookups of a layer are its spread lookups (`spread-place` of `laws.Place`), the others its
+-- XOR lookups (`xor-place`). A spread table's offset is below 16 times 4,096 (`spread-lt`), so that no product or sum wraps.
+-- Assumes nothing.
+use Prim.Native.Nat.{_*_, _<_}
 use Rattle.network.proofs.laws.Place.{spread-place, xor-place, spread-lt}
 use native.Mathlib.Omega.{arith}
 use borrow.Author.Needs.{needs}
 use Rattle.network.proofs.stage.placed.Statement.{statement}
 use Rattle.network.proofs.stage.placed.Tie as tie
 
+-- the spread tables before lookup j
+offset-fits : (c : tie.Then1) → c .before .args .j * (256 * c .before .args .width) < 65536
+offset-fits c = spread-lt _ _ (omega arith) (omega arith)
+
+mul-t9 : tie.Need-mul-t9
+mul-t9 c = omega (arith, offset-fits (search))
+
+add-t10 : tie.Need-add-t10
+add-t10 c = omega (arith, offset-fits (search))
+
+returns : tie.Need-returns
+returns c = spread-place _ _ _ _ (omega arith)
+
+returns-2 : tie.Need-returns-2
+returns-2 c = xor-place _ _ _ _ (omega arith)
+
+-- ---- the needs that the search closes
 mul-t7 : tie.Need-mul-t7
 mul-t7 c = search needs
 
 mul-t8 : tie.Need-mul-t8
 mul-t8 c = search needs
-
-mul-t9 : tie.Need-mul-t9
-mul-t9 c = omega (arith, spread-lt (c .before .args .width) (c .before .args .j) (omega arith) (omega arith))
-
-add-t10 : tie.Need-add-t10
-add-t10 c = omega (arith, spread-lt (c .before .args .width) (c .before .args .j) (omega arith) (omega arith))
 
 mul-t11 : tie.Need-mul-t11
 mul-t11 c = search needs
@@ -31,12 +45,6 @@ mul-t15 c = search needs
 
 add-t16 : tie.Need-add-t16
 add-t16 c = search needs
-
-returns : tie.Need-returns
-returns c = spread-place _ _ _ _ (omega arith)
-
-returns-2 : tie.Need-returns-2
-returns-2 c = xor-place _ _ _ _ (omega arith)
 
 pub placed-spec : {M : Type 1} → statement M
 placed-spec =

@@ -1,4 +1,5 @@
--- `network::stage::shifted` meets its contract. Assumes nothing.
+-- `network::stage::shifted` meets its contract. The result is the definition's expression, and a column below 4 times 4 plus a row below 4 is below 16.
+-- Assumes nothing.
 use mathlib.Core.Path.{refl}
 use Rattle.network.specs.Stages.{shifted}
 use native.Mathlib.Omega.{arith}
@@ -6,6 +7,11 @@ use borrow.Author.Needs.{needs}
 use Rattle.network.proofs.stage.shifted.Statement.{statement}
 use Rattle.network.proofs.stage.shifted.Tie as tie
 
+returns : tie.Need-returns
+unfolding shifted
+returns c = (refl, omega arith)
+
+-- ---- the needs that the search closes
 add-result : tie.Need-add-result
 add-result c = search needs
 
@@ -14,10 +20,6 @@ mul-result c = search needs
 
 add-result-2 : tie.Need-add-result-2
 add-result-2 c = search needs
-
-returns : tie.Need-returns
-unfolding shifted
-returns c = (refl, omega arith)
 
 pub shifted-spec : {M : Type 1} → statement M
 shifted-spec = tie.close (tie.spec add-result mul-result add-result-2 returns)

@@ -1,11 +1,18 @@
--- `network::stage::source_of` meets its contract. Assumes nothing.
-use mathlib.Core.Path.{sym, ap, _∙_}
-use Rattle.network.specs.Stages.{shifted, sourceOf}
-use Rattle.network.specs.declared.stage.Stage.{Stage}
+-- `network::stage::source_of` meets its contract, by the stage. In a first half and in the exit it reads through the row shift, as `shifted` ensures
+-- (`reads-first`, `reads-exit` of `laws.Place`); in the others it reads its own position, which is below 16 by the `requires`.
+-- Assumes nothing.
+use Rattle.network.proofs.laws.Place.{reads-first, reads-exit}
 use borrow.Author.Needs.{needs}
 use Rattle.network.proofs.stage.source_of.Statement.{statement}
 use Rattle.network.proofs.stage.source_of.Tie as tie
 
+returns-2 : tie.Need-returns-2
+returns-2 c = search reads-first
+
+returns-4 : tie.Need-returns-4
+returns-4 c = search reads-exit
+
+-- ---- the needs that the search closes
 enum-told : tie.Need-enum-told
 enum-told c = search needs
 
@@ -30,14 +37,8 @@ enum-told-5 c = search needs
 returns : tie.Need-returns
 returns c = search needs
 
-returns-2 : tie.Need-returns-2
-returns-2 c = (c .shifted .ensures .0 ∙ ap (λ (s : Stage). sourceOf shifted s (c .before .before .before .args .p)) (sym (c .before .enum-told2 .given .1)), c .shifted .ensures .1)
-
 returns-3 : tie.Need-returns-3
 returns-3 c = search needs
-
-returns-4 : tie.Need-returns-4
-returns-4 c = (c .shifted2 .ensures .0 ∙ ap (λ (s : Stage). sourceOf shifted s (c .before .before .before .args .p)) (sym (c .before .enum-told4 .given .1)), c .shifted2 .ensures .1)
 
 returns-5 : tie.Need-returns-5
 returns-5 c = search needs

@@ -1,26 +1,33 @@
--- `round::key::expand_key` meets its contract. The invariant: the first 4 + n words are the key expanded by n words. Assumes nothing.
-use mathlib.Core.Path.{_≡_, refl}
-use Prim.Native.Nat.{_+_, _-_, _*_, _≤_}
-use lib.ListN.{length, take, length-set}
-use Rattle.round.specs.Key.{expand}
-use Rattle.round.proofs.laws.Expansion.{key-turn, key-end}
+-- `round::key::expand_key` meets its contract. The invariant, `Expanded` of `laws.Expansion`: the first 4 + n words are the key and n words more.
+-- It holds behind `key_words`, which lays out the key (`expanded-none`); a turn makes word 4 + n of the words n and n + 3 and writes its four
+-- bytes (`expanded-more`); behind 40 turns the whole is the expansion (`expanded-all`). All indices are below 16 + 4 * 40 = 176.
+-- Assumes nothing.
+use Prim.Native.Nat.{_-_}
+use lib.ListN.{take}
+use Rattle.round.proofs.laws.Expansion.{Expanded, expanded-none, expanded-more, expanded-all}
 use borrow.Author.Needs.{needs}
 use native.Mathlib.Omega.{arith}
 use Rattle.round.proofs.key.expand_key.Statement.{statement}
 use Rattle.round.proofs.key.expand_key.Tie as tie
 
 abbrev Inv-loop : tie.InvT-loop
-Inv-loop w₀ n₀ w n = (n ≤ 40) × (length w ≡ 176) × (take (16 + 4 * n) w ≡ expand 4 (take 16 w₀) n)
+Inv-loop w₀ n₀ w n = Expanded (take 16 w₀) w n
 
 abbrev μ-loop : tie.MeasureT-loop
 μ-loop w₀ n₀ w n = 40 - n
 
+loop-holds : tie.Need-loop-holds Inv-loop μ-loop
+loop-holds c = search expanded-none
+
+loop-again : tie.Need-loop-again Inv-loop μ-loop
+loop-again c = search expanded-more
+
+returns : tie.Need-returns Inv-loop μ-loop
+returns c = search expanded-all
+
+-- ---- the needs that the search closes
 key-words-requires : tie.Need-key-words-requires Inv-loop μ-loop
 key-words-requires c κs = search needs
-
-loop-holds : tie.Need-loop-holds Inv-loop μ-loop
-unfolding expand
-loop-holds c = (omega arith, omega arith, refl)
 
 word-at-requires : tie.Need-word-at-requires Inv-loop μ-loop
 word-at-requires c κs = search needs
@@ -84,22 +91,6 @@ add-n c = omega arith
 
 loop-less : tie.Need-loop-less Inv-loop μ-loop
 loop-less c = omega arith
-
-loop-again : tie.Need-loop-again Inv-loop μ-loop
-loop-again c =
-    let k = c .before .before .before in
-    let l = k .before .before .loop in (
-      omega arith,
-      simp length-set (omega arith),
-      key-turn _ _ _ (omega arith) (l .inv .1) (l .inv .2) (k .word-at .ensures) (c .before .before .word-at2 .ensures)
-          (c .before .temp-of .ensures) (c .xor-word .ensures),
-    )
-
-returns : tie.Need-returns Inv-loop μ-loop
-returns c =
-    let l = c .before .loop in
-    let k = c .before .before .key-words in
-    key-end _ (k .result) _ (l .n) (l .inv .1) (l .inv .2) (omega arith) (k .ensures)
 
 pub expand-key-spec : {M : Type 1} → statement M
 expand-key-spec =

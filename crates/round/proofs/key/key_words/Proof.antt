@@ -1,24 +1,28 @@
--- `round::key::key_words` meets its contract: byte after byte. Assumes nothing.
-use mathlib.Core.Path.{_≡_, refl}
-use Prim.Native.Nat.{_-_, _≤_}
-use lib.ListN.{length, take, length-set}
-use Rattle.bits.specs.Lists.{at, tabulate}
-use Rattle.bits.proofs.laws.Lists.{fill-more}
-use Rattle.round.proofs.laws.Expansion.{key-front}
+-- `round::key::key_words` meets its contract. The invariant, `Laid` of `laws.Expansion`: the first i bytes are the key's. It holds at the start
+-- (`laid-none`), a turn copies byte i (`laid-more`), and behind the last the key stands in front of the room for the other words (`laid-all`).
+-- Assumes nothing.
+use Prim.Native.Nat.{_-_}
+use Rattle.round.proofs.laws.Expansion.{Laid, laid-none, laid-more, laid-all}
 use native.Mathlib.Omega.{arith}
 use Rattle.round.proofs.key.key_words.Statement.{statement}
 use Rattle.round.proofs.key.key_words.Tie as tie
 
 abbrev Inv-loop : tie.InvT-loop
-Inv-loop key w₀ i₀ w i = (i ≤ 16) × (length w ≡ 176) × (take i w ≡ tabulate i (at key))
+Inv-loop key w₀ i₀ w i = Laid key w i
 
 abbrev μ-loop : tie.MeasureT-loop
 μ-loop key w₀ i₀ w i = 16 - i
 
 loop-holds : tie.Need-loop-holds Inv-loop μ-loop
-unfolding tabulate
-loop-holds c = (omega arith, refl, refl)
+loop-holds c = search laid-none
 
+loop-again : tie.Need-loop-again Inv-loop μ-loop
+loop-again c = search laid-more
+
+returns : tie.Need-returns Inv-loop μ-loop
+returns c = search laid-all
+
+-- ---- the needs that the search closes
 array-read-w : tie.Need-array-read-w Inv-loop μ-loop
 array-read-w c = omega arith
 
@@ -30,12 +34,6 @@ add-i c = omega arith
 
 loop-less : tie.Need-loop-less Inv-loop μ-loop
 loop-less c = omega arith
-
-loop-again : tie.Need-loop-again Inv-loop μ-loop
-loop-again c = (omega arith, simp length-set (omega arith), fill-more _ _ _ _ (omega arith) (c .before .loop .inv .2) refl)
-
-returns : tie.Need-returns Inv-loop μ-loop
-returns c = key-front _ _ _ (c .before .loop .inv .2) (omega arith) (omega arith)
 
 pub key-words-spec : {M : Type 1} → statement M
 key-words-spec =

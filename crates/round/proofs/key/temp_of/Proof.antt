@@ -1,10 +1,18 @@
--- `round::key::temp_of` meets its contract, in each branch by its test. Assumes nothing.
-use mathlib.Core.Path.{sym}
+-- `round::key::temp_of` meets its contract, in each branch by its test. Where 4 divides i the word is turned by one byte, goes through the S-box and
+-- gets the round constant in its first byte (`temp-turn` of `laws.Key`, whose premises are what the calls ensure); else it stays (`temp-keep`).
+-- Assumes nothing.
 use Rattle.round.proofs.laws.Key.{temp-turn, temp-keep}
 use borrow.Author.Needs.{needs}
 use Rattle.round.proofs.key.temp_of.Statement.{statement}
 use Rattle.round.proofs.key.temp_of.Tie as tie
 
+returns : tie.Need-returns
+returns c = search temp-turn
+
+returns-2 : tie.Need-returns-2
+returns-2 c = search temp-keep
+
+-- ---- the needs that the search closes
 array-read-sub : tie.Need-array-read-sub
 array-read-sub c = search needs
 
@@ -31,15 +39,6 @@ array-read-sub-4 c = search needs
 
 sub-requires-4 : tie.Need-sub-requires-4
 sub-requires-4 c κs = search needs
-
-returns : tie.Need-returns
-returns c =
-    let k = c .before .before .before .before in
-    temp-turn _ _ (k .before .if1 .taken) (k .sub .ensures) (c .before .before .before .rcon-at .ensures)
-    (c .before .before .sub2 .ensures) (c .before .sub3 .ensures) (c .sub4 .ensures)
-
-returns-2 : tie.Need-returns-2
-returns-2 c = sym (temp-keep (c .before .args .i) (c .before .args .t1) (c .if1 .left))
 
 pub temp-of-spec : {M : Type 1} → statement M
 temp-of-spec =

@@ -1,9 +1,14 @@
--- `round::key::word_at` meets its contract. Assumes nothing.
+-- `round::key::word_at` meets its contract. The four bytes from 4 j on are word j (`word-is` of `laws.Key`); the last index is below 4 * 43 + 4 = 176.
+-- Assumes nothing.
 use Rattle.round.proofs.laws.Key.{word-is}
 use borrow.Author.Needs.{needs}
 use Rattle.round.proofs.key.word_at.Statement.{statement}
 use Rattle.round.proofs.key.word_at.Tie as tie
 
+returns : tie.Need-returns
+returns c = word-is _ _
+
+-- ---- the needs that the search closes
 mul-a : tie.Need-mul-a
 mul-a c = search needs
 
@@ -27,9 +32,6 @@ add-t16 c = search needs
 
 array-read-t19 : tie.Need-array-read-t19
 array-read-t19 c = search needs
-
-returns : tie.Need-returns
-returns c = word-is _ _
 
 pub word-at-spec : {M : Type 1} → statement M
 word-at-spec =

@@ -1,4 +1,5 @@
--- `round::key::xor_word` meets its contract. Assumes nothing.
+-- `round::key::xor_word` meets its contract. The result is `xorWord` written out, byte by byte, so the two compute to the same list.
+-- Assumes nothing.
 use mathlib.Core.Path.{refl}
 use Rattle.bits.specs.Lists.{tabulate}
 use Rattle.round.specs.Key.{xorWord}
@@ -6,6 +7,11 @@ use borrow.Author.Needs.{needs}
 use Rattle.round.proofs.key.xor_word.Statement.{statement}
 use Rattle.round.proofs.key.xor_word.Tie as tie
 
+returns : tie.Need-returns
+unfolding xorWord tabulate
+returns c = refl
+
+-- ---- the needs that the search closes
 array-read-t7 : tie.Need-array-read-t7
 array-read-t7 c = search needs
 
@@ -29,10 +35,6 @@ array-read-t28 c = search needs
 
 array-read-t31 : tie.Need-array-read-t31
 array-read-t31 c = search needs
-
-returns : tie.Need-returns
-unfolding xorWord tabulate
-returns c = refl
 
 pub xor-word-spec : {M : Type 1} → statement M
 xor-word-spec =

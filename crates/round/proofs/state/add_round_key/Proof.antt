@@ -1,26 +1,32 @@
--- `round::state::add_round_key` meets its contract: byte after byte, the xor with the byte of the round key. Assumes nothing.
-use mathlib.Core.Path.{refl, sym, ap, ap₂, _∙_}
-use Prim.Native.Nat.{_-_, _/_, _%_}
+-- `round::state::add_round_key` meets its contract. The invariant, `Filled` of the crate bits: the first i bytes are those of s, each with the byte
+-- of the round key added, which begins at byte 16 n of w. A turn writes one byte more (`filled-more`); behind the last they are `AddRoundKey` cell
+-- by cell (`add-filled` of `laws.Key`). Every index into w is below 16 * 10 + 16 = 176.
+-- Assumes nothing.
+use Prim.Native.Nat.{_+_, _-_, _*_}
 use lib.Bits.{bitXor}
 use Rattle.bits.specs.Lists.{at}
-use Rattle.bits.proofs.laws.Filled.{Filled, filled-none, filled-more, filled-all}
-use Rattle.round.specs.State.{cell, state, AddRoundKey}
-use Rattle.round.specs.Key.{keyOf}
-use Rattle.round.proofs.laws.State.{place}
-use Rattle.round.proofs.laws.Key.{key-at}
+use Rattle.bits.proofs.laws.Filled.{Filled, filled-none, filled-more}
+use Rattle.round.proofs.laws.Key.{add-filled}
 use native.Mathlib.Omega.{arith}
 use Rattle.round.proofs.state.add_round_key.Statement.{statement}
 use Rattle.round.proofs.state.add_round_key.Tie as tie
 
 abbrev Inv-loop : tie.InvT-loop
-Inv-loop n s w t₀ i₀ t i = Filled 16 (λ k. bitXor (cell s (k % 4) (k / 4)) (cell (keyOf w n) (k % 4) (k / 4))) t i
+Inv-loop n s w t₀ i₀ t i = Filled 16 (λ k. bitXor (at s k) (at w (16 * n + k))) t i
 
 abbrev μ-loop : tie.MeasureT-loop
 μ-loop n s w t₀ i₀ t i = 16 - i
 
 loop-holds : tie.Need-loop-holds Inv-loop μ-loop
-loop-holds c = filled-none 16 _ _ refl
+loop-holds c = search filled-none
 
+loop-again : tie.Need-loop-again Inv-loop μ-loop
+loop-again c = search filled-more
+
+returns : tie.Need-returns Inv-loop μ-loop
+returns c = search add-filled
+
+-- ---- the needs that the search closes
 array-read-t : tie.Need-array-read-t Inv-loop μ-loop
 array-read-t c = omega arith
 
@@ -41,18 +47,6 @@ add-i c = omega arith
 
 loop-less : tie.Need-loop-less Inv-loop μ-loop
 loop-less c = omega arith
-
-loop-again : tie.Need-loop-again Inv-loop μ-loop
-loop-again c =
-    let i = c .before .loop .i in
-    let w = c .before .before .args .t2 in
-    let n = c .before .before .args .n in
-    filled-more (c .before .loop .inv) (omega arith)
-    (ap₂ bitXor (ap (at (c .before .before .args .t1)) (place i)) (sym (key-at w n i (omega arith)) ∙ ap (at (keyOf w n)) (place i)))
-
-returns : tie.Need-returns Inv-loop μ-loop
-unfolding AddRoundKey state
-returns c = filled-all (c .before .loop .inv) (omega arith)
 
 pub add-round-key-spec : {M : Type 1} → statement M
 add-round-key-spec =

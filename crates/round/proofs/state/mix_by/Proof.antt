@@ -1,5 +1,6 @@
--- `round::state::mix_by` meets its contract: byte after byte, its row of the matrix times its column. Assumes nothing.
-use mathlib.Core.Path.{refl}
+-- `round::state::mix_by` meets its contract. The invariant, `Filled` of the crate bits: the first i bytes are row i % 4 of the matrix times column
+-- i / 4 of the state. A turn writes one byte more, as the call ensures (`filled-more`); behind the last they are `mixBy` written out (`filled-all`).
+-- Assumes nothing.
 use Prim.Native.Nat.{_-_, _/_, _%_}
 use Rattle.bits.specs.Groups.{xorAll}
 use Rattle.bits.proofs.laws.Filled.{Filled, filled-none, filled-more, filled-all}
@@ -17,8 +18,16 @@ abbrev μ-loop : tie.MeasureT-loop
 μ-loop m s t₀ i₀ t i = 16 - i
 
 loop-holds : tie.Need-loop-holds Inv-loop μ-loop
-loop-holds c = filled-none 16 _ _ refl
+loop-holds c = search filled-none
 
+loop-again : tie.Need-loop-again Inv-loop μ-loop
+loop-again c = search filled-more
+
+returns : tie.Need-returns Inv-loop μ-loop
+unfolding mixBy state
+returns c = search filled-all
+
+-- ---- the needs that the search closes
 row-by-column-requires : tie.Need-row-by-column-requires Inv-loop μ-loop
 row-by-column-requires c κs = search needs
 
@@ -30,13 +39,6 @@ add-i c = omega arith
 
 loop-less : tie.Need-loop-less Inv-loop μ-loop
 loop-less c = omega arith
-
-loop-again : tie.Need-loop-again Inv-loop μ-loop
-loop-again c = filled-more (c .before .before .loop .inv) (omega arith) (c .row-by-column .ensures)
-
-returns : tie.Need-returns Inv-loop μ-loop
-unfolding mixBy state
-returns c = filled-all (c .before .loop .inv) (omega arith)
 
 pub mix-by-spec : {M : Type 1} → statement M
 mix-by-spec =

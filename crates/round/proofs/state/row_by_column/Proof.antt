@@ -1,26 +1,31 @@
--- `round::state::row_by_column` meets its contract. The invariant: the sum of the first q products. Assumes nothing.
-use mathlib.Core.Path.{_≡_, refl, ap₂}
-use Prim.Native.Nat.{_-_, _≤_}
-use native.Mathlib.Numerals.{add-one}
-use lib.Bits.{bitXor}
-use Rattle.bits.specs.Groups.{xorAll}
+-- `round::state::row_by_column` meets its contract. The invariant, `Summed` of `laws.Sum`: the sum of the first q products of row r and column c. A
+-- turn adds one product more, as the call ensures (`summed-more`); behind the last the sum is whole (`summed-all`). Every index is below 16.
+-- Assumes nothing.
+use Prim.Native.Nat.{_-_}
 use Rattle.field.specs.Field.{mul}
 use Rattle.round.specs.State.{cell, entry}
+use Rattle.round.proofs.laws.Sum.{Summed, summed-none, summed-more, summed-all}
 use borrow.Author.Needs.{needs}
 use native.Mathlib.Omega.{arith}
 use Rattle.round.proofs.state.row_by_column.Statement.{statement}
 use Rattle.round.proofs.state.row_by_column.Tie as tie
 
 abbrev Inv-loop : tie.InvT-loop
-Inv-loop r c m s sum₀ q₀ sum q = (q ≤ 4) × (sum ≡ xorAll q (λ p. mul (entry m r p) (cell s p c)))
+Inv-loop r c m s sum₀ q₀ sum q = Summed 4 (λ p. mul (entry m r p) (cell s p c)) sum q
 
 abbrev μ-loop : tie.MeasureT-loop
 μ-loop r c m s sum₀ q₀ sum q = 4 - q
 
 loop-holds : tie.Need-loop-holds Inv-loop μ-loop
-unfolding xorAll
-loop-holds c = (omega arith, refl)
+loop-holds c = search summed-none
 
+loop-again : tie.Need-loop-again Inv-loop μ-loop
+loop-again c = search summed-more
+
+returns : tie.Need-returns Inv-loop μ-loop
+returns c = search summed-all
+
+-- ---- the needs that the search closes
 mul-product : tie.Need-mul-product Inv-loop μ-loop
 mul-product c = omega arith
 
@@ -47,13 +52,6 @@ add-q c = omega arith
 
 loop-less : tie.Need-loop-less Inv-loop μ-loop
 loop-less c = omega arith
-
-loop-again : tie.Need-loop-again Inv-loop μ-loop
-unfolding xorAll
-loop-again c = (omega arith, rw add-one (ap₂ bitXor (c .before .before .loop .inv .1) (c .product .ensures)))
-
-returns : tie.Need-returns Inv-loop μ-loop
-returns c = let e : c .before .loop .q ≡ 4 = omega arith in rw e at (c .before .loop .inv .1)
 
 pub row-by-column-spec : {M : Type 1} → statement M
 row-by-column-spec =

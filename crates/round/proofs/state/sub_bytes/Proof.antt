@@ -1,24 +1,32 @@
--- `round::state::sub_bytes` meets its contract: byte after byte, sboxOf of the byte of the state. Assumes nothing.
-use mathlib.Core.Path.{refl}
-use Prim.Native.Nat.{_-_, _/_, _%_}
+-- `round::state::sub_bytes` meets its contract. The invariant, `Filled` of the crate bits: the first i bytes are those of s behind the S-box. A turn
+-- writes one byte more (`filled-more`); behind the last they are `SubBytes` cell by cell (`sub-filled` of `laws.State`).
+-- Assumes nothing.
+use Prim.Native.Nat.{_-_}
+use Rattle.bits.specs.Lists.{at}
+use Rattle.bits.proofs.laws.Filled.{Filled, filled-none, filled-more}
 use Rattle.field.specs.Sbox.{sboxOf}
-use Rattle.bits.proofs.laws.Filled.{Filled, filled-none, filled-all}
-use Rattle.round.specs.State.{cell, state, SubBytes}
-use Rattle.round.proofs.laws.State.{each-more}
+use Rattle.round.proofs.laws.State.{sub-filled}
 use borrow.Author.Needs.{needs}
 use native.Mathlib.Omega.{arith}
 use Rattle.round.proofs.state.sub_bytes.Statement.{statement}
 use Rattle.round.proofs.state.sub_bytes.Tie as tie
 
 abbrev Inv-loop : tie.InvT-loop
-Inv-loop s t₀ i₀ t i = Filled 16 (λ k. sboxOf (cell s (k % 4) (k / 4))) t i
+Inv-loop s t₀ i₀ t i = Filled 16 (λ k. sboxOf (at s k)) t i
 
 abbrev μ-loop : tie.MeasureT-loop
 μ-loop s t₀ i₀ t i = 16 - i
 
 loop-holds : tie.Need-loop-holds Inv-loop μ-loop
-loop-holds c = filled-none 16 _ _ refl
+loop-holds c = search filled-none
 
+loop-again : tie.Need-loop-again Inv-loop μ-loop
+loop-again c = search filled-more
+
+returns : tie.Need-returns Inv-loop μ-loop
+returns c = search sub-filled
+
+-- ---- the needs that the search closes
 array-read-sub : tie.Need-array-read-sub Inv-loop μ-loop
 array-read-sub c = omega arith
 
@@ -33,13 +41,6 @@ add-i c = omega arith
 
 loop-less : tie.Need-loop-less Inv-loop μ-loop
 loop-less c = omega arith
-
-loop-again : tie.Need-loop-again Inv-loop μ-loop
-loop-again c = each-more sboxOf (c .before .before .before .args .t1) (c .before .before .loop .inv) (omega arith) (c .sub .ensures)
-
-returns : tie.Need-returns Inv-loop μ-loop
-unfolding SubBytes state
-returns c = filled-all (c .before .loop .inv) (omega arith)
 
 pub sub-bytes-spec : {M : Type 1} → statement M
 sub-bytes-spec =

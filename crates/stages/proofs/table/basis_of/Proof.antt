@@ -1,62 +1,113 @@
--- `stages::table::basis_of` meets its contract. Assumes nothing.
-use mathlib.Core.Path.{sym, ap, _∙_, subst}
-use Prim.Native.Nat.{ℕ, _-_, _^_, _<_}
-use Rattle.bundle.specs.Format.{columnMatrixPart}
-use Rattle.matrices.proofs.laws.Rows.{stored-same}
-use Rattle.layers.specs.Layers.{roundOf, InverseFor, wordNumber}
+-- `stages::table::basis_of` goes by the kind of the stage. The call of each branch stores the basis from the matrix that such a stage has, and a
+-- law of `laws.Words` says that its words are the stage's: `based-entry`, `based-first`, `based-second`, `based-exit`. The inverse is long enough
+-- by `entry-inverse` and `second-inverse`, a matrix because its part of the bundle is. Behind the last stage there is none: its round is not one
+-- from 1 to 9, as the `requires` asks. In a half the round is r, so the numbers of its matrices neither wrap nor are out of range.
+-- Assumes nothing.
+use mathlib.Core.Path.{ap}
+use Rattle.layers.specs.Layers.{roundOf}
 use Rattle.layers.proofs.laws.Code.{frame-of, column-part-long, output-part-long}
-use Rattle.network.specs.declared.stage.Stage.{Stage}
-use Rattle.stages.proofs.laws.Words.{entry-code, first-code, second-code, exit-code}
-use Rattle.whitebox.specs.Bundles.{codingsOf}
-use Rattle.whitebox.specs.Parts.{forward}
+use Rattle.stages.proofs.laws.Words.{entry-inverse, second-inverse, based-entry, based-first, based-second, based-exit}
 use native.Mathlib.Omega.{arith}
 use borrow.Author.Needs.{needs}
 use Rattle.stages.proofs.table.basis_of.Statement.{statement}
 use Rattle.stages.proofs.table.basis_of.Tie as tie
 
-enum-told : tie.Need-enum-told
-enum-told c = search needs
-
 spread-basis-requires : tie.Need-spread-basis-requires
 spread-basis-requires c κs =
-    let A = c .before .before .before .before .before .before .args in
-    let p = c .before .before .before .before .before .before .pre in
-    let inverse = subst (λ (t : Stage). InverseFor (A .bundle .now) t (A .p) (A .inverse .now)) (c .before .enum-told .given .1) (p .1) in
-    (frame-of _ (p .0), omega arith, p .4, omega arith, inverse .0, p .5)
+    let stage : tie.After-enum-told = search in
+    let start : tie.Start = search in
+    let p = start .pre in
+    (frame-of _ (p .0), omega arith, p .4, omega arith, entry-inverse _ _ _ _ (p .1) (stage .enum-told .given .1), p .5)
+
+returns : tie.Need-returns
+returns c =
+    let stage : tie.After-enum-told = search in
+    let start : tie.Start = search in
+    based-entry _ _ _ _ _ _ (stage .enum-told .given .1) (start .pre .1) (search)
+
+column-number-requires : tie.Need-column-number-requires
+column-number-requires c κs =
+    let stage : tie.After-s = search in
+    let round = ap roundOf (stage .s .given .1) in
+    search needs
+
+mixed-basis-requires : tie.Need-mixed-basis-requires
+mixed-basis-requires c κs =
+    let part : tie.After-column-matrix-part = search in
+    let number : tie.After-column-number = search in
+    let start : tie.Start = search in
+    let long = column-part-long _ _ (frame-of _ (start .pre .0)) _ (number .column-number .ensures .1) (part .column-matrix-part .ensures) in
+    (omega arith, omega arith, start .pre .5)
+
+returns-2 : tie.Need-returns-2
+returns-2 c =
+    let stage : tie.After-s = search in
+    let number : tie.After-column-number = search in
+    let part : tie.After-column-matrix-part = search in
+    let n = number .column-number .ensures in
+    based-first _ _ _ _ _ _ _ _ (stage .s .given .1) (n .0) (n .1) (part .column-matrix-part .ensures) (search)
+
+mul-spread-basis : tie.Need-mul-spread-basis
+mul-spread-basis c =
+    let stage : tie.After-s2 = search in
+    let start : tie.Start = search in
+    omega (arith, ap roundOf (stage .s2 .given .1), start .pre)
+
+add-spread-basis : tie.Need-add-spread-basis
+add-spread-basis c =
+    let stage : tie.After-s2 = search in
+    let start : tie.Start = search in
+    omega (arith, ap roundOf (stage .s2 .given .1), start .pre)
+
+spread-basis-requires-2 : tie.Need-spread-basis-requires-2
+spread-basis-requires-2 c κs =
+    let stage : tie.After-s2 = search in
+    let start : tie.Start = search in
+    let p = start .pre in
+    let round = ap roundOf (stage .s2 .given .1) in
+    (frame-of _ (p .0), omega arith, omega arith, omega arith, second-inverse _ _ _ _ (p .1) _ (stage .s2 .given .1), p .5)
+
+returns-3 : tie.Need-returns-3
+returns-3 c =
+    let stage : tie.After-s2 = search in
+    let start : tie.Start = search in
+    let p = start .pre in
+    based-second _ _ _ _ _ _ _ (stage .s2 .given .1) (p .2) (p .3) (p .4) (p .1) (search)
+
+placed-basis-requires : tie.Need-placed-basis-requires
+placed-basis-requires c κs =
+    let part : tie.After-output-matrix-part = search in
+    let start : tie.Start = search in
+    let long = output-part-long _ _ (frame-of _ (start .pre .0)) (part .output-matrix-part .ensures) in
+    (omega arith, start .pre .4, start .pre .5)
+
+returns-4 : tie.Need-returns-4
+returns-4 c =
+    let stage : tie.After-enum-told2 = search in
+    let part : tie.After-output-matrix-part = search in
+    based-exit _ _ _ _ _ _ (stage .enum-told2 .given .1) (part .output-matrix-part .ensures) (search)
+
+returns-5 : tie.Need-returns-5
+returns-5 c =
+    let stage : tie.After-enum-told3 = search in
+    let start : tie.Start = search in
+    absurd (omega (arith, start .pre, ap roundOf (stage .enum-told3 .given .1)))
+
+-- ---- the needs that the search closes
+enum-told : tie.Need-enum-told
+enum-told c = search needs
 
 enum-known-s : tie.Need-enum-known-s
 enum-known-s c = search needs
 
-column-number-requires : tie.Need-column-number-requires
-column-number-requires c κs = omega (arith, ap roundOf (c .before .s .given .1), c .before .before .before .before .before .before .pre .2, c .before .before .before .before .before .before .pre .3, c .before .before .before .before .before .before .pre .4)
-
 column-matrix-part-requires : tie.Need-column-matrix-part-requires
 column-matrix-part-requires c κs = search needs
-
-mixed-basis-requires : tie.Need-mixed-basis-requires
-mixed-basis-requires c κs =
-    let p = c .before .before .before .before .before .before .before .before .before .pre in
-    (omega (arith, column-part-long _ _ (frame-of _ (p .0)) _ (c .before .before .column-number .ensures .1) (c .before .column-matrix-part .ensures)), omega arith, p .5)
 
 enum-known-s-2 : tie.Need-enum-known-s-2
 enum-known-s-2 c = search needs
 
-mul-spread-basis : tie.Need-mul-spread-basis
-mul-spread-basis c = omega (arith, ap roundOf (c .before .s2 .given .1), (c .before .before .before .before .before .before .pre) .2, (c .before .before .before .before .before .before .pre) .3, (c .before .before .before .before .before .before .pre) .4)
-
 mul-spread-basis-2 : tie.Need-mul-spread-basis-2
 mul-spread-basis-2 c = search needs
-
-add-spread-basis : tie.Need-add-spread-basis
-add-spread-basis c = omega (arith, ap roundOf (c .before .s2 .given .1), (c .before .before .before .before .before .before .pre) .2, (c .before .before .before .before .before .before .pre) .3, (c .before .before .before .before .before .before .pre) .4)
-
-spread-basis-requires-2 : tie.Need-spread-basis-requires-2
-spread-basis-requires-2 c κs =
-    let A = c .before .before .before .before .before .before .before .args in
-    let p = c .before .before .before .before .before .before .before .pre in
-    let R = ap roundOf (c .before .before .s2 .given .1) in
-    let inverse = subst (λ (t : Stage). InverseFor (A .bundle .now) t (A .p) (A .inverse .now)) (c .before .before .s2 .given .1) (p .1) in
-    (frame-of _ (p .0), omega arith, omega arith, omega (arith, R, p .2, p .3, p .4), inverse .0, p .5)
 
 enum-told-2 : tie.Need-enum-told-2
 enum-told-2 c = search needs
@@ -64,74 +115,20 @@ enum-told-2 c = search needs
 output-matrix-part-requires : tie.Need-output-matrix-part-requires
 output-matrix-part-requires c κs = search needs
 
-placed-basis-requires : tie.Need-placed-basis-requires
-placed-basis-requires c κs =
-    let p = c .before .before .before .before .before .before .before .pre in
-    (omega (arith, output-part-long _ _ (frame-of _ (p .0)) (c .before .output-matrix-part .ensures)), p .4, p .5)
-
 enum-told-3 : tie.Need-enum-told-3
 enum-told-3 c = search needs
 
 same-length : tie.Need-same-length
 same-length c = search needs
 
-returns : tie.Need-returns
-returns c =
-    let A = c .before .before .before .before .before .before .before .before .before .args in
-    let l = A .bundle .now in
-    let inverse = subst (λ (t : Stage). InverseFor l t (A .p) (A .inverse .now)) (c .before .before .before .before .enum-told .given .1) ((c .before .before .before .before .before .before .before .before .before .pre) .1) in
-    λ w.
-    c .before .before .spread-basis .ensures
-    ∙ stored-same 8 _ _ _ (λ k h.
-    entry-code l w (A .p) (2 ^ k) _ (inverse .1)
-    ∙ ap (λ (t : Stage). wordNumber (forward 10 w) (codingsOf 10 l) t (A .p) (2 ^ k)) (sym (c .before .before .before .before .enum-told .given .1)))
-
 same-length-2 : tie.Need-same-length-2
 same-length-2 c = search needs
-
-returns-2 : tie.Need-returns-2
-returns-2 c =
-    let A = c .before .before .before .before .before .before .before .before .before .before .before .before .args in
-    let l = A .bundle .now in
-    let n = c .before .before .before .before .before .column-number .ensures in
-    λ w.
-    c .before .before .mixed-basis .ensures
-    ∙ stored-same 8 _ _ _ (λ k h.
-    first-code l w (A .p) (2 ^ k) (c .before .before .before .before .before .before .before .s .given .0 .0) _ (subst (λ (x : ℕ). x < 36) (n .0) (n .1))
-    (c .before .before .before .before .column-matrix-part .ensures ∙ ap (columnMatrixPart 10 l) (n .0))
-    ∙ ap (λ (t : Stage). wordNumber (forward 10 w) (codingsOf 10 l) t (A .p) (2 ^ k)) (sym (c .before .before .before .before .before .before .before .s .given .1)))
 
 same-length-3 : tie.Need-same-length-3
 same-length-3 c = search needs
 
-returns-3 : tie.Need-returns-3
-returns-3 c =
-    let A = c .before .before .before .before .before .before .before .before .before .before .args in
-    let p = c .before .before .before .before .before .before .before .before .before .before .pre in
-    let l = A .bundle .now in
-    let R = ap roundOf (c .before .before .before .before .before .s2 .given .1) in
-    let inverse = subst (λ (t : Stage). InverseFor l t (A .p) (A .inverse .now)) (c .before .before .before .before .before .s2 .given .1) (p .1) in
-    λ w.
-    c .before .before .spread-basis2 .ensures
-    ∙ stored-same 8 _ _ _ (λ k h.
-    second-code l w (A .p) (2 ^ k) (c .before .before .before .before .before .s2 .given .0 .0) _ (omega (arith, R, p .2)) (omega (arith, R, p .3)) (p .4) (inverse .1)
-    ∙ ap (λ (t : Stage). wordNumber (forward 10 w) (codingsOf 10 l) t (A .p) (2 ^ k)) (sym (c .before .before .before .before .before .s2 .given .1)))
-
 same-length-4 : tie.Need-same-length-4
 same-length-4 c = search needs
-
-returns-4 : tie.Need-returns-4
-returns-4 c =
-    let A = c .before .before .before .before .before .before .before .before .before .before .args in
-    let l = A .bundle .now in
-    λ w.
-    c .before .before .placed-basis .ensures
-    ∙ stored-same 8 _ _ _ (λ k h.
-    exit-code l w (A .p) (2 ^ k) _ (c .before .before .before .before .output-matrix-part .ensures)
-    ∙ ap (λ (t : Stage). wordNumber (forward 10 w) (codingsOf 10 l) t (A .p) (2 ^ k)) (sym (c .before .before .before .before .before .enum-told2 .given .1)))
-
-returns-5 : tie.Need-returns-5
-returns-5 c = absurd (omega (arith, ap roundOf (c .enum-told3 .given .1), (c .before .before .before .before .before .pre) .2))
 
 pub basis-of-spec : {M : Type 1} → statement M
 basis-of-spec =

@@ -1,23 +1,70 @@
--- `stages::table::spread_table` meets its contract. Assumes nothing.
-use mathlib.Core.List.{List}
-use mathlib.Core.Path.{sym, ap, ap₂, _∙_}
-use Prim.Native.Nat.{ℕ, _+_, _*_}
-use lib.ListN.{length, take}
-use Rattle.bits.specs.Lists.{at, concat}
-use Rattle.bits.proofs.laws.Lists.{length-tabulate}
+-- `stages::table::spread_table`: each call fills one list, the values, the basis of words, the images of the word's encodings; `write` makes
+-- the table of them, and `spread-made` of `laws.Spread` says that it is the spread table. Its premises are what the calls ensure. No sum wraps:
+-- p words of 2 m nibbles are at most 15 times 32 of them.
+-- Assumes nothing.
+use Prim.Native.Nat.{_*_, _≤_}
 use Rattle.bits.proofs.laws.Multiples.{product-le}
-use Rattle.matrices.specs.Rows.{rowAt}
-use Rattle.matrices.proofs.laws.Rows.{row-stored}
-use Rattle.bundle.specs.Format.{encodingOf}
-use Rattle.entries.specs.Spread.{combined, encodedWord}
-use Rattle.stages.proofs.laws.Encodings.{whole-encodings, encodings-in}
-use Rattle.stages.proofs.laws.Spread.{spread-is}
+use Rattle.stages.proofs.laws.Encodings.{whole-encodings}
+use Rattle.stages.proofs.laws.Spread.{spread-made}
 use Rattle.stages.proofs.laws.Words.{images-lt}
 use native.Mathlib.Omega.{arith}
 use borrow.Author.Needs.{needs}
 use Rattle.stages.proofs.table.spread_table.Statement.{statement}
 use Rattle.stages.proofs.table.spread_table.Tie as tie
 
+-- the nibbles of the words before word p
+rows-fit : (s : tie.Start) (c : tie.After-width-of) → s .args .p * (2 * c .width-of .result) ≤ 15 * 32
+rows-fit s c = product-le _ _ 15 32 (omega arith) (omega arith)
+
+mul-first : tie.Need-mul-first
+mul-first c = omega (arith, rows-fit (search) (search))
+
+add-first : tie.Need-add-first
+add-first c = omega (arith, rows-fit (search) (search))
+
+all-images-requires : tie.Need-all-images-requires
+all-images-requires c κs =
+    let section : tie.After-section = search in
+    let rows = rows-fit (search) (search) in
+    (whole-encodings _ _ (section .section .ensures), omega arith, omega arith, omega arith)
+
+write-requires : tie.Need-write-requires
+write-requires c κs =
+    let images : tie.After-all-images = search in
+    let section : tie.After-section = search in
+    let basis : tie.After-basis-of = search in
+    let values : tie.After-values-of = search in
+    let width : tie.After-width-of = search in
+    let bytes : tie.After-shared-slice-known = search in
+    let start : tie.Start = search in
+    let nibbles = images-lt _ _ _ _ _ (λ i. bytes .shared-slice-known .given i .fits) (section .section .ensures) (images .all-images .ensures) in (
+      values .values-of .kept .1 .1 .1 .1 .0,
+      omega (arith, basis .basis-of),
+      width .width-of .ensures .1,
+      omega (arith, images .all-images),
+      λ i h. nibbles i (omega arith),
+      rw (width .width-of .ensures .0) (start .pre .6),
+    )
+
+returns : tie.Need-returns
+returns c =
+    let write : tie.After-write = search in
+    let images : tie.After-all-images = search in
+    let section : tie.After-section = search in
+    let first : tie.After-first-number = search in
+    let basis : tie.After-basis-of = search in
+    let values : tie.After-values-of = search in
+    let width : tie.After-width-of = search in
+    let keys : tie.After-shared-slice-known2 = search in
+    let bytes : tie.After-shared-slice-known = search in
+    let start : tie.Start = search in
+    let p = start .pre in
+    spread-made _ _ (λ i. bytes .shared-slice-known .given i .fits) (λ i. keys .shared-slice-known2 .given i .fits)
+    (p .0) _ (p .3) (p .4) _ (p .5) _ _ _ _ _ _ _ _ (width .width-of .ensures .0) (first .first-number .ensures .0)
+    (section .section .ensures) (omega arith)
+    (values .values-of .ensures) (basis .basis-of .ensures _) (images .all-images .ensures) (write .write .ensures)
+
+-- ---- the needs that the search closes
 width-of-requires : tie.Need-width-of-requires
 width-of-requires c κs = search needs
 
@@ -39,22 +86,11 @@ mul-d c = search needs
 first-number-requires : tie.Need-first-number-requires
 first-number-requires c κs = search needs
 
-mul-first : tie.Need-mul-first
-mul-first c = omega (arith, product-le (c .before .before .before .before .before .before .before .before .before .before .before .before .args .p) (2 * c .before .before .before .before .before .before .before .width-of .result) 16 32 (omega arith) (omega arith))
-
-add-first : tie.Need-add-first
-add-first c = omega (arith, product-le (c .before .before .before .before .before .before .before .before .before .before .before .before .args .p) (2 * c .before .before .before .before .before .before .before .width-of .result) 16 32 (omega arith) (omega arith))
-
 section-requires : tie.Need-section-requires
 section-requires c κs = search needs
 
 slice-aggregate-all-images : tie.Need-slice-aggregate-all-images
 slice-aggregate-all-images c = search needs
-
-all-images-requires : tie.Need-all-images-requires
-all-images-requires c κs =
-    let b = product-le (c .before .before .before .before .before .before .before .before .before .before .before .before .before .before .args .p) (2 * c .before .before .before .before .before .before .before .before .before .width-of .result) 15 32 (omega arith) (omega arith) in
-    (whole-encodings (c .before .before .before .before .before .before .before .before .before .before .before .before .before .before .args .bundle .now) _ (c .before .section .ensures), omega arith, omega arith, omega arith)
 
 slice-aggregate-write : tie.Need-slice-aggregate-write
 slice-aggregate-write c = search needs
@@ -65,42 +101,8 @@ slice-aggregate-write-2 c = search needs
 slice-aggregate-write-3 : tie.Need-slice-aggregate-write-3
 slice-aggregate-write-3 c = search needs
 
-write-requires : tie.Need-write-requires
-write-requires c κs =
-    let A = c .before .before .before .before .before .before .before .before .before .before .before .before .before .before .before .before .before .before .before .before .args in
-    let l = A .bundle .now in
-    let m = c .before .before .before .before .before .before .before .before .before .before .before .before .before .before .before .width-of .result in
-    let E = c .before .before .before .before .before .all-images .ensures ∙ ap (λ (g : ℕ → List ℕ). concat (2 * m) (λ h. g (c .before .before .before .before .before .before .before .before .first-number .result + A .p * (2 * m) + h))) (encodings-in l _ (c .before .before .before .before .before .before .before .section .ensures)) in
-    let images = c .before .before .before .before .before .all-images .last .1 .1 .1 .0 in
-    let below = images-lt l images (λ i. c .before .before .before .before .before .before .before .before .before .before .before .before .before .before .before .before .before .before .before .shared-slice-known .given i .fits) _ (2 * m) E in (
-      ap length (c .before .before .before .before .before .before .before .before .before .before .before .before .before .values-of .ensures) ∙ length-tabulate 256 _,
-      omega (arith, c .before .before .before .before .before .before .before .before .before .before .basis-of .kept .1 .1 .1 .1 .0),
-      omega arith,
-      omega (arith, c .before .before .before .before .before .all-images .kept .1 .1 .1 .0),
-      λ i h. below i (omega arith),
-      (c .before .before .before .before .before .before .before .before .before .before .before .before .before .before .before .before .before .before .before .before .pre) .6 ∙ ap (λ (z : ℕ). 256 * z) (sym (c .before .before .before .before .before .before .before .before .before .before .before .before .before .before .before .width-of .ensures .0)),
-    )
-
 same-length : tie.Need-same-length
 same-length c = search needs
-
-returns : tie.Need-returns
-returns c =
-    let A = c .before .before .before .before .before .before .before .before .before .before .before .before .before .before .before .before .before .before .before .before .before .before .before .args in
-    let p = c .before .before .before .before .before .before .before .before .before .before .before .before .before .before .before .before .before .before .before .before .before .before .before .pre in
-    let l = A .bundle .now in
-    let w = A .keys .now in
-    let values = c .before .before .before .before .before .before .before .before .before .before .before .before .before .before .before .before .values-of .last .1 .1 .1 .1 .0 in
-    let basis = c .before .before .before .before .before .before .before .before .before .before .before .before .before .basis-of .last .1 .1 .1 .1 .0 in
-    let images = c .before .before .before .before .before .before .before .before .all-images .last .1 .1 .1 .0 in
-    let m = c .before .before .before .before .before .before .before .before .before .before .before .before .before .before .before .before .before .before .width-of .result in
-    let W = c .before .before .before .before .before .before .before .before .before .before .before .before .before .before .before .before .before .before .width-of .ensures .0 in
-    let E = c .before .before .before .before .before .before .before .before .all-images .ensures ∙ ap (λ (g : ℕ → List ℕ). concat (2 * m) (λ h. g (c .before .before .before .before .before .before .before .before .before .before .before .first-number .result + A .p * (2 * m) + h))) (encodings-in l _ (c .before .before .before .before .before .before .before .before .before .before .section .ensures)) in
-    let D = c .before .before .write .ensures ∙ ap (λ (m : ℕ). concat 256 (λ x. encodedWord (at images) m (combined (rowAt basis) (at values x)))) W in
-    let I = sym (ap (λ (m : ℕ). take (2 * m * 16) images) W) ∙ E
-    ∙ ap₂ (λ (m f : ℕ). concat (2 * m) (λ h. encodingOf 10 l (f + A .p * (2 * m) + h))) W (c .before .before .before .before .before .before .before .before .before .before .before .first-number .ensures .0) in
-    spread-is l w (λ i. c .before .before .before .before .before .before .before .before .before .before .before .before .before .before .before .before .before .before .before .before .before .before .shared-slice-known .given i .fits) (λ i. c .before .before .before .before .before .before .before .before .before .before .before .before .before .before .before .before .before .before .before .before .before .shared-slice-known2 .given i .fits) (p .0) (A .s) (p .3) (p .4) (A .p) (p .5) values images _ (rowAt basis) D (c .before .before .before .before .before .before .before .before .before .before .before .before .before .before .before .before .values-of .ensures)
-    (λ k h. ap (λ (t : List ℕ). rowAt t k) (c .before .before .before .before .before .before .before .before .before .before .before .before .before .basis-of .ensures w) ∙ row-stored 8 _ _ (omega arith) k h) I
 
 pub spread-table-spec : {M : Type 1} → statement M
 spread-table-spec =

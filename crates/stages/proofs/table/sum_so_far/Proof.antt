@@ -1,4 +1,5 @@
--- `stages::table::sum_so_far` meets its contract. Assumes nothing.
+-- `stages::table::sum_so_far` makes the test that picks the number in the `ensures`: each way out is one value of it.
+-- Assumes nothing.
 use mathlib.Core.Path.{refl}
 use borrow.Author.Tests.{eq-eqb, ne-eqb}
 use Rattle.stages.proofs.table.sum_so_far.Statement.{statement}

@@ -1,57 +1,55 @@
--- `stages::table::write` meets its contract. Assumes nothing.
-use mathlib.Core.Path.{sym, ap₂, _∙_, subst}
-use Prim.Native.Nat.{ℕ, _+_, _-_, _≤_, _<_}
-use borrow.Author.Tests.{lt-ltb, le-ltb}
-use Rattle.network.specs.Numbers.{layerResults}
-use Rattle.network.specs.Order.{GoodWidth, xors}
-use Rattle.network.specs.Stages.{widthOf, numbersOf}
-use Rattle.network.specs.Tables.{xorTable, tableIn}
-use Rattle.network.proofs.laws.Order.{xor-in}
-use Rattle.stages.proofs.laws.Xors.{good-width, results-fit}
-use Rattle.whitebox.specs.Bundles.{codingsOf}
+-- `stages::table::write` makes the spread table below 16 (`table-spread` of `laws.Tables`), and from 16 on the XOR table of the stage's width and
+-- first number (`table-xor`). The memory has the size that a table of that kind has: `spread-size` for the first call. `xor-asked` has all that
+-- the second asks: this, a width that XORs are made for, and numbers in range.
+-- Assumes nothing.
+use mathlib.Core.Path.{_∙_}
+use Rattle.network.specs.Stages.{numbersOf}
+use Rattle.stages.proofs.laws.Tables.{spread-size, xor-asked, table-spread, table-xor}
 use borrow.Author.Needs.{needs}
 use Rattle.stages.proofs.table.write.Statement.{statement}
 use Rattle.stages.proofs.table.write.Tie as tie
 
 spread-table-requires : tie.Need-spread-table-requires
 spread-table-requires c κs =
-    let p = c .before .before .before .before .before .before .pre in
-    let spread = c .before .if1 .taken in
-    (p .0, p .1 spread, p .2, p .3, p .4, spread, rw (lt-ltb _ _ spread) at (p .6))
+    let branch : tie.Then1 = search in
+    let start : tie.Start = search in
+    let p = start .pre in
+    let spread = branch .if1 .taken in
+    (p .0, p .1 spread, p .2, p .3, p .4, spread, p .6 ∙ spread-size _ _ spread)
 
+returns : tie.Need-returns
+returns c = table-spread _ _ _ _ _ (search) (search)
+
+xor-table-requires : tie.Need-xor-table-requires
+xor-table-requires c κs =
+    let first : tie.After-first-number = search in
+    let width : tie.After-width-of = search in
+    let branch : tie.Else1 = search in
+    let start : tie.Start = search in
+    let p = start .pre in
+    xor-asked (start .args .s) _ _ _ _ (width .width-of .ensures .0) (first .first-number .ensures .0)
+    (p .3) (p .4) (branch .if1 .left) (p .5) (p .6)
+
+returns-2 : tie.Need-returns-2
+unfolding numbersOf
+returns-2 c =
+    let made : tie.After-xor-table = search in
+    let first : tie.After-first-number = search in
+    let width : tie.After-width-of = search in
+    table-xor _ _ _ _ _ _ _ (search) (width .width-of .ensures .0) (first .first-number .ensures .0) (made .xor-table .ensures)
+
+-- ---- the needs that the search closes
 width-of-requires : tie.Need-width-of-requires
 width-of-requires c κs = search needs
 
 first-number-requires : tie.Need-first-number-requires
 first-number-requires c κs = search needs
 
-xor-table-requires : tie.Need-xor-table-requires
-xor-table-requires c κs =
-    let A = c .before .before .before .before .before .before .before .before .args in
-    let p = c .before .before .before .before .before .before .before .before .pre in
-    let W = c .before .before .width-of .ensures .0 in
-    let F = c .before .first-number .ensures .0 in (
-      subst GoodWidth (sym W) (good-width (A .s) (p .3)),
-      subst (λ (m : ℕ). c .before .first-number .result + layerResults m ≤ 6048) (sym W) (subst (λ (f : ℕ). f + layerResults (widthOf (A .s)) ≤ 6048) (sym F) (results-fit (A .s) (p .3) (p .4))),
-      subst (λ (m : ℕ). A .j - 16 < xors m) (sym W) (xor-in (widthOf (A .s)) (A .j) (c .before .before .before .if1 .left) (p .5)),
-      rw (le-ltb _ _ (c .before .before .before .if1 .left)) at (p .6),
-    )
-
 same-length : tie.Need-same-length
 same-length c = search needs
 
-returns : tie.Need-returns
-unfolding tableIn
-returns c = rw (lt-ltb _ _ (c .before .before .before .before .if1 .taken)) (c .before .before .spread-table .ensures)
-
 same-length-2 : tie.Need-same-length-2
 same-length-2 c = search needs
-
-returns-2 : tie.Need-returns-2
-unfolding tableIn numbersOf
-returns-2 c =
-    let A = c .before .before .before .before .before .before .before .before .before .before .before .args in
-    rw (le-ltb _ _ (c .before .before .before .before .before .before .if1 .left)) (c .before .before .xor-table .ensures ∙ ap₂ (λ (m f : ℕ). xorTable (codingsOf 10 (A .bundle .now) .encoding) m f (A .j - 16)) (c .before .before .before .before .before .width-of .ensures .0) (c .before .before .before .before .first-number .ensures .0))
 
 pub write-spec : {M : Type 1} → statement M
 write-spec =

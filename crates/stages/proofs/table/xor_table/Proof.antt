@@ -1,13 +1,63 @@
--- `stages::table::xor_table` meets its contract. Assumes nothing.
-use mathlib.Core.Path.{_∙_}
-use Rattle.entries.specs.Encodings.{encodingIn}
-use Rattle.stages.proofs.laws.Encodings.{whole-encodings, encodings-in}
-use Rattle.stages.proofs.laws.Xors.{bounds, so-far-is, added-is, result-is, xor-is}
+-- `stages::table::xor_table` works out the numbers of three encodings: of the sum so far, of the nibble that is added, and of the result. `write`
+-- makes the table of them; `xor-made` of `laws.Xors` says that these are the numbers of XOR x, and that it is the XOR table. Nothing wraps, as
+-- every number is below the bundle's 6,048 encodings: `xor-within`.
+-- Assumes nothing.
+use Rattle.stages.proofs.laws.Encodings.{whole-encodings}
+use Rattle.stages.proofs.laws.Xors.{Within, xor-within, xor-made}
 use native.Mathlib.Omega.{arith}
 use borrow.Author.Needs.{needs}
 use Rattle.stages.proofs.table.xor_table.Statement.{statement}
 use Rattle.stages.proofs.table.xor_table.Tie as tie
 
+write-requires : tie.Need-write-requires
+write-requires c κs =
+    let section : tie.After-section = search in
+    (whole-encodings _ _ (section .section .ensures), search)
+
+returns : tie.Need-returns
+returns c =
+    let written : tie.After-write = search in
+    let section : tie.After-section = search in
+    let sum : tie.After-sum-so-far = search in
+    let start : tie.Start = search in
+    let p = start .pre in
+    xor-made _ (p .0) _ _ _ _ _ _ (p .1) (p .2) (section .section .ensures) (sum .sum-so-far .ensures) (written .write .ensures)
+
+-- ---- no sum and no product wraps
+fits : (s : tie.Start) → Within (s .args .m) (s .args .first) (s .args .x)
+fits s = xor-within _ _ _ (s .pre .0) (s .pre .1) (s .pre .2)
+
+mul-word : tie.Need-mul-word
+mul-word c = omega (arith, fits (search))
+
+add-result-2 : tie.Need-add-result-2
+add-result-2 c = omega (arith, fits (search))
+
+mul-sum-so-far : tie.Need-mul-sum-so-far
+mul-sum-so-far c = omega (arith, fits (search))
+
+add-sum-so-far : tie.Need-add-sum-so-far
+add-sum-so-far c = omega (arith, fits (search))
+
+add-sum-so-far-2 : tie.Need-add-sum-so-far-2
+add-sum-so-far-2 c = omega (arith, fits (search))
+
+add-write : tie.Need-add-write
+add-write c = omega (arith, fits (search))
+
+add-write-2 : tie.Need-add-write-2
+add-write-2 c = omega (arith, fits (search))
+
+mul-write : tie.Need-mul-write
+mul-write c = omega (arith, fits (search))
+
+add-write-3 : tie.Need-add-write-3
+add-write-3 c = omega (arith, fits (search))
+
+add-write-4 : tie.Need-add-write-4
+add-write-4 c = omega (arith, fits (search))
+
+-- ---- the needs that the search closes
 mul-d : tie.Need-mul-d
 mul-d c = search needs
 
@@ -23,9 +73,6 @@ sub-word c = search needs
 div-word : tie.Need-div-word
 div-word c = search needs
 
-mul-word : tie.Need-mul-word
-mul-word c = let b = bounds (c .before .before .args .m) ((c .before .before .pre) .0) (c .before .before .args .first) (c .before .before .args .x) ((c .before .before .pre) .1) ((c .before .before .pre) .2) in omega arith
-
 sub-added : tie.Need-sub-added
 sub-added c = search needs
 
@@ -38,18 +85,6 @@ mul-result c = search needs
 add-result : tie.Need-add-result
 add-result c = search needs
 
-add-result-2 : tie.Need-add-result-2
-add-result-2 c = let b = bounds (c .before .before .args .m) ((c .before .before .pre) .0) (c .before .before .args .first) (c .before .before .args .x) ((c .before .before .pre) .1) ((c .before .before .pre) .2) in omega arith
-
-mul-sum-so-far : tie.Need-mul-sum-so-far
-mul-sum-so-far c = let b = bounds (c .before .before .args .m) ((c .before .before .pre) .0) (c .before .before .args .first) (c .before .before .args .x) ((c .before .before .pre) .1) ((c .before .before .pre) .2) in omega arith
-
-add-sum-so-far : tie.Need-add-sum-so-far
-add-sum-so-far c = let b = bounds (c .before .before .args .m) ((c .before .before .pre) .0) (c .before .before .args .first) (c .before .before .args .x) ((c .before .before .pre) .1) ((c .before .before .pre) .2) in omega arith
-
-add-sum-so-far-2 : tie.Need-add-sum-so-far-2
-add-sum-so-far-2 c = let b = bounds (c .before .before .args .m) ((c .before .before .pre) .0) (c .before .before .args .first) (c .before .before .args .x) ((c .before .before .pre) .1) ((c .before .before .pre) .2) in omega arith
-
 sub-sum-so-far : tie.Need-sub-sum-so-far
 sub-sum-so-far c = search needs
 
@@ -59,34 +94,8 @@ sum-so-far-requires c κs = search needs
 section-requires : tie.Need-section-requires
 section-requires c κs = search needs
 
-add-write : tie.Need-add-write
-add-write c = let b = bounds (c .before .before .before .before .args .m) ((c .before .before .before .before .pre) .0) (c .before .before .before .before .args .first) (c .before .before .before .before .args .x) ((c .before .before .before .before .pre) .1) ((c .before .before .before .before .pre) .2) in omega arith
-
-add-write-2 : tie.Need-add-write-2
-add-write-2 c = let b = bounds (c .before .before .before .before .args .m) ((c .before .before .before .before .pre) .0) (c .before .before .before .before .args .first) (c .before .before .before .before .args .x) ((c .before .before .before .before .pre) .1) ((c .before .before .before .before .pre) .2) in omega arith
-
-mul-write : tie.Need-mul-write
-mul-write c = let b = bounds (c .before .before .before .before .args .m) ((c .before .before .before .before .pre) .0) (c .before .before .before .before .args .first) (c .before .before .before .before .args .x) ((c .before .before .before .before .pre) .1) ((c .before .before .before .before .pre) .2) in omega arith
-
-add-write-3 : tie.Need-add-write-3
-add-write-3 c = let b = bounds (c .before .before .before .before .args .m) ((c .before .before .before .before .pre) .0) (c .before .before .before .before .args .first) (c .before .before .before .before .args .x) ((c .before .before .before .before .pre) .1) ((c .before .before .before .before .pre) .2) in omega arith
-
-add-write-4 : tie.Need-add-write-4
-add-write-4 c = let b = bounds (c .before .before .before .before .args .m) ((c .before .before .before .before .pre) .0) (c .before .before .before .before .args .first) (c .before .before .before .before .args .x) ((c .before .before .before .before .pre) .1) ((c .before .before .before .before .pre) .2) in omega arith
-
-write-requires : tie.Need-write-requires
-write-requires c κs = (whole-encodings (c .before .before .before .before .before .args .bundle .now) _ (c .before .section .ensures), (c .before .before .before .before .before .pre) .3)
-
 same-length : tie.Need-same-length
 same-length c = search needs
-
-returns : tie.Need-returns
-returns c =
-    let A = c .before .before .before .before .before .before .before .before .args in
-    let p = c .before .before .before .before .before .before .before .before .pre in
-    let g = p .0 in
-    c .before .before .write .ensures
-    ∙ xor-is (A .m) g (A .first) (A .x) (A .bundle .now) (encodingIn (c .before .before .before .before .section .result .now)) (encodings-in (A .bundle .now) _ (c .before .before .before .before .section .ensures)) _ _ _ (p .1) (p .2) (c .before .before .before .before .before .sum-so-far .ensures ∙ so-far-is (A .m) g (A .first) (A .x)) (added-is (A .m) g (A .first) (A .x)) (result-is (A .m) g (A .first) (A .x))
 
 pub xor-table-spec : {M : Type 1} → statement M
 xor-table-spec =

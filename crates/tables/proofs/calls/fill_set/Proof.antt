@@ -1,11 +1,19 @@
--- `tables::calls::fill_set` meets its contract. Assumes nothing.
-use mathlib.Core.Path.{ap, _∙_}
-use Rattle.round.specs.Key.{KeyExpansion}
-use Rattle.tables.proofs.laws.Calls.{set-is}
+-- `tables::calls::fill_set` copies the key and expands it, works out the inverses of all matrices, and has `write_all` write every table; by
+-- `set-made` of `laws.Calls` that is the set of the key and the bundle. The inverses are ready for `write_all` by what the calls before ensure.
+-- Assumes nothing.
+use Rattle.tables.proofs.laws.Calls.{set-made}
 use borrow.Author.Needs.{needs}
 use Rattle.tables.proofs.calls.fill_set.Statement.{statement}
 use Rattle.tables.proofs.calls.fill_set.Tie as tie
 
+returns : tie.Need-returns
+returns c =
+    let written : tie.After-write-all = search in
+    let expanded : tie.After-expand-key = search in
+    let copied : tie.After-key-of = search in
+    set-made _ _ _ _ _ (copied .key-of .ensures) (expanded .expand-key .ensures) (written .write-all .ensures)
+
+-- ---- the needs that the search closes
 key-of-requires : tie.Need-key-of-requires
 key-of-requires c κs = search needs
 
@@ -38,9 +46,6 @@ write-all-requires c κs = search needs
 
 same-length : tie.Need-same-length
 same-length c = search needs
-
-returns : tie.Need-returns
-returns c = c .before .before .write-all .ensures ∙ set-is (c .before .before .before .before .before .before .before .before .before .before .before .before .before .before .before .before .before .before .args .key .now) (c .before .before .before .before .before .before .before .before .before .before .before .before .before .before .before .before .before .before .args .bundle .now) _ (c .before .before .before .before .before .before .before .before .before .before .before .before .before .expand-key .ensures ∙ ap (KeyExpansion 4) (c .before .before .before .before .before .before .before .before .before .before .before .before .before .before .key-of .ensures))
 
 pub fill-set-spec : {M : Type 1} → statement M
 fill-set-spec =

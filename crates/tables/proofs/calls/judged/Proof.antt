@@ -1,14 +1,25 @@
--- `tables::calls::judged` meets its contract. Assumes nothing.
-use mathlib.Core.Path.{sym, _∙_}
+-- `tables::calls::judged` turns down a key of another length (`judged-key` of `laws.Calls`); else its answer is that of the bundle's judgement,
+-- accepted or refused (`judged-by`).
+-- Assumes nothing.
 use Rattle.tables.proofs.laws.Calls.{judged-key, judged-by}
 use borrow.Author.Needs.{needs}
 use Rattle.tables.proofs.calls.judged.Statement.{statement}
 use Rattle.tables.proofs.calls.judged.Tie as tie
-use Rattle.judgement.proofs.judge.judge_bundle.Reads as judge-bundle-reads
 
 returns : tie.Need-returns
-returns c = judged-key _ _ (c .if1 .taken)
+returns c = judged-key _ _ (search)
 
+returns-2 : tie.Need-returns-2
+returns-2 c =
+    let told : tie.After-enum-told = search in
+    judged-by _ _ (search) _ _ (search) (told .enum-told .given .1)
+
+returns-3 : tie.Need-returns-3
+returns-3 c =
+    let told : tie.After-r = search in
+    judged-by _ _ (search) _ _ (search) (told .r .given .1)
+
+-- ---- the needs that the search closes
 judge-bundle-requires : tie.Need-judge-bundle-requires
 judge-bundle-requires c κs = search needs
 
@@ -17,12 +28,6 @@ enum-told c = search needs
 
 enum-known-r : tie.Need-enum-known-r
 enum-known-r c = search needs
-
-returns-2 : tie.Need-returns-2
-returns-2 c = judged-by _ _ (c .before .before .before .if1 .left) _ (sym (c .before .before .judge-bundle .ensures) ∙ c .enum-told .given .1)
-
-returns-3 : tie.Need-returns-3
-returns-3 c = judged-by _ _ (c .before .before .before .before .if1 .left) _ (sym (c .before .before .before .judge-bundle .ensures) ∙ c .before .r .given .1)
 
 pub judged-spec : {M : Type 1} → statement M
 judged-spec =

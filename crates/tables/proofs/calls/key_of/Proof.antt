@@ -1,4 +1,6 @@
--- `tables::calls::key_of` meets its contract. Assumes nothing.
+-- `tables::calls::key_of` copies the key byte by byte. The loop's invariant, `Filled` of bits: the first i of the 16 places hold the key's bytes.
+-- Before the loop that is none (`filled-none`), a turn adds byte i (`filled-more`), and behind the last turn the list is the key (`copied`).
+-- Assumes nothing.
 use mathlib.Core.Path.{refl}
 use Prim.Native.Nat.{_-_}
 use Rattle.bits.specs.Lists.{at}
@@ -16,6 +18,15 @@ abbrev μ-loop : tie.MeasureT-loop
 loop-holds : tie.Need-loop-holds Inv-loop μ-loop
 loop-holds c = filled-none 16 _ _ refl
 
+loop-again : tie.Need-loop-again Inv-loop μ-loop
+loop-again c =
+    let turn : tie.In-loop Inv-loop μ-loop = search in
+    filled-more (turn .before .loop .inv) (turn .loop-test .taken) refl
+
+returns : tie.Need-returns Inv-loop μ-loop
+returns c = search copied
+
+-- ---- the needs that the search closes
 shared-slice-read-k : tie.Need-shared-slice-read-k Inv-loop μ-loop
 shared-slice-read-k c = omega arith
 
@@ -27,12 +38,6 @@ add-i c = omega arith
 
 loop-less : tie.Need-loop-less Inv-loop μ-loop
 loop-less c = omega arith
-
-loop-again : tie.Need-loop-again Inv-loop μ-loop
-loop-again c = filled-more (c .before .before .loop .inv) (omega arith) refl
-
-returns : tie.Need-returns Inv-loop μ-loop
-returns c = copied (c .before .loop .inv) (omega arith) (c .before .before .pre)
 
 pub key-of-spec : {M : Type 1} → statement M
 key-of-spec =

@@ -1,36 +1,47 @@
--- `tables::calls::make_set` meets its contract. Assumes nothing.
-use mathlib.Core.Path.{refl, sym, _∙_}
-use Rattle.tables.proofs.laws.Calls.{judged-done, set-refused, set-memory, set-done, written-done}
+-- `tables::calls::make_set` has a law of `laws.Calls` for each way out: a refusal by key or bundle stays (`set-refused`), a memory of another
+-- length is refused (`set-length`), both with the memory left as it was; else the set is written (`set-done`). What `fill_set` asks is that
+-- there was no refusal: `accepted`.
+-- Assumes nothing.
+use mathlib.Core.Path.{refl}
+use Rattle.tables.proofs.laws.Calls.{accepted, set-refused, set-length, set-done}
 use borrow.Author.Needs.{needs}
 use Rattle.tables.proofs.calls.make_set.Statement.{statement}
 use Rattle.tables.proofs.calls.make_set.Tie as tie
-use Rattle.tables.proofs.calls.fill_set.Reads as fill-set-reads
-use Rattle.tables.proofs.calls.judged.Reads as judged-reads
 
+returns : tie.Need-returns
+returns c =
+    let answer : tie.After-judged = search in
+    set-refused _ _ _ (answer .judged .ensures) _ _ _ (c .match .keys2)
+
+returns-2 : tie.Need-returns-2
+returns-2 c =
+    let told : tie.After-enum-told = search in
+    let answer : tie.After-judged = search in
+    (set-length _ _ _ (answer .judged .ensures) _ (told .enum-told .given .1) (search), refl)
+
+fill-set-requires : tie.Need-fill-set-requires
+fill-set-requires c κs =
+    let told : tie.After-enum-told = search in
+    let answer : tie.After-judged = search in
+    let inputs = accepted _ _ _ (answer .judged .ensures) (told .enum-told .given .1) in
+    (inputs .0, inputs .1, search)
+
+returns-3 : tie.Need-returns-3
+returns-3 c =
+    let filled : tie.After-fill-set = search in
+    let told : tie.After-enum-told = search in
+    let answer : tie.After-judged = search in
+    set-done _ _ _ (answer .judged .ensures) _ (told .enum-told .given .1) (search) _ _ _ (filled .fill-set .ensures)
+
+-- ---- the needs that the search closes
 judged-requires : tie.Need-judged-requires
 judged-requires c κs = search needs
 
 enum-told : tie.Need-enum-told
 enum-told c = search needs
 
-returns : tie.Need-returns
-returns c = set-refused _ _ _ _ (c .before .judged .ensures) (c .match .keys2) _ _
-
-returns-2 : tie.Need-returns-2
-returns-2 c = (set-memory _ _ _ (sym (c .before .before .before .judged .ensures) ∙ c .before .enum-told .given .1) (c .if1 .taken), refl)
-
-fill-set-requires : tie.Need-fill-set-requires
-fill-set-requires c κs =
-    let d = judged-done _ _ (sym (c .before .before .before .before .judged .ensures) ∙ c .before .before .enum-told .given .1) in
-    (d .0, d .1, c .before .if1 .left)
-
 same-length : tie.Need-same-length
 same-length c = search needs
-
-returns-3 : tie.Need-returns-3
-returns-3 c =
-    let d = sym (c .before .before .before .before .before .before .before .judged .ensures) ∙ c .before .before .before .before .before .enum-told .given .1 in
-    (c .before .before .before .before .before .enum-told .given .1 ∙ set-done _ _ _ d (c .before .before .before .before .if1 .left), written-done _ (c .before .before .before .before .before .enum-told .given .1) _ _ _ (c .before .before .fill-set .ensures))
 
 pub make-set-spec : {M : Type 1} → statement M
 make-set-spec =

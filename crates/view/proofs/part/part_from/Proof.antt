@@ -1,11 +1,37 @@
--- `view::part::part_from` meets its contract. Assumes nothing.
-use mathlib.Core.Path.{sym, ap, _∙_}
-use denote.Ref.{now}
-use Rattle.view.specs.Views.{partFrom}
+-- `view::part::part_from` meets its contract. Each arm of the `match` cuts the part that p names out of its section, from the section's start: what
+-- `numbered_from` ensures is what is due for the name that the arm tells (`part-named` of `laws.Code`).
+-- Assumes nothing.
+use Rattle.view.proofs.laws.Code.{part-named}
 use borrow.Author.Needs.{needs}
 use Rattle.view.proofs.part.part_from.Statement.{statement}
 use Rattle.view.proofs.part.part_from.Tie as tie
 
+returns : tie.Need-returns
+returns c =
+    let named : tie.After-p = search in
+    part-named 10 _ _ (named .p .given .1) (c .numbered-from .ensures)
+
+returns-2 : tie.Need-returns-2
+returns-2 c =
+    let named : tie.After-p2 = search in
+    part-named 10 _ _ (named .p2 .given .1) (c .numbered-from2 .ensures)
+
+returns-3 : tie.Need-returns-3
+returns-3 c =
+    let named : tie.After-p3 = search in
+    part-named 10 _ _ (named .p3 .given .1) (c .numbered-from3 .ensures)
+
+returns-4 : tie.Need-returns-4
+returns-4 c =
+    let named : tie.After-enum-told = search in
+    part-named 10 _ _ (named .enum-told .given .1) (c .numbered-from4 .ensures)
+
+returns-5 : tie.Need-returns-5
+returns-5 c =
+    let named : tie.After-enum-told2 = search in
+    part-named 10 _ _ (named .enum-told2 .given .1) (c .numbered-from5 .ensures)
+
+-- ---- the needs that the search closes
 enum-known-p : tie.Need-enum-known-p
 enum-known-p c = search needs
 
@@ -35,31 +61,6 @@ enum-told-2 c = search needs
 
 numbered-from-requires-5 : tie.Need-numbered-from-requires-5
 numbered-from-requires-5 c κs = search needs
-
-returns : tie.Need-returns
-returns c =
-    let A = c .before .before .before .before .before .args in
-    c .numbered-from .ensures ∙ ap (partFrom 10 (now (A .bundle)) (A .t)) (sym (c .before .before .p .given .1))
-
-returns-2 : tie.Need-returns-2
-returns-2 c =
-    let A = c .before .before .before .before .before .args in
-    c .numbered-from2 .ensures ∙ ap (partFrom 10 (now (A .bundle)) (A .t)) (sym (c .before .before .p2 .given .1))
-
-returns-3 : tie.Need-returns-3
-returns-3 c =
-    let A = c .before .before .before .before .before .args in
-    c .numbered-from3 .ensures ∙ ap (partFrom 10 (now (A .bundle)) (A .t)) (sym (c .before .before .p3 .given .1))
-
-returns-4 : tie.Need-returns-4
-returns-4 c =
-    let A = c .before .before .before .before .args in
-    c .numbered-from4 .ensures ∙ ap (partFrom 10 (now (A .bundle)) (A .t)) (sym (c .before .enum-told .given .1))
-
-returns-5 : tie.Need-returns-5
-returns-5 c =
-    let A = c .before .before .before .before .args in
-    c .numbered-from5 .ensures ∙ ap (partFrom 10 (now (A .bundle)) (A .t)) (sym (c .before .enum-told2 .given .1))
 
 pub part-from-spec : {M : Type 1} → statement M
 part-from-spec =

@@ -1,10 +1,31 @@
--- `view::part::section_from` meets its contract. Assumes nothing.
-use Rattle.view.proofs.laws.Code.{from-nowhere, from-behind, from-cut}
-use native.Mathlib.Omega.{arith}
+-- `view::part::section_from` meets its contract. Each way out has a law of `laws.Code`, whose premises are the tests on the way and the section's
+-- length: the section starts nowhere (`from-nowhere`), it is longer than the bundle (`from-long`), or it would end behind the bundle (`from-late`), and
+-- is empty; else it is cut out of the bundle (`from-cut`). The tests keep the difference and the sum from wrapping.
+-- Assumes nothing.
+use Rattle.view.proofs.laws.Code.{from-nowhere, from-long, from-late, from-cut}
 use borrow.Author.Needs.{needs}
 use Rattle.view.proofs.part.section_from.Statement.{statement}
 use Rattle.view.proofs.part.section_from.Tie as tie
 
+returns : tie.Need-returns
+returns c = from-nowhere 10 _ _ _ (search)
+
+returns-2 : tie.Need-returns-2
+returns-2 c =
+    let long : tie.After-section-length = search in
+    from-long 10 _ _ _ (search) (long .section-length .ensures .0) (search)
+
+returns-3 : tie.Need-returns-3
+returns-3 c =
+    let long : tie.After-section-length = search in
+    from-late 10 _ _ _ (search) (long .section-length .ensures .0) (search) (search)
+
+returns-4 : tie.Need-returns-4
+returns-4 c =
+    let long : tie.After-section-length = search in
+    from-cut 10 _ _ _ (search) (long .section-length .ensures .0) (search) (search)
+
+-- ---- the needs that the search closes
 section-length-requires : tie.Need-section-length-requires
 section-length-requires c κs = search needs
 
@@ -17,9 +38,6 @@ part-result-start c = search needs
 part-result-end : tie.Need-part-result-end
 part-result-end c = search needs
 
-returns : tie.Need-returns
-returns c = from-nowhere 10 _ _ _ (c .before .if1 .taken)
-
 sub-result-2 : tie.Need-sub-result-2
 sub-result-2 c = search needs
 
@@ -28,11 +46,6 @@ part-result-start-2 c = search needs
 
 part-result-end-2 : tie.Need-part-result-end-2
 part-result-end-2 c = search needs
-
-returns-2 : tie.Need-returns-2
-returns-2 c =
-    from-behind 10 _ _ _ (c .before .before .if1 .left)
-    (omega (arith, c .before .before .before .section-length .ensures .0, c .before .if2 .taken))
 
 sub-if3 : tie.Need-sub-if3
 sub-if3 c = search needs
@@ -46,11 +59,6 @@ part-result-start-3 c = search needs
 part-result-end-3 : tie.Need-part-result-end-3
 part-result-end-3 c = search needs
 
-returns-3 : tie.Need-returns-3
-returns-3 c =
-    from-behind 10 _ _ _ (c .before .before .before .if1 .left)
-    (omega (arith, c .before .before .before .before .section-length .ensures .0, c .before .before .if2 .left, c .before .if3 .taken))
-
 add-e : tie.Need-add-e
 add-e c = search needs
 
@@ -62,11 +70,6 @@ part-result-start-4 c = search needs
 
 part-result-end-4 : tie.Need-part-result-end-4
 part-result-end-4 c = search needs
-
-returns-4 : tie.Need-returns-4
-returns-4 c =
-    from-cut 10 _ _ _ (c .before .before .before .if1 .left) _ (c .before .before .before .before .section-length .ensures .0)
-    (omega (arith, c .before .before .if2 .left, c .before .if3 .left))
 
 pub section-from-spec : {M : Type 1} → statement M
 section-from-spec =

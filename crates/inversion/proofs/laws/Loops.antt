@@ -1,0 +1,196 @@
+-- Laws, not definitions: the loops of the elimination. Each has an invariant over the work area, with a law for its start, a turn and its ends;
+-- m₀ is the work area at the start, m what it has become. At the end, what `invert` puts together.
+-- Assumes nothing.
+use mathlib.Core.Bool.{Bool, true, false}
+use mathlib.Core.List.{List}
+use mathlib.Core.Logic.{_≢_}
+use mathlib.Core.Path.{_≡_, refl, sym, ap, ap₂, _∙_, subst}
+use Prim.Native.Nat.{ℕ, suc, _+_, _-_, _*_, _/_, _%_, _^_, _≤_, _<_}
+use native.Mathlib.Decide.{ℕ-discrete}
+use native.Mathlib.Omega.{arith}
+use lib.ListN.{length}
+use Rattle.bits.specs.Lists.{at, tabulate}
+use Rattle.bits.specs.Vectors.{unit}
+use Rattle.bits.proofs.laws.Lists.{tabulate-ext, at-tabulate}
+use Rattle.matrices.specs.Matrices.{identity}
+use Rattle.matrices.specs.Rows.{rowAt, rowsOf, setRow, stored}
+use Rattle.matrices.proofs.laws.Rows.{row-set-same, row-set-other, length-setRow, stored-same}
+use Rattle.inversion.specs.Elimination.{pivotBy, clearBy, pivotFrom, Inversion, inverse, singular, columns, invert, hasInverse, withInverse}
+use Rattle.inversion.specs.Work.{leftAt, rightAt, lefts, rights, addedTo, ended}
+use Rattle.inversion.proofs.laws.Elimination.{clearBy-pivot}
+use Rattle.inversion.proofs.laws.Inverses.{pivot-found}
+use Rattle.inversion.proofs.laws.Work.{added-left, added-right, Swept, swept-none, swept-more, swept-all, clearBy-row, digit-of-row}
+use Rattle.inversion.proofs.laws.Work.{pivot-here, pivot-on, pivot-end, Stepped, column-none, column-next, columns-done}
+
+-- ---- the start: the first i rows of a stand on the left, those of the identity on the right
+pub record Started (n : ℕ) (a m₀ m : List ℕ) (i : ℕ) : Type 0 where
+  pub within : i ≤ n
+  pub long : length m ≡ length m₀
+  pub left : (j : ℕ) → j < i → leftAt m j ≡ rowAt a j
+  pub right : (j : ℕ) → j < i → rightAt m j ≡ unit n j
+
+pub started-none : {n : ℕ} {a m : List ℕ} → Started n a m m 0
+started-none = record {
+  within = omega arith;
+  long = refl;
+  left = λ j h. absurd (omega arith);
+  right = λ j h. absurd (omega arith);
+}
+
+module _ {n : ℕ} {a m₀ m : List ℕ} {i : ℕ} (g : Started n a m₀ m i) where
+  -- Rows x and y are stored, one after the other.
+  pub started-more : {x y : ℕ} {m₁ m₂ : List ℕ} → 4 * n ≤ length m₀ → i < n → x ≡ rowAt a i → m₁ ≡ setRow m (2 * i) x
+      → y ≡ 2 ^ (n - 1 - i) → m₂ ≡ setRow m₁ (2 * i + 1) y
+      → Started n a m₀ m₂ (i + 1)
+  started-more {x} {y} {m₁} {m₂} room h ex e₁ ey e₂ =
+      let long-m = g .long in
+      let long : length m₁ ≡ length m = ap length e₁ ∙ length-setRow m (2 * i) x in
+      let place : n - 1 - i ≡ n - suc i = omega arith in
+      let left-kept : (j : ℕ) → leftAt m₂ j ≡ leftAt m₁ j =
+      λ j. ap (λ (z : List ℕ). leftAt z j) e₂ ∙ row-set-other m₁ (2 * i + 1) y (2 * j) (omega arith) in
+      let right-kept : (j : ℕ) → rightAt m₁ j ≡ rightAt m j =
+      λ j. ap (λ (z : List ℕ). rightAt z j) e₁ ∙ row-set-other m (2 * i) x (2 * j + 1) (omega arith) in
+      let left-here : leftAt m₁ i ≡ rowAt a i =
+      ap (λ (z : List ℕ). leftAt z i) e₁ ∙ row-set-same m (2 * i) x (omega arith) ∙ ex in
+      let right-here : rightAt m₂ i ≡ unit n i =
+      ap (λ (z : List ℕ). rightAt z i) e₂ ∙ row-set-same m₁ (2 * i + 1) y (omega arith) ∙ ey ∙ ap (λ (z : ℕ). 2 ^ z) place in
+      record {
+        within = omega arith;
+        long = ap length e₂ ∙ length-setRow m₁ (2 * i + 1) y ∙ long ∙ long-m;
+        left = λ j k. left-kept j ∙ elim (ℕ-discrete i j) [
+          | yes q ↦ subst (λ (j : ℕ). leftAt m₁ j ≡ rowAt a j) q left-here
+          | no q ↦ ap (λ (z : List ℕ). leftAt z j) e₁ ∙ row-set-other m (2 * i) x (2 * j) (omega arith) ∙ g .left j (omega arith)
+        ];
+        right = λ j k. elim (ℕ-discrete i j) [
+          | yes q ↦ subst (λ (j : ℕ). rightAt m₂ j ≡ unit n j) q right-here
+          | no q ↦
+              ap (λ (z : List ℕ). rightAt z j) e₂ ∙ row-set-other m₁ (2 * i + 1) y (2 * j + 1) (omega arith) ∙ right-kept j
+              ∙ g .right j (omega arith)
+        ];
+      }
+
+  pub started-all : n ≤ i → (lefts n m ≡ rowsOf n a) × (rights n m ≡ identity n)
+  unfolding lefts rights rowsOf identity
+  started-all h = (tabulate-ext n _ _ (λ j k. g .left j (omega arith)), tabulate-ext n _ _ (λ j k. g .right j (omega arith)))
+
+-- ---- the search for a pivot: of the rows from k on, none before row i has bit k
+pub record Sought (n k : ℕ) (m : List ℕ) (i : ℕ) : Type 0 where
+  pub behind : k ≤ i
+  pub within : i ≤ n
+  pub same : pivotFrom n k (leftAt m) (n - k) k ≡ pivotFrom n k (leftAt m) (n - i) i
+
+pub sought-none : {n k : ℕ} {m : List ℕ} → k < n → Sought n k m k
+sought-none h = record { behind = omega arith; within = omega arith; same = refl }
+
+module _ {n k : ℕ} {m : List ℕ} {i : ℕ} (g : Sought n k m i) where
+  -- b is bit k of x, which is row i.
+  pub sought-here : {x b : ℕ} → i < n → x ≡ leftAt m i → b ≡ x / 2 ^ (n - 1 - k) % 2 → b ≡ 1
+      → i ≡ pivotFrom n k (leftAt m) (n - k) k
+  sought-here {x} {b} h row digit one =
+      pivot-here n k (leftAt m) i b h (digit-of-row n k (leftAt m) i x b row digit) one ∙ sym (g .same)
+
+  pub sought-more : {x b : ℕ} → i < n → x ≡ leftAt m i → b ≡ x / 2 ^ (n - 1 - k) % 2 → b ≢ 1 → Sought n k m (i + 1)
+  sought-more {x} {b} h row digit other =
+      let passed = pivot-on n k (leftAt m) i b h (digit-of-row n k (leftAt m) i x b row digit) other in
+      let from = g .behind in
+      record { behind = omega arith; within = omega arith; same = g .same ∙ passed }
+
+  pub sought-all : n ≤ i → n ≡ pivotFrom n k (leftAt m) (n - k) k
+  sought-all h =
+      let upto = g .within in
+      pivot-end n k (leftAt m) i (omega arith) ∙ sym (g .same)
+
+-- ---- the clearing of column k: row k has cleared it in the first i rows
+length-addedTo : (m : List ℕ) (i s c : ℕ) → length (addedTo m i s c) ≡ length m
+unfolding addedTo
+length-addedTo m i s c = simp length-setRow
+
+pub record Cleared (n k : ℕ) (m₀ m : List ℕ) (i : ℕ) : Type 0 where
+  pub within : i ≤ n
+  pub long : length m ≡ length m₀
+  pub left : Swept (clearBy n k (leftAt m₀)) k (leftAt m₀) i (leftAt m)
+  pub right : Swept (clearBy n k (leftAt m₀)) k (rightAt m₀) i (rightAt m)
+
+pub cleared-none : {n k : ℕ} {m : List ℕ} → Cleared n k m m 0
+cleared-none {n} {k} {m} = record {
+  within = omega arith;
+  long = refl;
+  left = swept-none (clearBy n k (leftAt m)) k (leftAt m);
+  right = swept-none (clearBy n k (leftAt m)) k (rightAt m);
+}
+
+module _ {n k : ℕ} {m₀ m : List ℕ} {i : ℕ} (g : Cleared n k m₀ m i) where
+  pub cleared-more : {m₁ : List ℕ} {x : ℕ} → 4 * n ≤ length m₀ → i < n → x ≡ clearBy n k (leftAt m) i → m₁ ≡ addedTo m i k x
+      → Cleared n k m₀ m₁ (i + 1)
+  cleared-more {m₁} {x} room h coefficient e =
+      let by = clearBy n k (leftAt m₀) in
+      let pivot = clearBy-pivot n k (leftAt m₀) in
+      let long-m = g .long in
+      let is : x ≡ by i = coefficient ∙ clearBy-row n k (leftAt m) (leftAt m₀) i (g .left .left i (omega arith)) in
+      let lefts-done = swept-more by k (leftAt m₀) pivot i (leftAt m) _ x is (g .left) (added-left m i k x (omega arith)) in
+      let rights-done = swept-more by k (rightAt m₀) pivot i (rightAt m) _ x is (g .right) (added-right m i k x (omega arith)) in
+      record {
+        within = omega arith;
+        long = ap length e ∙ length-addedTo m i k x ∙ long-m;
+        left = subst (λ (w : List ℕ). Swept by k (leftAt m₀) (i + 1) (leftAt w)) (sym e) lefts-done;
+        right = subst (λ (w : List ℕ). Swept by k (rightAt m₀) (i + 1) (rightAt w)) (sym e) rights-done;
+      }
+
+  pub cleared-all : n ≤ i → Stepped n (clearBy n k (leftAt m₀)) k m₀ m
+  unfolding lefts rights
+  cleared-all h =
+      let by = clearBy n k (leftAt m₀) in
+      (swept-all by k (leftAt m₀) n i (leftAt m) h (g .left), swept-all by k (rightAt m₀) n i (rightAt m) h (g .right))
+
+-- ---- the columns: k of them are behind, and those left give what all would
+pub record Reduced (m₀ : List ℕ) (n : ℕ) (m : List ℕ) (k : ℕ) : Type 0 where
+  pub within : k ≤ n
+  pub long : length m ≡ length m₀
+  pub same : columns n n 0 (lefts n m₀) (rights n m₀) ≡ columns n (n - k) k (lefts n m) (rights n m)
+
+pub reduced-none : (m : List ℕ) (n : ℕ) → Reduced m n m 0
+reduced-none m n =
+    let all : n ≡ n - 0 = omega arith in
+    record { within = omega arith; long = refl; same = ap (λ (d : ℕ). columns n d 0 (lefts n m) (rights n m)) all }
+
+pub found-le : (n k : ℕ) (m : List ℕ) (p : ℕ) → k < n → p ≡ pivotFrom n k (leftAt m) (n - k) k → p ≤ n
+found-le n k m p h e = subst (λ (x : ℕ). x ≤ n) (sym e) (pivot-found n k (leftAt m) (n - k) k (omega arith) .upto)
+
+module _ {m₀ m : List ℕ} {n k : ℕ} (g : Reduced m₀ n m k) where
+  pub reduced-singular : {p : ℕ} → k < n → p ≡ pivotFrom n k (leftAt m) (n - k) k → p ≡ n
+      → columns n n 0 (lefts n m₀) (rights n m₀) ≡ singular
+  reduced-singular h e q = g .same ∙ column-none n k h m _ e q
+
+  -- m₁ is the work area behind the pivoting, m₂ behind the clearing.
+  pub reduced-next : {p : ℕ} {m₂ : List ℕ} (m₁ : List ℕ) → k < n → p ≡ pivotFrom n k (leftAt m) (n - k) k → p ≢ n
+      → Stepped n (pivotBy n k (leftAt m)) p m m₁
+      → Stepped n (clearBy n k (leftAt m₁)) k m₁ m₂
+      → length m₁ ≡ length m
+      → length m₂ ≡ length m₁
+      → Reduced m₀ n m₂ (k + 1)
+  reduced-next {p = p} {m₂ = m₂} m₁ h e q s₁ s₂ l₁ l₂ =
+      let below = found-le n k m p h e in
+      record { within = omega arith; long = l₂ ∙ l₁ ∙ g .long; same = g .same ∙ column-next n k h m p m₁ m₂ e (omega arith) s₁ s₂ }
+
+  pub reduced-all : n ≤ k → columns n n 0 (lefts n m₀) (rights n m₀) ≡ inverse (rights n m)
+  reduced-all h = g .same ∙ columns-done n k _ _ (omega arith)
+
+-- ---- the whole, as `invert` puts it together: the elimination of the work area m₀, in which `rows` stand beside the identity, leaves m
+module _ (n : ℕ) (rows m₀ m : List ℕ) (t : Bool) (l : lefts n m₀ ≡ rows) (r : rights n m₀ ≡ identity n)
+    (e : columns n n 0 (lefts n m₀) (rights n m₀) ≡ ended t (rights n m)) where
+  answer : invert n rows ≡ ended t (rights n m)
+  unfolding invert
+  answer = ap₂ (columns n n 0) (sym l) (sym r) ∙ e
+
+  pub inverted : (b b′ : List ℕ) → t ≡ true → b′ ≡ stored n (rightAt m) b
+      → (true ≡ hasInverse (invert n rows)) × (b′ ≡ withInverse n (invert n rows) b)
+  unfolding rights
+  inverted b b′ yes-found taken =
+      let is : inverse (rights n m) ≡ invert n rows = sym (answer ∙ ap (λ (z : Bool). ended z (rights n m)) yes-found) in
+      let rows-same = stored-same n (rightAt m) (at (tabulate n (rightAt m))) b (λ i h. sym (at-tabulate n (rightAt m) i h)) in
+      (ap hasInverse is, taken ∙ rows-same ∙ ap (λ (z : Inversion). withInverse n z b) is)
+
+  pub not-inverted : (b : List ℕ) → t ≡ false → (false ≡ hasInverse (invert n rows)) × (b ≡ withInverse n (invert n rows) b)
+  not-inverted b none-found =
+      let is : singular ≡ invert n rows = sym (answer ∙ ap (λ (z : Bool). ended z (rights n m)) none-found) in
+      (ap hasInverse is, ap (λ (z : Inversion). withInverse n z b) is)

@@ -1,0 +1,110 @@
+-- Laws, not definitions: the byte behind the S-box, from the products of nibbles, the S-box as a table and the two key bytes.
+-- Assumes nothing.
+use mathlib.Core.Bool.{cond}
+use mathlib.Core.List.{List}
+use mathlib.Core.Path.{_≡_, refl, sym, ap, ap₂, _∙_, subst}
+use Prim.Native.Nat.{ℕ, _+_, _-_, _*_, _/_, _%_, _≤_, _<_}
+use native.Mathlib.Omega.{arith}
+use borrow.Author.Tests.{eq-eqb, ne-eqb}
+use lib.Bits.{bitXor, xor-lt}
+use lib.Dec.{eqb}
+use lib.ListN.{length, set}
+use Rattle.bits.specs.Bytes.{Bytes}
+use Rattle.bits.specs.Lists.{at, tabulate}
+use Rattle.bits.proofs.laws.Filled.{Filled, filled-more}
+use Rattle.bits.proofs.laws.Lists.{at-tabulate, tabulate-ext}
+use Rattle.matrices.specs.Matrices.{product, matrixOf, Invertible}
+use Rattle.matrices.specs.Rows.{rowsOf}
+use Rattle.matrices.proofs.laws.Matrices.{product-lt, product-xor}
+use Rattle.inversion.specs.Elimination.{inverseOf}
+use Rattle.field.specs.Sbox.{sboxOf}
+use Rattle.round.specs.Key.{keyOf}
+use Rattle.round.proofs.laws.Key.{key-at}
+use Rattle.bundle.specs.Format.{byteMatrices, byteMatrixPart, byteMatrix}
+use Rattle.bundle.specs.declared.answer.Judgement.the-variants.{Accepted}
+use Rattle.judgement.specs.Judge.{judge}
+use Rattle.judgement.proofs.laws.Judgements.{accepted-sound}
+use Rattle.network.specs.Stages.{shifted}
+use Rattle.whitebox.specs.Bundles.{codingsOf}
+use Rattle.whitebox.specs.Parts.{forward}
+use Rattle.whitebox.specs.Words.{substituted}
+use Rattle.entries.specs.Spread.{nibbleByte}
+use Rattle.entries.proofs.laws.Combined.{by-nibbles}
+use Rattle.layers.proofs.laws.Code.{frame-of, byte-part-long, byte-is}
+
+-- ---- the products of the rows of m and the bytes with one nibble
+abbrev pub nibbleProduct : List ℕ → ℕ → ℕ
+nibbleProduct m k = product 8 (rowsOf 8 m) (nibbleByte k)
+
+pub products-more : (m : List ℕ) {t : List ℕ} {r x v : ℕ} → Filled 32 (nibbleProduct m) t r → r < 32 → x ≡ nibbleByte r
+    → v ≡ product 8 (rowsOf 8 m) x → Filled 32 (nibbleProduct m) (set t r v) (r + 1)
+products-more m F h ex ev = filled-more F h (ev ∙ ap (product 8 (rowsOf 8 m)) ex)
+
+-- ---- the byte behind the S-box, for every byte that is read
+-- The byte x times the rows of m, then xor `before`, S-box, xor `behind`.
+abbrev pub behindSbox : List ℕ → ℕ → ℕ → ℕ → ℕ
+behindSbox m before behind x = bitXor (sboxOf (bitXor (product 8 (rowsOf 8 m) x) before)) behind
+
+-- Of byte k of `read`.
+abbrev pub behindAt : List ℕ → ℕ → ℕ → List ℕ → ℕ → ℕ
+behindAt m before behind read k = behindSbox m before behind (at read k)
+
+module _ (m products sbox : List ℕ) (before behind : ℕ) (p : products ≡ tabulate 32 (nibbleProduct m))
+    (s : sbox ≡ tabulate 256 sboxOf) (b : before < 256) where
+  abbrev times : ℕ → ℕ
+  times = product 8 (rowsOf 8 m)
+
+  -- y is the byte read, as an index; the products of its two nibbles add up to its own.
+  substituted-is : (read y : ℕ) → y ≡ read → y < 256
+      → at sbox (bitXor (bitXor (at products (y % 16)) (at products (16 + y / 16))) before) ≡ sboxOf (bitXor (times read) before)
+  substituted-is read y e h =
+      ap₂ (λ (t : List ℕ) (x : ℕ). at t (bitXor x before)) s sum
+      ∙ at-tabulate 256 sboxOf _ (xor-lt 8 (times read) before (product-lt 8 (at (rowsOf 8 m)) read) b)
+    where
+      product-at : (r : ℕ) → r < 32 → at products r ≡ times (nibbleByte r)
+      product-at r k = ap (λ (t : List ℕ). at t r) p ∙ at-tabulate 32 (nibbleProduct m) r k
+
+      sum : bitXor (at products (y % 16)) (at products (16 + y / 16)) ≡ times read
+      sum =
+          ap₂ bitXor (product-at (y % 16) (omega arith)) (product-at (16 + y / 16) (omega arith))
+          ∙ by-nibbles times (product-xor 8 (at (rowsOf 8 m))) y
+          ∙ ap times e
+
+  pub substituted-more : (read : List ℕ) {t : List ℕ} {x v : ℕ} (y : ℕ) → Filled 256 (behindAt m before behind read) t x → x < 256
+      → y ≡ at read x → y < 256 → v ≡ bitXor (at sbox (bitXor (bitXor (at products (y % 16)) (at products (16 + y / 16))) before)) behind
+      → Filled 256 (behindAt m before behind read) (set t x v) (x + 1)
+  substituted-more read {x = x} y F h e k ev =
+      filled-more F h (ev ∙ ap (λ (z : ℕ). bitXor z behind) (substituted-is (at read x) y e k))
+
+-- ---- the key byte behind the S-box
+pub behind-last : (keys : List ℕ) (r p : ℕ) → r ≡ 10 → p < 16 → at keys (160 + p) ≡ cond (eqb r 10) (at (keyOf keys 10) p) 0
+behind-last keys r p e h = rw (eq-eqb r 10 e) (sym (key-at keys 10 p h))
+
+pub behind-none : (keys : List ℕ) (r p : ℕ) → (r ≡ 10 → ⊥) → 0 ≡ cond (eqb r 10) (at (keyOf keys 10) p) 0
+behind-none keys r p e = rw (ne-eqb r 10 e) refl
+
+-- ---- round r, position p, of an accepted bundle l: j is the position that p reads, part the byte matrix of round r there
+module _ (l part : List ℕ) (r j : ℕ) (low : 1 ≤ r) (high : r ≤ 10) (h : j < 16) (ep : part ≡ byteMatrixPart 10 l (16 * (r - 1) + j)) where
+  pub byte-part-room : judge 10 l ≡ Accepted → 8 ≤ length part
+  byte-part-room a = omega (arith, byte-part-long l part (frame-of l a) (16 * (r - 1) + j) (omega arith) ep)
+
+  pub byte-part-invertible : Bytes l → judge 10 l ≡ Accepted → Invertible 8 (matrixOf 1 part)
+  unfolding byteMatrices
+  byte-part-invertible bytes a =
+      subst (λ (t : List ℕ). Invertible 8 (matrixOf 1 t)) (sym ep) (accepted-sound 10 l bytes a .bytes (16 * (r - 1) + j) (omega arith))
+
+  -- rows has the rows of the inverse, t the bytes that `substitute` leaves.
+  pub behind-is : (keys read rows : List ℕ) (p behind : ℕ) (t : List ℕ) → j ≡ shifted p
+      → rowsOf 8 rows ≡ inverseOf 8 (matrixOf 1 part) → behind ≡ cond (eqb r 10) (at (keyOf keys 10) p) 0
+      → t ≡ tabulate 256 (λ x. behindSbox rows (at keys (16 * (r - 1) + j)) behind (at read x))
+      → t ≡ tabulate 256 (λ x. substituted (forward 10 keys) (codingsOf 10 l) r p (at read x))
+  unfolding substituted forward
+  behind-is keys read rows p behind t ej er eb e =
+      let n = 16 * (r - 1) + j in
+      let matrix = sym (byte-is l n (omega arith)) ∙ ap (λ (k : ℕ). codingsOf 10 l .byteMatrix (16 * (r - 1) + k)) ej in
+      let inverse = er ∙ ap (λ (q : List ℕ). inverseOf 8 (matrixOf 1 q)) ep ∙ ap (inverseOf 8) matrix in
+      let key = sym (key-at keys (r - 1) j h) ∙ ap (at (keyOf keys (r - 1))) ej in
+      e ∙ tabulate-ext 256 _ _ (λ x g.
+      let decoded = ap (λ (m : List ℕ). product 8 m (at read x)) inverse in
+      let keyed = ap₂ bitXor decoded key in
+      ap₂ bitXor (ap sboxOf keyed) eb)
