@@ -35,29 +35,29 @@ extern "C" {
 #define TAZHIKKO_SET_LENGTH 9     /* the set, or the single table, has the wrong length */
 #define TAZHIKKO_BLOCK_LENGTH 10  /* a block, in or out, is not of 16 bytes */
 
-#define TAZHIKKO_CAUSE(refusal) ((refusal) / 65536u)
-#define TAZHIKKO_SECOND(refusal) ((refusal) % 65536u)
+#define TAZHIKKO_CAUSE(refusal) ((uint32_t)((refusal) >> 32))
+#define TAZHIKKO_SECOND(refusal) ((uint32_t)(refusal))
 
 /* The judgement of a bundle. */
-uint32_t tazhikko_judge_bundle(const uint8_t *bundle, size_t bundle_len);
+uint64_t tazhikko_judge_bundle(const uint8_t *bundle, size_t bundle_len);
 
 /* The input and the output coding of a block under a bundle, and both taken off again. */
-uint32_t tazhikko_encode_input(const uint8_t *bundle, size_t bundle_len, const uint8_t *block, size_t block_len, uint8_t *out, size_t out_len);
-uint32_t tazhikko_decode_input(const uint8_t *bundle, size_t bundle_len, const uint8_t *block, size_t block_len, uint8_t *out, size_t out_len);
-uint32_t tazhikko_encode_output(const uint8_t *bundle, size_t bundle_len, const uint8_t *block, size_t block_len, uint8_t *out, size_t out_len);
-uint32_t tazhikko_decode_output(const uint8_t *bundle, size_t bundle_len, const uint8_t *block, size_t block_len, uint8_t *out, size_t out_len);
+uint64_t tazhikko_encode_input(const uint8_t *bundle, size_t bundle_len, const uint8_t *block, size_t block_len, uint8_t *out, size_t out_len);
+uint64_t tazhikko_decode_input(const uint8_t *bundle, size_t bundle_len, const uint8_t *block, size_t block_len, uint8_t *out, size_t out_len);
+uint64_t tazhikko_encode_output(const uint8_t *bundle, size_t bundle_len, const uint8_t *block, size_t block_len, uint8_t *out, size_t out_len);
+uint64_t tazhikko_decode_output(const uint8_t *bundle, size_t bundle_len, const uint8_t *block, size_t block_len, uint8_t *out, size_t out_len);
 
 /* FIPS 197's AES-128. */
-uint32_t tazhikko_encipher(const uint8_t *key, size_t key_len, const uint8_t *block, size_t block_len, uint8_t *out, size_t out_len);
-uint32_t tazhikko_decipher(const uint8_t *key, size_t key_len, const uint8_t *block, size_t block_len, uint8_t *out, size_t out_len);
+uint64_t tazhikko_encipher(const uint8_t *key, size_t key_len, const uint8_t *block, size_t block_len, uint8_t *out, size_t out_len);
+uint64_t tazhikko_decipher(const uint8_t *key, size_t key_len, const uint8_t *block, size_t block_len, uint8_t *out, size_t out_len);
 
 /* The table set of a key and a bundle, or one table of it, into the lent memory. */
-uint32_t tazhikko_make_set(const uint8_t *key, size_t key_len, const uint8_t *bundle, size_t bundle_len, uint8_t *set, size_t set_len);
-uint32_t tazhikko_make_table(
+uint64_t tazhikko_make_set(const uint8_t *key, size_t key_len, const uint8_t *bundle, size_t bundle_len, uint8_t *set, size_t set_len);
+uint64_t tazhikko_make_table(
     const uint8_t *key, size_t key_len, const uint8_t *bundle, size_t bundle_len, size_t number, uint8_t *table, size_t table_len);
 
 /* The walk of a set over a block under the input coding: the answer is the cipher block under the output coding. */
-uint32_t tazhikko_walk(const uint8_t *set, size_t set_len, const uint8_t *block, size_t block_len, uint8_t *answer, size_t answer_len);
+uint64_t tazhikko_walk(const uint8_t *set, size_t set_len, const uint8_t *block, size_t block_len, uint8_t *answer, size_t answer_len);
 
 #ifdef __cplusplus
 }

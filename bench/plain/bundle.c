@@ -5,9 +5,9 @@
 
 static const uint32_t SECTION_BYTES[SECTIONS] = {48384, 1280, 4608, 2048, 2048};
 
-static uint32_t refused(uint32_t cause, uint32_t second)
+static uint64_t refused(uint32_t cause, uint32_t second)
 {
-    return cause * 65536 + second;
+    return (uint64_t)cause << 32 | second;
 }
 
 static bool is_permutation(const uint8_t *list)
@@ -18,7 +18,7 @@ static bool is_permutation(const uint8_t *list)
     return seen == 0xffff;
 }
 
-uint32_t find_sections(const uint8_t *bundle, size_t len, const uint8_t *sections[SECTIONS])
+uint64_t find_sections(const uint8_t *bundle, size_t len, const uint8_t *sections[SECTIONS])
 {
     uint64_t end = 40;
     if (len < 58408 || len > 65536)
@@ -33,12 +33,12 @@ uint32_t find_sections(const uint8_t *bundle, size_t len, const uint8_t *section
     return 0;
 }
 
-uint32_t plain_judge_bundle(const uint8_t *bundle, size_t bundle_len)
+uint64_t plain_judge_bundle(const uint8_t *bundle, size_t bundle_len)
 {
     const uint8_t *sections[SECTIONS];
     uint32_t rows[32], inverse[32];
     vector128 inverse128[128];
-    uint32_t refusal = find_sections(bundle, bundle_len, sections);
+    uint64_t refusal = find_sections(bundle, bundle_len, sections);
     if (refusal != 0)
         return refusal;
     for (uint32_t i = 0; i < LISTS; i++)

@@ -156,10 +156,10 @@ static void xor_table(const maker *m, const layer *l, size_t group, size_t t, si
             table[8 * a + b] = (uint8_t)(images[sum[a] ^ next[2 * b]] << 4 | images[sum[a] ^ next[2 * b + 1]]);
 }
 
-static uint32_t start_maker(maker *m, const uint8_t *key, const uint8_t *bundle, size_t bundle_len)
+static uint64_t start_maker(maker *m, const uint8_t *key, const uint8_t *bundle, size_t bundle_len)
 {
     const uint8_t *sections[SECTIONS];
-    uint32_t refusal = plain_judge_bundle(bundle, bundle_len);
+    uint64_t refusal = plain_judge_bundle(bundle, bundle_len);
     if (refusal != 0)
         return refusal;
     find_sections(bundle, bundle_len, sections);
@@ -172,10 +172,10 @@ static uint32_t start_maker(maker *m, const uint8_t *key, const uint8_t *bundle,
     return 0;
 }
 
-uint32_t plain_make_set(const uint8_t *key, const uint8_t *bundle, size_t bundle_len, uint8_t *set)
+uint64_t plain_make_set(const uint8_t *key, const uint8_t *bundle, size_t bundle_len, uint8_t *set)
 {
     maker m;
-    uint32_t refusal = start_maker(&m, key, bundle, bundle_len);
+    uint64_t refusal = start_maker(&m, key, bundle, bundle_len);
     if (refusal != 0)
         return refusal;
     for (size_t n = 0; n < LAYERS; n++) {
@@ -196,10 +196,10 @@ uint32_t plain_make_set(const uint8_t *key, const uint8_t *bundle, size_t bundle
     return 0;
 }
 
-uint32_t plain_make_table(const uint8_t *key, const uint8_t *bundle, size_t bundle_len, size_t number, uint8_t *table)
+uint64_t plain_make_table(const uint8_t *key, const uint8_t *bundle, size_t bundle_len, size_t number, uint8_t *table)
 {
     maker m;
-    uint32_t refusal = start_maker(&m, key, bundle, bundle_len);
+    uint64_t refusal = start_maker(&m, key, bundle, bundle_len);
     if (refusal != 0)
         return refusal;
     size_t n = layer_of_table(number);

@@ -5,12 +5,12 @@
 #include <stddef.h>
 #include <stdint.h>
 
-/* 0 for an accepted bundle, else cause * 65536 + the number returned with it. */
-uint32_t plain_judge_bundle(const uint8_t *bundle, size_t bundle_len);
+/* 0 for an accepted bundle, else cause * 2^32 + the number returned with it. */
+uint64_t plain_judge_bundle(const uint8_t *bundle, size_t bundle_len);
 
 /* Both judge the bundle first and return what the judgement returns. */
-uint32_t plain_make_set(const uint8_t *key, const uint8_t *bundle, size_t bundle_len, uint8_t *set);
-uint32_t plain_make_table(const uint8_t *key, const uint8_t *bundle, size_t bundle_len, size_t number, uint8_t *table);
+uint64_t plain_make_set(const uint8_t *key, const uint8_t *bundle, size_t bundle_len, uint8_t *set);
+uint64_t plain_make_table(const uint8_t *key, const uint8_t *bundle, size_t bundle_len, size_t number, uint8_t *table);
 
 void plain_walk(const uint8_t *set, const uint8_t *block, uint8_t *answer);
 

@@ -31,11 +31,11 @@ static int read_input(const char *path, struct input *input)
     return whole;
 }
 
-static uint32_t encipher(const struct input *key, const struct input *bundle, const struct input *block, uint8_t cipher[16])
+static uint64_t encipher(const struct input *key, const struct input *bundle, const struct input *block, uint8_t cipher[16])
 {
     static uint8_t set[TAZHIKKO_SET_BYTES];
     uint8_t coded[16], answer[16];
-    uint32_t refusal = tazhikko_make_set(key->bytes, key->len, bundle->bytes, bundle->len, set, sizeof set);
+    uint64_t refusal = tazhikko_make_set(key->bytes, key->len, bundle->bytes, bundle->len, set, sizeof set);
     if (refusal == 0)
         refusal = tazhikko_encode_input(bundle->bytes, bundle->len, block->bytes, block->len, coded, sizeof coded);
     if (refusal == 0)
@@ -53,7 +53,7 @@ int main(int argc, char **argv)
         fputs("usage: host KEY BUNDLE BLOCK\n", stderr);
         return 2;
     }
-    uint32_t refusal = encipher(&key, &bundle, &block, cipher);
+    uint64_t refusal = encipher(&key, &bundle, &block, cipher);
     if (refusal != 0) {
         printf("refused %u %u\n", TAZHIKKO_CAUSE(refusal), TAZHIKKO_SECOND(refusal));
         return 1;

@@ -34,18 +34,18 @@ pub enum Refusal {
 }
 
 /// A call for C that reads two slices and writes a third.
-type Call = unsafe extern "C" fn(*const u8, usize, *const u8, usize, *mut u8, usize) -> u32;
+type Call = unsafe extern "C" fn(*const u8, usize, *const u8, usize, *mut u8, usize) -> u64;
 
 #[link(name = "host", kind = "static")]
 extern "C" {
-    fn tazhikko_judge_bundle(bundle: *const u8, bundle_len: usize) -> u32;
-    fn tazhikko_encode_input(bundle: *const u8, bundle_len: usize, block: *const u8, block_len: usize, out: *mut u8, out_len: usize) -> u32;
-    fn tazhikko_decode_input(bundle: *const u8, bundle_len: usize, block: *const u8, block_len: usize, out: *mut u8, out_len: usize) -> u32;
-    fn tazhikko_encode_output(bundle: *const u8, bundle_len: usize, block: *const u8, block_len: usize, out: *mut u8, out_len: usize) -> u32;
-    fn tazhikko_decode_output(bundle: *const u8, bundle_len: usize, block: *const u8, block_len: usize, out: *mut u8, out_len: usize) -> u32;
-    fn tazhikko_encipher(key: *const u8, key_len: usize, block: *const u8, block_len: usize, out: *mut u8, out_len: usize) -> u32;
-    fn tazhikko_decipher(key: *const u8, key_len: usize, block: *const u8, block_len: usize, out: *mut u8, out_len: usize) -> u32;
-    fn tazhikko_make_set(key: *const u8, key_len: usize, bundle: *const u8, bundle_len: usize, set: *mut u8, set_len: usize) -> u32;
+    fn tazhikko_judge_bundle(bundle: *const u8, bundle_len: usize) -> u64;
+    fn tazhikko_encode_input(bundle: *const u8, bundle_len: usize, block: *const u8, block_len: usize, out: *mut u8, out_len: usize) -> u64;
+    fn tazhikko_decode_input(bundle: *const u8, bundle_len: usize, block: *const u8, block_len: usize, out: *mut u8, out_len: usize) -> u64;
+    fn tazhikko_encode_output(bundle: *const u8, bundle_len: usize, block: *const u8, block_len: usize, out: *mut u8, out_len: usize) -> u64;
+    fn tazhikko_decode_output(bundle: *const u8, bundle_len: usize, block: *const u8, block_len: usize, out: *mut u8, out_len: usize) -> u64;
+    fn tazhikko_encipher(key: *const u8, key_len: usize, block: *const u8, block_len: usize, out: *mut u8, out_len: usize) -> u64;
+    fn tazhikko_decipher(key: *const u8, key_len: usize, block: *const u8, block_len: usize, out: *mut u8, out_len: usize) -> u64;
+    fn tazhikko_make_set(key: *const u8, key_len: usize, bundle: *const u8, bundle_len: usize, set: *mut u8, set_len: usize) -> u64;
     fn tazhikko_make_table(
         key: *const u8,
         key_len: usize,
@@ -54,8 +54,8 @@ extern "C" {
         number: usize,
         table: *mut u8,
         table_len: usize,
-    ) -> u32;
-    fn tazhikko_walk(set: *const u8, set_len: usize, block: *const u8, block_len: usize, answer: *mut u8, answer_len: usize) -> u32;
+    ) -> u64;
+    fn tazhikko_walk(set: *const u8, set_len: usize, block: *const u8, block_len: usize, answer: *mut u8, answer_len: usize) -> u64;
 }
 
 /// The judgement of a bundle.
@@ -135,9 +135,9 @@ fn on_slices(call: Call, first: &[u8], second: &[u8], out: &mut [u8]) -> Result<
     answer(unsafe { call(first.as_ptr(), first.len(), second.as_ptr(), second.len(), out.as_mut_ptr(), out.len()) })
 }
 
-fn answer(number: u32) -> Result<(), Refusal> {
-    let second = number % 65536;
-    Err(match number / 65536 {
+fn answer(number: u64) -> Result<(), Refusal> {
+    let second = number as u32;
+    Err(match number >> 32 {
         0 => return Ok(()),
         1 => Refusal::KeyLength,
         2 => Refusal::BundleLength,

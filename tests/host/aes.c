@@ -16,7 +16,7 @@ static void one_call(struct tests *t, struct group *g, enum direction direction,
         .out = lend_to_write(TAZHIKKO_BLOCK_BYTES, shapes.out, &t->chance),
     };
     bool blocks = s.second.len == TAZHIKKO_BLOCK_BYTES && s.out.len == TAZHIKKO_BLOCK_BYTES;
-    uint32_t due = lowest(unless(s.first.len == TAZHIKKO_KEY_BYTES, TAZHIKKO_KEY_LENGTH), unless(blocks, TAZHIKKO_BLOCK_LENGTH));
+    uint64_t due = lowest(unless(s.first.len == TAZHIKKO_KEY_BYTES, TAZHIKKO_KEY_LENGTH), unless(blocks, TAZHIKKO_BLOCK_LENGTH));
     check(g, &s, call(direction == ENCIPHER ? tazhikko_encipher : tazhikko_decipher, &s), due, expected);
 }
 

@@ -53,6 +53,13 @@ static uint32_t number(struct file *file)
     return (uint32_t)b[0] << 24 | (uint32_t)b[1] << 16 | (uint32_t)b[2] << 8 | b[3];
 }
 
+/* The number that a call returns: the cause, then the number returned with it. */
+static uint64_t returned(struct file *file)
+{
+    uint64_t cause = number(file);
+    return cause << 32 | number(file);
+}
+
 static struct string string(struct file *file)
 {
     size_t len = number(file);
@@ -78,8 +85,8 @@ static void read_bundles(struct file file, struct cases *c)
             b->gaps[i].start = number(&file);
             b->gaps[i].len = number(&file);
         }
-        b->one_short = number(&file);
-        b->one_long = number(&file);
+        b->one_short = returned(&file);
+        b->one_long = returned(&file);
     }
 }
 
@@ -89,7 +96,7 @@ static void read_judgements(struct file file, struct cases *c)
         c->judgements = grown(c->judgements, c->judgement_count, sizeof *c->judgements);
         struct judgement *j = &c->judgements[c->judgement_count];
         j->bundle = string(&file);
-        j->number = number(&file);
+        j->number = returned(&file);
     }
 }
 

@@ -18,13 +18,13 @@ struct gap {
 struct bundle {
     struct string content;
     struct gap gaps[6];
-    uint32_t one_short; /* the judgements of the bundle with one byte less and with one more */
-    uint32_t one_long;
+    uint64_t one_short; /* the judgements of the bundle with one byte less and with one more */
+    uint64_t one_long;
 };
 
 struct judgement {
     struct string bundle;
-    uint32_t number;
+    uint64_t number;
 };
 
 struct place {

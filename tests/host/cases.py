@@ -40,7 +40,7 @@ def string(data):
 
 def judged(bundle):
     cause, second = wbref.judge_bundle(bundle) or (0, 0)
-    return number(cause * 65536 + second)
+    return number(cause) + number(second)
 
 
 # ---- accepted bundles ----------------------------------------------------------------------

@@ -11,12 +11,12 @@ struct shapes shapes_of_call(size_t n, struct chance *chance)
     return (struct shapes){n % SHAPES, n / SHAPES % SHAPES, n / SHAPES / SHAPES};
 }
 
-uint32_t unless(bool right, uint32_t cause)
+uint64_t unless(bool right, uint32_t cause)
 {
-    return right ? 0 : cause * 65536u;
+    return right ? 0 : (uint64_t)cause << 32;
 }
 
-uint32_t lowest(uint32_t a, uint32_t b)
+uint64_t lowest(uint64_t a, uint64_t b)
 {
     return a == 0 || (b != 0 && b < a) ? b : a;
 }
@@ -27,7 +27,7 @@ static bool shown(struct group *group)
     return group->failures++ < 5;
 }
 
-static const char *fault(const struct slices *s, uint32_t returned, uint32_t due, const uint8_t *written)
+static const char *fault(const struct slices *s, uint64_t returned, uint64_t due, const uint8_t *written)
 {
     bool left = due == 0 && written != NULL ? holds(&s->out, written) : as_it_was(&s->out);
     if (returned != due)
@@ -39,7 +39,7 @@ static const char *fault(const struct slices *s, uint32_t returned, uint32_t due
     return NULL;
 }
 
-void check(struct group *group, struct slices *slices, uint32_t returned, uint32_t due, const uint8_t *written)
+void check(struct group *group, struct slices *slices, uint64_t returned, uint64_t due, const uint8_t *written)
 {
     const char *what = fault(slices, returned, due, written);
     if (what != NULL && shown(group))

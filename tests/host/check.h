@@ -36,14 +36,14 @@ enum { COMBINATIONS = SHAPES * SHAPES * SHAPES };
 struct shapes shapes_of_call(size_t n, struct chance *chance);
 
 /* The refusal of a cause without a second number, or 0 where what it asks for is right. */
-uint32_t unless(bool right, uint32_t cause);
+uint64_t unless(bool right, uint32_t cause);
 
 /* Document 01: the lowest number that applies is given. */
-uint32_t lowest(uint32_t a, uint32_t b);
+uint64_t lowest(uint64_t a, uint64_t b);
 
 /* Holds what a call returned and left against what is due: written where the call is accepted, all memory as it was elsewhere. Takes the
  * slices back. */
-void check(struct group *group, struct slices *slices, uint32_t returned, uint32_t due, const uint8_t *written);
+void check(struct group *group, struct slices *slices, uint64_t returned, uint64_t due, const uint8_t *written);
 
 /* A check of another kind. */
 void check_that(struct group *group, bool holds, const char *what);

@@ -11,14 +11,14 @@ static const char *const names[CALLS] = {"encode_input", "decode_input", "encode
 
 static void one_call(struct tests *t, struct group *g, const struct coding *c, struct shapes shapes)
 {
-    uint32_t judgement;
+    uint64_t judgement;
     struct slices s = {
         .first = lend_bundle(&t->cases, &t->cases.bundles[c->bundle], shapes.first, &t->chance, &judgement),
         .second = lend(c->block, TAZHIKKO_BLOCK_BYTES, shapes.second, &t->chance),
         .out = lend_to_write(TAZHIKKO_BLOCK_BYTES, shapes.out, &t->chance),
     };
     bool blocks = s.second.len == TAZHIKKO_BLOCK_BYTES && s.out.len == TAZHIKKO_BLOCK_BYTES;
-    uint32_t due = lowest(judgement, unless(blocks, TAZHIKKO_BLOCK_LENGTH));
+    uint64_t due = lowest(judgement, unless(blocks, TAZHIKKO_BLOCK_LENGTH));
     check(g, &s, call(calls[c->call], &s), due, c->coded);
 }
 

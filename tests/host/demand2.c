@@ -15,7 +15,7 @@ static void one_block(struct tests *t, struct group *g, const struct string *bun
     uint8_t block[16], coded[16] = {0}, answer[16] = {0}, cipher[16] = {0}, again[16] = {0}, expected[16];
     fill(&t->chance, block, sizeof block);
     libcrypto_aes(ENCIPHER, key, block, expected);
-    uint32_t refusal = tazhikko_encode_input(bundle->bytes, bundle->len, block, 16, coded, 16);
+    uint64_t refusal = tazhikko_encode_input(bundle->bytes, bundle->len, block, 16, coded, 16);
     refusal |= tazhikko_walk(set, TAZHIKKO_SET_BYTES, coded, 16, answer, 16);
     refusal |= tazhikko_decode_output(bundle->bytes, bundle->len, answer, 16, cipher, 16);
     refusal |= tazhikko_decipher(key, 16, cipher, 16, again, 16);

@@ -3,7 +3,7 @@
 
 #include "tazhikko.h"
 
-static void judge(struct group *g, struct lent bundle, uint32_t due)
+static void judge(struct group *g, struct lent bundle, uint64_t due)
 {
     struct slices slices = {.first = bundle};
     check(g, &slices, tazhikko_judge_bundle(bundle.bytes, bundle.len), due, NULL);
@@ -21,7 +21,7 @@ static void given_cases(struct tests *t, struct group *g)
 static void all_shapes(struct tests *t, struct group *g)
 {
     for (size_t n = 0; n < t->cases.bundle_count * SHAPES; n++) {
-        uint32_t due;
+        uint64_t due;
         struct lent bundle = lend_bundle(&t->cases, &t->cases.bundles[n / SHAPES], n % SHAPES, &t->chance, &due);
         judge(g, bundle, due);
     }
@@ -34,7 +34,7 @@ static void out_of_bounds(struct tests *t, struct group *g)
         const struct string *content = &t->cases.bundles[below(&t->chance, t->cases.bundle_count)].content;
         struct lent bundle = lend(content->bytes, content->len, ANY_LENGTH, &t->chance);
         if (bundle.len < TAZHIKKO_BUNDLE_MIN_BYTES || bundle.len > TAZHIKKO_BUNDLE_MAX_BYTES)
-            judge(g, bundle, TAZHIKKO_BUNDLE_LENGTH * 65536u);
+            judge(g, bundle, unless(false, TAZHIKKO_BUNDLE_LENGTH));
         else
             take_back(&bundle);
     }

@@ -91,7 +91,7 @@ static void free_bytes(struct lent *lent, const struct bundle *bundle, struct ch
         VALGRIND_MAKE_MEM_NOACCESS(lent->bytes + bundle->gaps[i].start, bundle->gaps[i].len);
 }
 
-struct lent lend_bundle(const struct cases *cases, const struct bundle *bundle, enum shape shape, struct chance *chance, uint32_t *judgement)
+struct lent lend_bundle(const struct cases *cases, const struct bundle *bundle, enum shape shape, struct chance *chance, uint64_t *judgement)
 {
     if (shape == ANY_LENGTH) {
         const struct judgement *j = refused(cases, chance);
@@ -99,7 +99,7 @@ struct lent lend_bundle(const struct cases *cases, const struct bundle *bundle, 
         return lend(j->bundle.bytes, j->bundle.len, RIGHT, chance);
     }
     struct lent lent = lend(bundle->content.bytes, bundle->content.len, shape, chance);
-    *judgement = TAZHIKKO_BUNDLE_LENGTH * 65536u;
+    *judgement = (uint64_t)TAZHIKKO_BUNDLE_LENGTH << 32;
     if (shape == ONE_SHORT)
         *judgement = bundle->one_short;
     if (shape == ONE_LONG)

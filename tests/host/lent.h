@@ -27,7 +27,7 @@ struct lent lend(const uint8_t *content, size_t right, enum shape shape, struct 
 struct lent lend_to_write(size_t right, enum shape shape, struct chance *chance);
 
 /* A bundle, and the judgement due. Its free bytes are random; in the shape ANY_LENGTH it is one of the cases that are refused. */
-struct lent lend_bundle(const struct cases *cases, const struct bundle *bundle, enum shape shape, struct chance *chance, uint32_t *judgement);
+struct lent lend_bundle(const struct cases *cases, const struct bundle *bundle, enum shape shape, struct chance *chance, uint64_t *judgement);
 
 /* To be asked behind a call: whether the guards are whole, and the bytes these, or those that were lent. */
 bool holds(const struct lent *lent, const uint8_t *expected);

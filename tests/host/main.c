@@ -6,7 +6,7 @@
 #include <stdio.h>
 #include <stdlib.h>
 
-uint32_t call(call_on_slices *f, const struct slices *s)
+uint64_t call(call_on_slices *f, const struct slices *s)
 {
     return f(s->first.bytes, s->first.len, s->second.bytes, s->second.len, s->out.bytes, s->out.len);
 }

@@ -10,20 +10,20 @@ enum { CALLS_FOR_A_SET = 100 };
 static const struct shapes refused_bundle = {RIGHT, ANY_LENGTH, RIGHT};
 static const struct shapes all_right = {RIGHT, RIGHT, RIGHT};
 
-static uint32_t key_and_bundle(const struct slices *s, uint32_t judgement)
+static uint64_t key_and_bundle(const struct slices *s, uint64_t judgement)
 {
     return lowest(unless(s->first.len == TAZHIKKO_KEY_BYTES, TAZHIKKO_KEY_LENGTH), judgement);
 }
 
 static void one_set(struct tests *t, struct group *g, const struct set *set, struct shapes shapes)
 {
-    uint32_t judgement;
+    uint64_t judgement;
     struct slices s = {
         .first = lend(set->key, TAZHIKKO_KEY_BYTES, shapes.first, &t->chance),
         .second = lend_bundle(&t->cases, &t->cases.bundles[set->bundle], shapes.second, &t->chance, &judgement),
         .out = lend_to_write(TAZHIKKO_SET_BYTES, shapes.out, &t->chance),
     };
-    uint32_t due = lowest(key_and_bundle(&s, judgement), unless(s.out.len == TAZHIKKO_SET_BYTES, TAZHIKKO_SET_LENGTH));
+    uint64_t due = lowest(key_and_bundle(&s, judgement), unless(s.out.len == TAZHIKKO_SET_BYTES, TAZHIKKO_SET_LENGTH));
     check(g, &s, call(tazhikko_make_set, &s), due, set->content.bytes);
 }
 
@@ -42,16 +42,16 @@ void test_make_set(struct tests *t)
 /* One table, or none for a number that no table has: then memory of some other length is lent. */
 static void one_table(struct tests *t, struct group *g, const struct table *table, struct shapes shapes)
 {
-    uint32_t judgement;
+    uint64_t judgement;
     bool exists = table->number < TAZHIKKO_TABLES;
     struct slices s = {
         .first = lend(table->key, TAZHIKKO_KEY_BYTES, shapes.first, &t->chance),
         .second = lend_bundle(&t->cases, &t->cases.bundles[table->bundle], shapes.second, &t->chance, &judgement),
         .out = lend_to_write(exists ? table->content.len : 128, shapes.out, &t->chance),
     };
-    uint32_t due = lowest(key_and_bundle(&s, judgement), unless(exists, TAZHIKKO_TABLE_NUMBER));
+    uint64_t due = lowest(key_and_bundle(&s, judgement), unless(exists, TAZHIKKO_TABLE_NUMBER));
     due = lowest(due, unless(s.out.len == table->content.len, TAZHIKKO_SET_LENGTH));
-    uint32_t returned = tazhikko_make_table(s.first.bytes, s.first.len, s.second.bytes, s.second.len, table->number, s.out.bytes, s.out.len);
+    uint64_t returned = tazhikko_make_table(s.first.bytes, s.first.len, s.second.bytes, s.second.len, table->number, s.out.bytes, s.out.len);
     check(g, &s, returned, due, table->content.bytes);
 }
 

@@ -12,9 +12,9 @@ struct tests {
 };
 
 /* A call for C on three slices. */
-typedef uint32_t call_on_slices(const uint8_t *, size_t, const uint8_t *, size_t, uint8_t *, size_t);
+typedef uint64_t call_on_slices(const uint8_t *, size_t, const uint8_t *, size_t, uint8_t *, size_t);
 
-uint32_t call(call_on_slices *f, const struct slices *slices);
+uint64_t call(call_on_slices *f, const struct slices *slices);
 
 /* How many cases of a row are tried, and the place of try n: all in order, or random ones. */
 size_t tries(const struct tests *t, size_t count);

@@ -12,7 +12,7 @@ static void one_walk(struct tests *t, struct group *g, const struct walks *walks
         .out = lend_to_write(TAZHIKKO_BLOCK_BYTES, shapes.out, &t->chance),
     };
     bool blocks = s.second.len == TAZHIKKO_BLOCK_BYTES && s.out.len == TAZHIKKO_BLOCK_BYTES;
-    uint32_t due = lowest(unless(s.first.len == TAZHIKKO_SET_BYTES, TAZHIKKO_SET_LENGTH), unless(blocks, TAZHIKKO_BLOCK_LENGTH));
+    uint64_t due = lowest(unless(s.first.len == TAZHIKKO_SET_BYTES, TAZHIKKO_SET_LENGTH), unless(blocks, TAZHIKKO_BLOCK_LENGTH));
     check(g, &s, call(tazhikko_walk, &s), due, block + 16);
 }
 

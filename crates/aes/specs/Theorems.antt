@@ -6,7 +6,7 @@ use lib.ListN.{length}
 use Rattle.bits.specs.Bytes.{Bytes, Block}
 use Rattle.aes.specs.Cipher.{Cipher, InvCipher, encipherOf, decipherOf}
 use Rattle.aes.specs.Answers.{answerOf, enciphered, deciphered}
-use Rattle.aes.specs.declared.Answer.the-variants.{Done}
+use Rattle.answers.specs.declared.Answer.the-variants.{Accepted}
 
 -- Of any number of rounds, over any round keys that are bytes: the cipher and the inverse cipher of a block are blocks, and each
 -- undoes the other.
@@ -33,10 +33,10 @@ EncipherDecipher = (nk : ℕ) (key s : List ℕ) → Bytes key → Block s → e
 -- write, gives the block again; and the other way round.
 abbrev pub ThereAndBack : Type 0
 ThereAndBack =
-    (key from into again : List ℕ) → Bytes key → Bytes from → answerOf key from into ≡ Done → length again ≡ 16
+    (key from into again : List ℕ) → Bytes key → Bytes from → answerOf key from into ≡ Accepted → length again ≡ 16
     → deciphered key (enciphered key from into) again ≡ from
 
 abbrev pub BackAndThere : Type 0
 BackAndThere =
-    (key from into again : List ℕ) → Bytes key → Bytes from → answerOf key from into ≡ Done → length again ≡ 16
+    (key from into again : List ℕ) → Bytes key → Bytes from → answerOf key from into ≡ Accepted → length again ≡ 16
     → enciphered key (deciphered key from into) again ≡ from

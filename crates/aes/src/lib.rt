@@ -1,58 +1,30 @@
 // AES with a key of 128 bits, FIPS 197: the calls on slices of any length.
-mod block;
 mod rounds;
 
-use block::load;
-use block::store;
+use answers::Answer;
+use answers::Refusal;
+use bits::block::load;
+use bits::block::store;
 use round::key::expand_key;
 pub use rounds::cipher;
 pub use rounds::inv_cipher;
 ghost use mathlib.Core.Path.{_≡_};
-ghost use Rattle.aes.specs.Answers.{causeOf, secondOf, answerOf, enciphered, deciphered};
-
-// What a call answers: accepted, or the cause for which it is refused.
-pub enum Answer {
-    Done,
-    KeyLength,
-    BlockLength,
-}
-
-// Document 01's number of the cause.
-pub fn cause(a: Answer) -> u64
-    ensures { λ r. ⌜ r ≡ causeOf a ⌝ }
-{
-    match a {
-        Answer::Done => 0,
-        Answer::KeyLength => 1,
-        Answer::BlockLength => 10,
-    }
-}
-
-// The number that document 01 returns with it.
-pub fn second(a: Answer) -> u64
-    ensures { λ r. ⌜ r ≡ secondOf a ⌝ }
-{
-    match a {
-        Answer::Done => 0,
-        Answer::KeyLength => 0,
-        Answer::BlockLength => 0,
-    }
-}
+ghost use Rattle.aes.specs.Answers.{answerOf, enciphered, deciphered};
 
 // Whether a call is accepted, by the lengths of what it is lent.
 fn judged(key: &[u8], block_in: &[u8], block_out: &[u8]) -> Answer
     ensures { λ r. ⌜ r ≡ answerOf (now (key .entry)) (now («block_in» .entry)) (now («block_out» .entry)) ⌝ }
 {
     if key.len() != 16 {
-        return Answer::KeyLength;
+        return Answer::Refused(Refusal::KeyLength);
     }
     if block_in.len() != 16 {
-        return Answer::BlockLength;
+        return Answer::Refused(Refusal::BlockLength);
     }
     if block_out.len() == 16 {
-        Answer::Done
+        Answer::Accepted
     } else {
-        Answer::BlockLength
+        Answer::Refused(Refusal::BlockLength)
     }
 }
 
@@ -62,7 +34,7 @@ pub fn encipher(key: &[u8], block_in: &[u8], block_out: &mut [u8]) -> Answer
     ensures block { λ _. ⌜ now («block_out» .exit) ≡ enciphered (now (key .entry)) (now («block_in» .entry)) (now («block_out» .entry)) ⌝ }
 {
     let a = judged(key, block_in, block_out);
-    let Answer::Done = a else {
+    let Answer::Accepted = a else {
         return a;
     };
     store(block_out, cipher(expand_key(load(key)), load(block_in)));
@@ -75,7 +47,7 @@ pub fn decipher(key: &[u8], block_in: &[u8], block_out: &mut [u8]) -> Answer
     ensures block { λ _. ⌜ now («block_out» .exit) ≡ deciphered (now (key .entry)) (now («block_in» .entry)) (now («block_out» .entry)) ⌝ }
 {
     let a = judged(key, block_in, block_out);
-    let Answer::Done = a else {
+    let Answer::Accepted = a else {
         return a;
     };
     store(block_out, inv_cipher(expand_key(load(key)), load(block_in)));

@@ -1,6 +1,6 @@
 // The crate aes on vectors: for each key and block of standard input, 16 bytes each, it writes the key expansion, the enciphered
 // block and the deciphered block; then what both calls answer to keys and blocks of wrong lengths, and what they leave.
-use aes::Answer;
+use answers::Answer;
 use libc::STDOUT_FILENO;
 ghost use Prim.Native.Nat.{_≤_};
 ghost use lib.ListN.{length};
@@ -28,14 +28,14 @@ fn show(bytes: &[u8])
 
 // Writes an answer: done, or the cause and the number that is returned with it.
 fn tell(a: Answer) {
-    if let Answer::Done = a {
+    if let Answer::Accepted = a {
         io::write_all(STDOUT_FILENO, b"done\n");
         return;
     }
     io::write_all(STDOUT_FILENO, b"refused ");
-    io::print_decimal(STDOUT_FILENO, aes::cause(a));
+    io::print_decimal(STDOUT_FILENO, answers::cause(a) as u64);
     io::write_all(STDOUT_FILENO, b" ");
-    io::print_decimal(STDOUT_FILENO, aes::second(a));
+    io::print_decimal(STDOUT_FILENO, answers::second(a) as u64);
     io::write_all(STDOUT_FILENO, b"\n");
 }
 

@@ -1,10 +1,12 @@
 pub mod Lists
 pub mod Filled
-pub mod Parts
+pub mod Pasted
 pub mod Multiples
+pub mod Parts
 pub mod Xor
 pub mod Checked
 pub mod XorAll
+pub mod Summed
 pub mod Groups
 pub mod Joined
 pub mod Vectors

@@ -1,3 +1,4 @@
-// Bit vectors of up to 128 bits, one code for every width; nibbles of bytes and their encodings. The definitions are those of specs/.
+// Bit vectors of up to 128 bits, one code for every width; nibbles of bytes and their encodings; blocks of 16 bytes. The definitions are those of specs/.
+pub mod block;
 pub mod encoding;
 pub mod vector;

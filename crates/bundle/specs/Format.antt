@@ -6,15 +6,14 @@ use mathlib.Core.Path.{_≡_}
 use Prim.Native.Nat.{ℕ, zero, suc, _+_, _-_, _*_, _≤_}
 use lib.Dec.{eqb, ltb}
 use lib.ListN.{length, take, drop}
+use Rattle.answers.specs.Answers.{refusedIf, andThen, ifAccepted}
+use Rattle.answers.specs.declared.Answer.{Answer}
+use Rattle.answers.specs.declared.Refusal.the-variants.{BundleLength, Pair}
 use Rattle.bits.specs.Bytes.{number}
 use Rattle.bits.specs.Encodings.{imagesOf}
 use Rattle.bits.specs.Lists.{at}
 use Rattle.matrices.specs.Matrices.{matrixOf}
-use Rattle.bundle.specs.Refusals.{unless, unlessAt}
-use Rattle.bundle.specs.Search.{first}
-use Rattle.bundle.specs.declared.answer.Judgement.{Judgement}
-use Rattle.bundle.specs.declared.answer.Judgement.the-variants.{Accepted, Refused}
-use Rattle.bundle.specs.declared.answer.Refusal.the-variants.{Length, Pair}
+use Rattle.bundle.specs.Search.{first, refusedAt}
 
 -- ---- sizes
 -- How many encodings there are: 32 for the block that is read, 992 for the entry and for the exit, 448 for each round between them
@@ -91,17 +90,13 @@ unfoldable pub lengthBad : ℕ → List ℕ → Bool
 lengthBad nr l = ltb (length l) (shortest nr) || ltb (longest nr) (length l)
 
 -- Causes 2 ("bundle length") and 3 ("pair: length, order or end", with the "first bad pair").
-unfoldable pub frame : ℕ → List ℕ → Judgement
-frame nr l = unless (lengthBad nr l) Length (unlessAt (first 5 (pairBad nr l)) Pair Accepted)
+unfoldable pub frame : ℕ → List ℕ → Answer
+frame nr l = andThen (refusedIf (lengthBad nr l) BundleLength) (refusedAt (first 5 (pairBad nr l)) Pair)
 
 -- ---- sections, and their parts by number
-abbrev pub whenAccepted : Judgement → List ℕ → List ℕ
-whenAccepted Accepted s = s
-whenAccepted (Refused r) s = []
-
 -- Section s; empty in "a bundle with cause 2 or 3".
 unfoldable pub sectionOf : ℕ → List ℕ → ℕ → List ℕ
-sectionOf nr l s = whenAccepted (frame nr l) (take (sectionLength nr s) (drop (offset l s) l))
+sectionOf nr l s = ifAccepted (frame nr l) (take (sectionLength nr s) (drop (offset l s) l)) []
 
 -- Part n of a section with parts of one size; empty behind the last.
 unfoldable pub partOf : ℕ → List ℕ → ℕ → List ℕ

@@ -1,4 +1,3 @@
-pub mod Refusals
 pub mod Search
 pub mod Format
 pub mod Frames

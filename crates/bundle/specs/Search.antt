@@ -1,8 +1,11 @@
--- The first number that a test picks, looking forward, and what it is without the search. Definitions only.
+-- The first number that a test picks, looking forward; what it is without the search; and the refusal for it. Definitions only.
 use mathlib.Core.Bool.{Bool, true, false}
 use Prim.Native.Nat.{ℕ, zero, suc, _<_}
-use Rattle.bundle.specs.declared.answer.Found.{Found}
-use Rattle.bundle.specs.declared.answer.Found.the-variants.{At, Nothing}
+use Rattle.answers.specs.declared.Answer.{Answer}
+use Rattle.answers.specs.declared.Answer.the-variants.{Accepted, Refused}
+use Rattle.answers.specs.declared.Refusal.{Refusal}
+use Rattle.bundle.specs.declared.found.Found.{Found}
+use Rattle.bundle.specs.declared.found.Found.the-variants.{At, Nothing}
 
 abbrev pub pick : Bool → Found → Found → Found
 pick true a b = a
@@ -25,3 +28,8 @@ pub record FirstBad (count : ℕ) (Good : ℕ → Type 0) (n : ℕ) : Type 0 whe
   pub below : n < count
   pub before : All n Good
   pub here : Good n → ⊥
+
+-- A cause with its first offender: refused where the search found one.
+abbrev pub refusedAt : Found → (ℕ → Refusal) → Answer
+refusedAt (At n) r = Refused (r n)
+refusedAt Nothing r = Accepted

@@ -4,10 +4,10 @@ ghost use Prim.Native.Nat.{_<_, _≤_};
 ghost use lib.ListN.{length};
 ghost use Rattle.bundle.specs.Format.{endBefore, pairBad, frame};
 ghost use Rattle.bundle.specs.Search.{first};
-use crate::answer::Found;
-use crate::answer::Judgement;
-use crate::answer::Refusal;
+use crate::found::Found;
 use crate::layout;
+use answers::Answer;
+use answers::Refusal;
 
 const SHORTEST: usize = 58408;
 
@@ -55,7 +55,7 @@ fn first_bad_pair(bundle: &[u8]) -> Found
     let mut i: usize = 0;
     while i < 5 {
         if pair_bad(bundle, i) {
-            return Found::At(i);
+            return Found::At(i as u32);
         }
         i += 1;
     }
@@ -63,17 +63,17 @@ fn first_bad_pair(bundle: &[u8]) -> Found
 }
 
 // The judgement of length and pairs.
-pub fn judge_frame(bundle: &[u8]) -> Judgement
+pub fn judge_frame(bundle: &[u8]) -> Answer
     ensures { λ r. ⌜ r ≡ frame 10 (now (bundle .entry)) ⌝ }
 {
     if bundle.len() < SHORTEST {
-        return Judgement::Refused(Refusal::Length);
+        return Answer::Refused(Refusal::BundleLength);
     }
     if LONGEST < bundle.len() {
-        return Judgement::Refused(Refusal::Length);
+        return Answer::Refused(Refusal::BundleLength);
     }
     match first_bad_pair(bundle) {
-        Found::At(i) => Judgement::Refused(Refusal::Pair(i)),
-        Found::Nothing => Judgement::Accepted,
+        Found::At(i) => Answer::Refused(Refusal::Pair(i)),
+        Found::Nothing => Answer::Accepted,
     }
 }

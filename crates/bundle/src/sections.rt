@@ -3,9 +3,9 @@ ghost use mathlib.Core.Path.{_≡_};
 ghost use Prim.Native.Nat.{_*_, _/_, _<_, _≤_};
 ghost use lib.ListN.{length};
 ghost use Rattle.bundle.specs.Format.{sectionOf, partOf, partAt};
-use crate::answer::Judgement;
 use crate::frame;
 use crate::layout;
+use answers::Answer;
 
 // Section s; empty in a bundle with cause 2 or 3.
 pub fn section<'a>(bundle: &'a [u8], s: usize) -> &'a [u8]
@@ -13,13 +13,13 @@ pub fn section<'a>(bundle: &'a [u8], s: usize) -> &'a [u8]
     ensures { λ r. ⌜ now r ≡ sectionOf 10 (now (bundle .entry)) s ⌝ }
 {
     match frame::judge_frame(bundle) {
-        Judgement::Accepted => {
+        Answer::Accepted => {
             let at = 8 * s;
             let a = layout::number_at(bundle, at);
             let e = a + layout::section_length(s);
             &bundle[a..e]
         }
-        Judgement::Refused(_) => &bundle[0..0],
+        Answer::Refused(_) => &bundle[0..0],
     }
 }
 

@@ -1,21 +1,21 @@
 // Reads orders from standard input, and writes what the bundle's calls answer. An order is 8 bytes: its kind, a small number k, and two
 // numbers a and n of three bytes. The expected output is made by a program of other authorship (tests/bundle_cases.py).
+use answers::Answer;
+use answers::cause;
+use answers::second;
 use bits::encoding;
-use bundle::answer;
-use bundle::answer::Judgement;
 use bundle::parts;
 use external::coding;
-use external::coding::Coded;
 use judgement::judge;
 use libc::STDIN_FILENO;
 use libc::STDOUT_FILENO;
 use view::part::Part;
 
 // The cause and its second number; both are 0 where nothing is turned down.
-fn say(cause: usize, second: usize) {
-    io::print_decimal(STDOUT_FILENO, cause as u64);
+fn say(a: Answer) {
+    io::print_decimal(STDOUT_FILENO, cause(a) as u64);
     io::write_all(STDOUT_FILENO, b" ");
-    io::print_decimal(STDOUT_FILENO, second as u64);
+    io::print_decimal(STDOUT_FILENO, second(a) as u64);
     io::write_all(STDOUT_FILENO, b"\n");
 }
 
@@ -39,10 +39,7 @@ fn patch(mem: &mut [u8], a: usize, n: usize) {
 }
 
 fn say_judgement(bundle: &[u8]) {
-    match judge::judge_bundle(bundle) {
-        Judgement::Accepted => say(0, 0),
-        Judgement::Refused(r) => say(answer::cause(r), answer::second(r)),
-    }
+    say(judge::judge_bundle(bundle));
 }
 
 // What k and n name: encoding, byte matrix or column matrix n, or the input or output matrix; from 5 on, one of the first three with a
@@ -72,7 +69,7 @@ fn show_part(bundle: &[u8], p: Part) {
     }
 }
 
-fn called(bundle: &[u8], k: u8, block: &[u8], out: &mut [u8]) -> Coded {
+fn called(bundle: &[u8], k: u8, block: &[u8], out: &mut [u8]) -> Answer {
     match k {
         0 => coding::encode_input(bundle, block, out),
         1 => coding::decode_input(bundle, block, out),
@@ -95,8 +92,7 @@ fn answer_call(bundle: &[u8], k: u8, block: &[u8], from: usize, out: &mut [u8], 
     if out.len() < to {
         return;
     }
-    let c = called(bundle, k, &block[0..from], &mut out[0..to]);
-    say(coding::cause(c), coding::second(c));
+    say(called(bundle, k, &block[0..from], &mut out[0..to]));
     show_first(out, to);
 }
 

@@ -1,6 +1,7 @@
--- The walk that the code holds, as the evaluation state of crate network. Definitions only.
-use Rattle.network.specs.Lookups as network
+-- The walk that the code holds. Definitions only.
+use Rattle.network.specs.Lookups.{stateAt}
+use Rattle.whitebox.specs.Calls.{Held, holding}
 use Rattle.evaluate.specs.declared.walk.Walk.{Walk}
 
-abbrev pub held : Walk → network.Walk
-held w = record { count = w .count; standing = w .standing; area = w .area }
+abbrev pub held : Walk → Held
+held w = holding (stateAt (w .count) (w .standing) (w .area))

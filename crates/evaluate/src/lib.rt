@@ -1,3 +1,2 @@
 // The evaluation of a set: start, move to a stop, move of one lookup, fetch. The definitions are those of specs/ and of crate whitebox.
-pub mod answer;
 pub mod walk;

@@ -39,6 +39,10 @@ decodeInput nr l y = decodeBy (encodingOf nr l) 0 (inputMatrix nr l) y
 unfoldable pub outputFirst : ℕ → ℕ
 outputFirst nr = encodings nr - 32
 
+-- For ten rounds, as the number that the code has.
+abbrev pub tenOutputFirst : ℕ
+tenOutputFirst = 6016
+
 unfoldable pub encodeOutput : ℕ → List ℕ → List ℕ → List ℕ
 encodeOutput nr l x = encodeBy (encodingOf nr l) (outputFirst nr) (outputMatrix nr l) x
 

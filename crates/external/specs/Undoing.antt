@@ -4,7 +4,7 @@ use mathlib.Core.Path.{_≡_}
 use Prim.Native.Nat.{ℕ}
 use Rattle.bits.specs.Bytes.{Bytes, Block}
 use Rattle.judgement.specs.Judge.{judge}
-use Rattle.bundle.specs.declared.answer.Judgement.the-variants.{Accepted}
+use Rattle.answers.specs.declared.Answer.the-variants.{Accepted}
 use Rattle.external.specs.Coding.{encodeInput, decodeInput, encodeOutput, decodeOutput}
 
 -- Of a block x: uncoding undoes coding and coding undoes uncoding, on both sides, and each gives a block.

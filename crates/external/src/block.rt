@@ -9,7 +9,7 @@ ghost use Rattle.matrices.specs.Matrices.{matrixOf};
 ghost use Rattle.matrices.specs.Rows.{rowsOf};
 ghost use Rattle.inversion.specs.Elimination.{invert, inverseOf, hasInverse};
 ghost use Rattle.bundle.specs.Format.{encodingOf, tenEncodings};
-ghost use Rattle.external.specs.Coding.{encodeNibbles, decodeNibbles, multiply};
+ghost use Rattle.external.specs.Coding.{tenOutputFirst, encodeNibbles, decodeNibbles, multiply};
 use bits::encoding;
 use bits::vector;
 use bundle::parts;
@@ -36,7 +36,7 @@ fn decoded(bundle: &[u8], n: usize, b: u8) -> u8
 
 // The encodings from `first` on, on a block's nibbles.
 pub fn encode_nibbles(bundle: &[u8], first: usize, src: &[u8], dst: &mut [u8])
-    requires { ⌜ (first ≤ 6016) × (length (now src) ≡ 16) × (length (now dst) ≡ 16) ⌝ }
+    requires { ⌜ (first ≤ tenOutputFirst) × (length (now src) ≡ 16) × (length (now dst) ≡ 16) ⌝ }
     ensures { λ _. ⌜ now (dst .exit) ≡ encodeNibbles (encodingOf 10 (now (bundle .entry))) first (now (src .entry)) ⌝ }
 {
     let mut i: usize = 0;
@@ -49,7 +49,7 @@ pub fn encode_nibbles(bundle: &[u8], first: usize, src: &[u8], dst: &mut [u8])
 
 // The same taken off.
 pub fn decode_nibbles(bundle: &[u8], first: usize, src: &[u8], dst: &mut [u8])
-    requires { ⌜ (first ≤ 6016) × (length (now src) ≡ 16) × (length (now dst) ≡ 16) ⌝ }
+    requires { ⌜ (first ≤ tenOutputFirst) × (length (now src) ≡ 16) × (length (now dst) ≡ 16) ⌝ }
     requires { ⌜ ((q : ℕ) → q < 32 → Permutation (encodingOf 10 (now bundle) (first + q))) ⌝ }
     ensures { λ _. ⌜ now (dst .exit) ≡ decodeNibbles (encodingOf 10 (now (bundle .entry))) first (now (src .entry)) ⌝ }
 {
@@ -87,10 +87,8 @@ pub fn unmultiply(m: &[u8], src: &[u8], dst: &mut [u8])
     requires { ⌜ hasInverse (invert 128 (matrixOf 16 (now m))) ≡ true ⌝ }
     ensures { λ _. ⌜ now (dst .exit) ≡ multiply (inverseOf 128 (matrixOf 16 (now (m .entry)))) (now (src .entry)) ⌝ }
 {
-    let mut rows = [0u64; 256];
     let mut inverse = [0u64; 256];
-    matrix::read(m, &mut rows, 16);
-    if inversion::invert(&rows, &mut inverse, 128) {
+    if inversion::invert_bytes(m, &mut inverse, 16) {
         times(&inverse, src, dst);
     }
 }

@@ -7,105 +7,72 @@ ghost use lib.ListN.{length};
 ghost use Rattle.matrices.specs.Matrices.{matrixOf};
 ghost use Rattle.inversion.specs.Elimination.{invert, hasInverse};
 ghost use Rattle.bundle.specs.Format.{encodingOf};
-ghost use Rattle.bundle.specs.declared.answer.Judgement.the-variants.{Accepted};
+ghost use Rattle.answers.specs.declared.Answer.the-variants.{Accepted};
 ghost use Rattle.judgement.specs.Judge.{judge};
-ghost use Rattle.external.specs.Calls.{causeOf, secondOf, answer, leaves};
-ghost use Rattle.external.specs.Coding.{encodeBy, decodeBy, encodeInput, decodeInput, encodeOutput, decodeOutput};
+ghost use Rattle.external.specs.Calls.{answer, leaves};
+ghost use Rattle.external.specs.Coding.{tenOutputFirst, encodeBy, decodeBy, encodeInput, decodeInput, encodeOutput, decodeOutput};
 use crate::block;
-use bundle::answer;
-use bundle::answer::Judgement;
-use bundle::answer::Refusal;
+use answers::Answer;
+use answers::Refusal;
 use bundle::parts;
 use judgement::judge;
 
 // The first of the output coding's 32 encodings.
 const OUTPUT_FIRST: usize = 6016;
 
-// What a call answers: `causeOf` and `secondOf` of specs/ give document 01's two numbers of each.
-pub enum Coded {
-    Done,
-    Bundle(Refusal),
-    BlockLength,
-}
-
-// The number of the cause; 0 where the call is done.
-pub fn cause(c: Coded) -> usize
-    ensures { λ n. ⌜ n ≡ causeOf c ⌝ }
-{
-    match c {
-        Coded::Done => 0,
-        Coded::Bundle(r) => answer::cause(r),
-        Coded::BlockLength => 10,
-    }
-}
-
-// The number returned with it.
-pub fn second(c: Coded) -> usize
-    ensures { λ n. ⌜ n ≡ secondOf c ⌝ }
-{
-    match c {
-        Coded::Done => 0,
-        Coded::Bundle(r) => answer::second(r),
-        Coded::BlockLength => 0,
-    }
-}
-
 // The answer for a bundle and blocks of these lengths.
-fn ready(bundle: &[u8], from: usize, to: usize) -> Coded
+fn ready(bundle: &[u8], from: usize, to: usize) -> Answer
     ensures { λ r. ⌜ r ≡ answer 10 (now (bundle .entry)) from to ⌝ }
 {
-    if let Judgement::Refused(r) = judge::judge_bundle(bundle) {
-        return Coded::Bundle(r);
-    }
+    let a = judge::judge_bundle(bundle);
+    let Answer::Accepted = a else {
+        return a;
+    };
     if from != 16 {
-        return Coded::BlockLength;
+        return Answer::Refused(Refusal::BlockLength);
     }
     if to != 16 {
-        return Coded::BlockLength;
+        return Answer::Refused(Refusal::BlockLength);
     }
-    Coded::Done
+    a
 }
 
 // The block matrix that m writes, then the 32 encodings from `first` on.
-fn encode_by(bundle: &[u8], first: usize, m: &[u8], block: &[u8], out: &mut [u8]) -> Coded
-    requires { ⌜ first ≤ 6016 ⌝ }
+fn encode_by(bundle: &[u8], first: usize, m: &[u8], block: &[u8], out: &mut [u8]) -> Answer
+    requires { ⌜ first ≤ tenOutputFirst ⌝ }
     requires { ⌜ (judge 10 (now bundle) ≡ Accepted → 2048 ≤ length (now m)) ⌝ }
     ensures answer { λ r. ⌜ r ≡ answer 10 (now (bundle .entry)) (length (now (block .entry))) (length (now (out .entry))) ⌝ }
     ensures block { λ _. ⌜ now (out .exit) ≡ leaves 10 (now (bundle .entry)) (encodeBy (encodingOf 10 (now (bundle .entry))) first (matrixOf 16 (now (m .entry)))) (now (block .entry)) (now (out .entry)) ⌝ }
 {
-    match ready(bundle, block.len(), out.len()) {
-        Coded::Done => {
-            let mut t = [0u8; 16];
-            block::multiply(m, block, &mut t);
-            block::encode_nibbles(bundle, first, &t, out);
-            Coded::Done
-        }
-        Coded::Bundle(r) => Coded::Bundle(r),
-        Coded::BlockLength => Coded::BlockLength,
-    }
+    let a = ready(bundle, block.len(), out.len());
+    let Answer::Accepted = a else {
+        return a;
+    };
+    let mut t = [0u8; 16];
+    block::multiply(m, block, &mut t);
+    block::encode_nibbles(bundle, first, &t, out);
+    a
 }
 
 // The encodings taken off, then the inverse of the block matrix.
-fn decode_by(bundle: &[u8], first: usize, m: &[u8], block: &[u8], out: &mut [u8]) -> Coded
-    requires { ⌜ first ≤ 6016 ⌝ }
+fn decode_by(bundle: &[u8], first: usize, m: &[u8], block: &[u8], out: &mut [u8]) -> Answer
+    requires { ⌜ first ≤ tenOutputFirst ⌝ }
     requires { ⌜ (judge 10 (now bundle) ≡ Accepted → (2048 ≤ length (now m)) × (hasInverse (invert 128 (matrixOf 16 (now m))) ≡ true)) ⌝ }
     ensures answer { λ r. ⌜ r ≡ answer 10 (now (bundle .entry)) (length (now (block .entry))) (length (now (out .entry))) ⌝ }
     ensures block { λ _. ⌜ now (out .exit) ≡ leaves 10 (now (bundle .entry)) (decodeBy (encodingOf 10 (now (bundle .entry))) first (matrixOf 16 (now (m .entry)))) (now (block .entry)) (now (out .entry)) ⌝ }
 {
-    match ready(bundle, block.len(), out.len()) {
-        Coded::Done => {
-            let mut t = [0u8; 16];
-            block::decode_nibbles(bundle, first, block, &mut t);
-            block::unmultiply(m, &t, out);
-            Coded::Done
-        }
-        Coded::Bundle(r) => Coded::Bundle(r),
-        Coded::BlockLength => Coded::BlockLength,
-    }
+    let a = ready(bundle, block.len(), out.len());
+    let Answer::Accepted = a else {
+        return a;
+    };
+    let mut t = [0u8; 16];
+    block::decode_nibbles(bundle, first, block, &mut t);
+    block::unmultiply(m, &t, out);
+    a
 }
 
 // The input coding of a block ("coding").
-pub fn encode_input(bundle: &[u8], block: &[u8], out: &mut [u8]) -> Coded
+pub fn encode_input(bundle: &[u8], block: &[u8], out: &mut [u8]) -> Answer
     ensures answer { λ r. ⌜ r ≡ answer 10 (now (bundle .entry)) (length (now (block .entry))) (length (now (out .entry))) ⌝ }
     ensures block { λ _. ⌜ now (out .exit) ≡ leaves 10 (now (bundle .entry)) (encodeInput 10 (now (bundle .entry))) (now (block .entry)) (now (out .entry)) ⌝ }
 {
@@ -113,7 +80,7 @@ pub fn encode_input(bundle: &[u8], block: &[u8], out: &mut [u8]) -> Coded
 }
 
 // The input coding taken off ("uncoding").
-pub fn decode_input(bundle: &[u8], block: &[u8], out: &mut [u8]) -> Coded
+pub fn decode_input(bundle: &[u8], block: &[u8], out: &mut [u8]) -> Answer
     ensures answer { λ r. ⌜ r ≡ answer 10 (now (bundle .entry)) (length (now (block .entry))) (length (now (out .entry))) ⌝ }
     ensures block { λ _. ⌜ now (out .exit) ≡ leaves 10 (now (bundle .entry)) (decodeInput 10 (now (bundle .entry))) (now (block .entry)) (now (out .entry)) ⌝ }
 {
@@ -121,7 +88,7 @@ pub fn decode_input(bundle: &[u8], block: &[u8], out: &mut [u8]) -> Coded
 }
 
 // The output coding of a block.
-pub fn encode_output(bundle: &[u8], block: &[u8], out: &mut [u8]) -> Coded
+pub fn encode_output(bundle: &[u8], block: &[u8], out: &mut [u8]) -> Answer
     ensures answer { λ r. ⌜ r ≡ answer 10 (now (bundle .entry)) (length (now (block .entry))) (length (now (out .entry))) ⌝ }
     ensures block { λ _. ⌜ now (out .exit) ≡ leaves 10 (now (bundle .entry)) (encodeOutput 10 (now (bundle .entry))) (now (block .entry)) (now (out .entry)) ⌝ }
 {
@@ -135,7 +102,7 @@ pub fn encode_output(bundle: &[u8], block: &[u8], out: &mut [u8]) -> Coded
 }
 
 // The output coding taken off.
-pub fn decode_output(bundle: &[u8], block: &[u8], out: &mut [u8]) -> Coded
+pub fn decode_output(bundle: &[u8], block: &[u8], out: &mut [u8]) -> Answer
     ensures answer { λ r. ⌜ r ≡ answer 10 (now (bundle .entry)) (length (now (block .entry))) (length (now (out .entry))) ⌝ }
     ensures block { λ _. ⌜ now (out .exit) ≡ leaves 10 (now (bundle .entry)) (decodeOutput 10 (now (bundle .entry))) (now (block .entry)) (now (out .entry)) ⌝ }
 {

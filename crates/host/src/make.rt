@@ -1,19 +1,19 @@
 // The maker for C.
 ghost use mathlib.Core.Path.{_≡_};
 ghost use lib.ListN.{length};
-ghost use Rattle.host.specs.Numbers.{ofMade};
-ghost use Rattle.tables.specs.Calls.{setAnswer, tableAnswer, written};
+ghost use Rattle.answers.specs.Answers.{ifAccepted};
+ghost use Rattle.answers.specs.Numbers.{numberOf};
+ghost use Rattle.tables.specs.Calls.{setAnswer, tableAnswer};
 ghost use Rattle.whitebox.specs.Bundles.{madeSet, madeTable};
-use crate::number;
 use tables::calls;
 
 // The whole set of a key and a bundle.
 #[no_mangle]
-pub extern "C" fn tazhikko_make_set(key: &[u8], bundle: &[u8], set: &mut [u8]) -> u32
-    ensures answer { λ r. ⌜ r ≡ ofMade (setAnswer (length (now (key .entry))) (now (bundle .entry)) (length (now (set .entry)))) ⌝ }
-    ensures bytes { λ _. ⌜ now (set .exit) ≡ written (setAnswer (length (now (key .entry))) (now (bundle .entry)) (length (now (set .entry)))) (madeSet 4 (now (key .entry)) (now (bundle .entry))) (now (set .entry)) ⌝ }
+pub extern "C" fn tazhikko_make_set(key: &[u8], bundle: &[u8], set: &mut [u8]) -> u64
+    ensures answer { λ r. ⌜ r ≡ numberOf (setAnswer (length (now (key .entry))) (now (bundle .entry)) (length (now (set .entry)))) ⌝ }
+    ensures bytes { λ _. ⌜ now (set .exit) ≡ ifAccepted (setAnswer (length (now (key .entry))) (now (bundle .entry)) (length (now (set .entry)))) (madeSet 4 (now (key .entry)) (now (bundle .entry))) (now (set .entry)) ⌝ }
 {
-    number::of_made(calls::make_set(key, bundle, set))
+    answers::number(calls::make_set(key, bundle, set))
 }
 
 // One table of it.
@@ -23,9 +23,9 @@ pub extern "C" fn tazhikko_make_table(
     bundle: &[u8],
     number: usize,
     table: &mut [u8],
-) -> u32
-    ensures answer { λ r. ⌜ r ≡ ofMade (tableAnswer (length (now (key .entry))) (now (bundle .entry)) number (length (now (table .entry)))) ⌝ }
-    ensures bytes { λ _. ⌜ now (table .exit) ≡ written (tableAnswer (length (now (key .entry))) (now (bundle .entry)) number (length (now (table .entry)))) (madeTable 4 (now (key .entry)) (now (bundle .entry)) number) (now (table .entry)) ⌝ }
+) -> u64
+    ensures answer { λ r. ⌜ r ≡ numberOf (tableAnswer (length (now (key .entry))) (now (bundle .entry)) number (length (now (table .entry)))) ⌝ }
+    ensures bytes { λ _. ⌜ now (table .exit) ≡ ifAccepted (tableAnswer (length (now (key .entry))) (now (bundle .entry)) number (length (now (table .entry)))) (madeTable 4 (now (key .entry)) (now (bundle .entry)) number) (now (table .entry)) ⌝ }
 {
-    number::of_made(calls::make_table(key, bundle, number, table))
+    answers::number(calls::make_table(key, bundle, number, table))
 }

@@ -5,7 +5,9 @@ ghost use mathlib.Core.Path.{_≡_};
 ghost use Prim.Native.Nat.{_*_, _≤_};
 ghost use lib.ListN.{length};
 ghost use Rattle.inversion.specs.Elimination.{invert, hasInverse, withInverse};
+ghost use Rattle.matrices.specs.Matrices.{matrixOf};
 ghost use Rattle.matrices.specs.Rows.{rowsOf};
+use matrices::matrix;
 
 // The inverse of the matrix a of n rows, into the first n rows of b. Where a has none, false, and b is as it was.
 pub fn invert(a: &[u64], b: &mut [u64], n: usize) -> bool
@@ -20,4 +22,15 @@ pub fn invert(a: &[u64], b: &mut [u64], n: usize) -> bool
         return true;
     }
     false
+}
+
+// The inverse of the matrix of 8 w rows that bytes write, into the first 8 w rows of b, in the same way.
+pub fn invert_bytes(p: &[u8], b: &mut [u64], w: usize) -> bool
+    requires { ⌜ (w ≤ 16) × (8 * w * w ≤ length (now p)) × (16 * w ≤ length (now b)) ⌝ }
+    ensures answer { λ r. ⌜ r ≡ hasInverse (invert (8 * w) (matrixOf w (now (p .entry)))) ⌝ }
+    ensures rows { λ _. ⌜ now (b .exit) ≡ withInverse (8 * w) (invert (8 * w) (matrixOf w (now (p .entry)))) (now (b .entry)) ⌝ }
+{
+    let mut rows = [0u64; 256];
+    matrix::read(p, &mut rows, w);
+    invert(&rows, b, 8 * w)
 }

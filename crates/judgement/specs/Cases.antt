@@ -8,9 +8,9 @@ use Rattle.bits.specs.Encodings.{encode}
 use Rattle.bits.specs.Lists.{at}
 use Rattle.bundle.specs.Format.{encodingOf, byteMatrix}
 use Rattle.bundle.specs.Frames.{Framed}
-use Rattle.bundle.specs.Refusals.{causeOf, secondOf}
-use Rattle.bundle.specs.declared.answer.Judgement.the-variants.{Refused}
-use Rattle.bundle.specs.declared.answer.Refusal.{Refusal}
+use Rattle.answers.specs.Numbers.{causeOf, secondOf}
+use Rattle.answers.specs.declared.Answer.the-variants.{Refused}
+use Rattle.answers.specs.declared.Refusal.{Refusal}
 use Rattle.judgement.specs.Judge.{judge}
 use Rattle.judgement.specs.Judgements.{GoodEncodings, GoodByteMatrix, GoodColumnMatrices, GoodInputMatrix, GoodOutputMatrix}
 

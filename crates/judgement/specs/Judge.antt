@@ -4,16 +4,15 @@ use mathlib.Core.Bool.{Bool, false, not, _||_}
 use mathlib.Core.List.{List}
 use Prim.Native.Nat.{ℕ, zero, suc, _*_}
 use lib.Dec.{eqb}
+use Rattle.answers.specs.Answers.{refusedIf, andThen}
+use Rattle.answers.specs.declared.Answer.{Answer}
+use Rattle.answers.specs.declared.Refusal.the-variants.{Encoding, ByteMatrix, ColumnMatrix, InputMatrix, OutputMatrix}
 use Rattle.inversion.specs.Elimination.{invert, hasInverse}
 use Rattle.bits.specs.Encodings.{imagesOf}
 use Rattle.bits.specs.Lists.{at}
 use Rattle.matrices.specs.Matrices.{matrixOf}
 use Rattle.bundle.specs.Format.{encodings, byteMatrices, columnMatrices, frame, encodingPart, byteMatrixPart, columnMatrixPart, inputMatrixPart, outputMatrixPart}
-use Rattle.bundle.specs.Refusals.{unless, unlessAt, andThen}
-use Rattle.bundle.specs.Search.{first}
-use Rattle.bundle.specs.declared.answer.Judgement.{Judgement}
-use Rattle.bundle.specs.declared.answer.Judgement.the-variants.{Accepted}
-use Rattle.bundle.specs.declared.answer.Refusal.the-variants.{Encoding, ByteMatrix, ColumnMatrix, InputMatrix, OutputMatrix}
+use Rattle.bundle.specs.Search.{first, refusedAt}
 
 -- ---- tests
 -- x is among the k numbers f j, f (j + 1), ..
@@ -34,30 +33,40 @@ noPermutation p = repeats 16 0 (at (imagesOf p))
 unfoldable pub noInverse : ℕ → List ℕ → Bool
 noInverse w p = not (hasInverse (invert (8 * w) (matrixOf w p)))
 
+-- The test of byte and column matrices, the mixing bijections, of 8 w rows.
+unfoldable pub mixingBad : ℕ → List ℕ → Bool
+mixingBad w p = noInverse w p
+
 -- By number, of a bundle.
 abbrev pub encodingBad : ℕ → List ℕ → ℕ → Bool
 encodingBad nr l n = noPermutation (encodingPart nr l n)
 
 abbrev pub byteMatrixBad : ℕ → List ℕ → ℕ → Bool
-byteMatrixBad nr l n = noInverse 1 (byteMatrixPart nr l n)
+byteMatrixBad nr l n = mixingBad 1 (byteMatrixPart nr l n)
 
 abbrev pub columnMatrixBad : ℕ → List ℕ → ℕ → Bool
-columnMatrixBad nr l n = noInverse 4 (columnMatrixPart nr l n)
+columnMatrixBad nr l n = mixingBad 4 (columnMatrixPart nr l n)
 
--- ---- the judgement
+-- ---- the judgement, a cause at a time
 -- Cause 4, "list no permutation", with the "first such list".
-unfoldable pub judgeEncodings : ℕ → List ℕ → Judgement
-judgeEncodings nr l = unlessAt (first (encodings nr) (encodingBad nr l)) Encoding Accepted
+unfoldable pub judgeEncodings : ℕ → List ℕ → Answer
+judgeEncodings nr l = refusedAt (first (encodings nr) (encodingBad nr l)) Encoding
 
--- Causes 5, "byte matrix has no inverse", 6, "column matrix has none", each with the "first such number", and 7, "block matrix has
--- none".
-unfoldable pub judgeMatrices : ℕ → List ℕ → Judgement
-judgeMatrices nr l =
-    unlessAt (first (byteMatrices nr) (byteMatrixBad nr l)) ByteMatrix
-    (unlessAt (first (columnMatrices nr) (columnMatrixBad nr l)) ColumnMatrix
-    (unless (noInverse 16 (inputMatrixPart nr l)) InputMatrix
-    (unless (noInverse 16 (outputMatrixPart nr l)) OutputMatrix Accepted)))
+-- Cause 5, "byte matrix has no inverse", with the "first such number".
+unfoldable pub judgeByteMatrices : ℕ → List ℕ → Answer
+judgeByteMatrices nr l = refusedAt (first (byteMatrices nr) (byteMatrixBad nr l)) ByteMatrix
 
--- All causes of a bundle in document 01's order: 2 and 3, then 4, then 5 to 7.
-unfoldable pub judge : ℕ → List ℕ → Judgement
-judge nr l = andThen (frame nr l) (andThen (judgeEncodings nr l) (judgeMatrices nr l))
+-- Cause 6, "column matrix has none", with the "first such number".
+unfoldable pub judgeColumnMatrices : ℕ → List ℕ → Answer
+judgeColumnMatrices nr l = refusedAt (first (columnMatrices nr) (columnMatrixBad nr l)) ColumnMatrix
+
+-- Cause 7, "block matrix has none": "0 input or both, 1 output only".
+unfoldable pub judgeBlockMatrices : ℕ → List ℕ → Answer
+judgeBlockMatrices nr l =
+    andThen (refusedIf (noInverse 16 (inputMatrixPart nr l)) InputMatrix) (refusedIf (noInverse 16 (outputMatrixPart nr l)) OutputMatrix)
+
+-- All causes of a bundle in document 01's order: 2 and 3, then 4 to 7.
+unfoldable pub judge : ℕ → List ℕ → Answer
+judge nr l =
+    andThen (frame nr l)
+    (andThen (judgeEncodings nr l) (andThen (judgeByteMatrices nr l) (andThen (judgeColumnMatrices nr l) (judgeBlockMatrices nr l))))

@@ -10,23 +10,28 @@ use Rattle.bundle.specs.Format.{encodings, byteMatrices, columnMatrices, partCo
 use Rattle.bundle.specs.Format.{partAt, encodingOf, byteMatrix, columnMatrix, inputMatrix, outputMatrix}
 use Rattle.bundle.specs.Frames.{InRange, Framed}
 use Rattle.bundle.specs.Search.{All, FirstBad}
-use Rattle.bundle.specs.Refusals.{causeOf}
-use Rattle.bundle.specs.declared.answer.Judgement.{Judgement}
-use Rattle.bundle.specs.declared.answer.Judgement.the-variants.{Accepted, Refused}
-use Rattle.bundle.specs.declared.answer.Refusal.{Refusal}
-use Rattle.bundle.specs.declared.answer.Refusal.the-variants.{Length, Pair, Encoding, ByteMatrix, ColumnMatrix, InputMatrix, OutputMatrix}
+use Rattle.answers.specs.Numbers.{causeOf}
+use Rattle.answers.specs.declared.Answer.{Answer}
+use Rattle.answers.specs.declared.Answer.the-variants.{Accepted, Refused}
+use Rattle.answers.specs.declared.Refusal.{Refusal}
+use Rattle.answers.specs.declared.Refusal.the-variants.{KeyLength, BundleLength, Pair, Encoding, ByteMatrix, ColumnMatrix, InputMatrix}
+use Rattle.answers.specs.declared.Refusal.the-variants.{OutputMatrix, TableNumber, SetLength, BlockLength, Stop, Unfinished}
 use Rattle.judgement.specs.Judge.{judge}
 
 -- ---- what each cause asks; for causes 2 and 3 see Frames.antt of crate bundle
--- Cause 4: list n is a permutation. Causes 5 to 7: some map undoes the product by the matrix.
+-- Causes 5 and 6, of byte and column matrices, the mixing bijections, of 8 w rows: some map undoes the product by the matrix.
+abbrev pub Mixing : ℕ → List ℕ → Type 0
+Mixing w m = Invertible (8 * w) m
+
+-- Cause 4: list n is a permutation. Causes 5 and 6: the matrix mixes. Cause 7: some map undoes the product by it.
 abbrev pub GoodEncoding : ℕ → List ℕ → ℕ → Type 0
 GoodEncoding nr l n = Permutation (encodingOf nr l n)
 
 abbrev pub GoodByteMatrix : ℕ → List ℕ → ℕ → Type 0
-GoodByteMatrix nr l n = Invertible 8 (byteMatrix nr l n)
+GoodByteMatrix nr l n = Mixing 1 (byteMatrix nr l n)
 
 abbrev pub GoodColumnMatrix : ℕ → List ℕ → ℕ → Type 0
-GoodColumnMatrix nr l n = Invertible 32 (columnMatrix nr l n)
+GoodColumnMatrix nr l n = Mixing 4 (columnMatrix nr l n)
 
 abbrev pub GoodInputMatrix : ℕ → List ℕ → Type 0
 GoodInputMatrix nr l = Invertible 128 (inputMatrix nr l)
@@ -54,9 +59,9 @@ pub record Sound (nr : ℕ) (l : List ℕ) : Type 0 where
   pub output : GoodOutputMatrix nr l
 
 -- Refused: no lower cause applies, and this is the first offender of its kind.
-abbrev pub Why : ℕ → List ℕ → Judgement → Type 0
+abbrev pub Why : ℕ → List ℕ → Answer → Type 0
 Why nr l Accepted = Sound nr l
-Why nr l (Refused Length) = InRange nr l → ⊥
+Why nr l (Refused BundleLength) = InRange nr l → ⊥
 Why nr l (Refused (Pair i)) = InRange nr l × FirstBad 5 (PairRight nr l) i
 Why nr l (Refused (Encoding n)) = Framed nr l × FirstBad (encodings nr) (GoodEncoding nr l) n
 Why nr l (Refused (ByteMatrix n)) = Framed nr l × GoodEncodings nr l × FirstBad (byteMatrices nr) (GoodByteMatrix nr l) n
@@ -66,6 +71,13 @@ Why nr l (Refused InputMatrix) =
     Framed nr l × GoodEncodings nr l × GoodByteMatrices nr l × GoodColumnMatrices nr l × (GoodInputMatrix nr l → ⊥)
 Why nr l (Refused OutputMatrix) =
     Framed nr l × GoodEncodings nr l × GoodByteMatrices nr l × GoodColumnMatrices nr l × GoodInputMatrix nr l × (GoodOutputMatrix nr l → ⊥)
+-- No other cause is a bundle's.
+Why nr l (Refused KeyLength) = ⊥
+Why nr l (Refused TableNumber) = ⊥
+Why nr l (Refused SetLength) = ⊥
+Why nr l (Refused BlockLength) = ⊥
+Why nr l (Refused Stop) = ⊥
+Why nr l (Refused Unfinished) = ⊥
 
 -- ---- the theorems
 -- Every judgement is given for its reason, and no other has one: so the judgement is the only one that is right.
@@ -73,7 +85,7 @@ abbrev pub Reasoned : Type 0
 Reasoned = (nr : ℕ) (l : List ℕ) → Bytes l → Why nr l (judge nr l)
 
 abbrev pub Only : Type 0
-Only = (nr : ℕ) (l : List ℕ) → Bytes l → (j : Judgement) → Why nr l j → judge nr l ≡ j
+Only = (nr : ℕ) (l : List ℕ) → Bytes l → (j : Answer) → Why nr l j → judge nr l ≡ j
 
 -- A bundle of bytes is accepted exactly if it is sound.
 abbrev pub AcceptedExactly : Type 0

@@ -1,34 +1,34 @@
-// The judgement of a whole bundle, causes 2 to 7.
+// The judgement of a whole bundle, causes 2 to 7, a cause at a time.
 ghost use mathlib.Core.Path.{_≡_};
 ghost use Prim.Native.Nat.{_*_, _<_, _≤_};
+ghost use Rattle.answers.specs.declared.Answer.the-variants.{Accepted};
 ghost use Rattle.bundle.specs.Format.{partCount, partSize, partAt, frame};
 ghost use Rattle.bundle.specs.Search.{first};
-ghost use Rattle.bundle.specs.declared.answer.Judgement.the-variants.{Accepted};
-ghost use Rattle.judgement.specs.Judge.{noInverse, judgeEncodings, judgeMatrices, judge};
+ghost use Rattle.judgement.specs.Judge.{mixingBad, judgeEncodings, judgeByteMatrices, judgeColumnMatrices, judgeBlockMatrices, judge};
 use crate::search;
-use bundle::answer::Found;
-use bundle::answer::Judgement;
-use bundle::answer::Refusal;
+use answers::Answer;
+use answers::Refusal;
+use bundle::found::Found;
 use bundle::frame;
 use bundle::layout;
 use bundle::parts;
 use bundle::sections;
 
 // Cause 4.
-fn judge_encodings(bundle: &[u8]) -> Judgement
+pub fn judge_encodings(bundle: &[u8]) -> Answer
     requires { ⌜ frame 10 (now bundle) ≡ Accepted ⌝ }
     ensures { λ r. ⌜ r ≡ judgeEncodings 10 (now (bundle .entry)) ⌝ }
 {
     match search::first_bad_encoding(sections::section(bundle, 0), layout::part_count(0)) {
-        Found::At(n) => Judgement::Refused(Refusal::Encoding(n)),
-        Found::Nothing => Judgement::Accepted,
+        Found::At(n) => Answer::Refused(Refusal::Encoding(n)),
+        Found::Nothing => Answer::Accepted,
     }
 }
 
-// The first matrix of section s, of 8 w rows, that has no inverse.
+// The first byte or column matrix, of section s and of 8 w rows, that is bad.
 fn first_bad_matrix(bundle: &[u8], s: usize, w: usize) -> Found
     requires { ⌜ (frame 10 (now bundle) ≡ Accepted) × (s < 5) × (w ≤ 16) × (partSize s ≡ 8 * w * w) ⌝ }
-    ensures { λ r. ⌜ r ≡ first (partCount 10 s) (λ n. noInverse w (partAt 10 (now (bundle .entry)) s n)) ⌝ }
+    ensures { λ r. ⌜ r ≡ first (partCount 10 s) (λ n. mixingBad w (partAt 10 (now (bundle .entry)) s n)) ⌝ }
 {
     search::first_singular(
         sections::section(bundle, s),
@@ -38,35 +38,57 @@ fn first_bad_matrix(bundle: &[u8], s: usize, w: usize) -> Found
     )
 }
 
-// Causes 5 to 7.
-fn judge_matrices(bundle: &[u8]) -> Judgement
+// Cause 5.
+pub fn judge_byte_matrices(bundle: &[u8]) -> Answer
     requires { ⌜ frame 10 (now bundle) ≡ Accepted ⌝ }
-    ensures { λ r. ⌜ r ≡ judgeMatrices 10 (now (bundle .entry)) ⌝ }
+    ensures { λ r. ⌜ r ≡ judgeByteMatrices 10 (now (bundle .entry)) ⌝ }
 {
-    if let Found::At(n) = first_bad_matrix(bundle, 1, 1) {
-        return Judgement::Refused(Refusal::ByteMatrix(n));
+    match first_bad_matrix(bundle, 1, 1) {
+        Found::At(n) => Answer::Refused(Refusal::ByteMatrix(n)),
+        Found::Nothing => Answer::Accepted,
     }
-    if let Found::At(n) = first_bad_matrix(bundle, 2, 4) {
-        return Judgement::Refused(Refusal::ColumnMatrix(n));
+}
+
+// Cause 6.
+pub fn judge_column_matrices(bundle: &[u8]) -> Answer
+    requires { ⌜ frame 10 (now bundle) ≡ Accepted ⌝ }
+    ensures { λ r. ⌜ r ≡ judgeColumnMatrices 10 (now (bundle .entry)) ⌝ }
+{
+    match first_bad_matrix(bundle, 2, 4) {
+        Found::At(n) => Answer::Refused(Refusal::ColumnMatrix(n)),
+        Found::Nothing => Answer::Accepted,
     }
+}
+
+// Cause 7.
+pub fn judge_block_matrices(bundle: &[u8]) -> Answer
+    requires { ⌜ frame 10 (now bundle) ≡ Accepted ⌝ }
+    ensures { λ r. ⌜ r ≡ judgeBlockMatrices 10 (now (bundle .entry)) ⌝ }
+{
     if search::no_inverse(parts::input_matrix_part(bundle), 16) {
-        return Judgement::Refused(Refusal::InputMatrix);
+        return Answer::Refused(Refusal::InputMatrix);
     }
     if search::no_inverse(parts::output_matrix_part(bundle), 16) {
-        return Judgement::Refused(Refusal::OutputMatrix);
+        return Answer::Refused(Refusal::OutputMatrix);
     }
-    Judgement::Accepted
+    Answer::Accepted
 }
 
 // The judgement of a bundle.
-pub fn judge_bundle(bundle: &[u8]) -> Judgement
+pub fn judge_bundle(bundle: &[u8]) -> Answer
     ensures { λ r. ⌜ r ≡ judge 10 (now (bundle .entry)) ⌝ }
 {
-    if let Judgement::Refused(r) = frame::judge_frame(bundle) {
-        return Judgement::Refused(r);
+    if let Answer::Refused(r) = frame::judge_frame(bundle) {
+        return Answer::Refused(r);
     }
-    if let Judgement::Refused(r) = judge_encodings(bundle) {
-        return Judgement::Refused(r);
+    if let Answer::Refused(r) = judge_encodings(bundle) {
+        return Answer::Refused(r);
     }
-    judge_matrices(bundle)
+    if let Answer::Refused(r) = judge_byte_matrices(bundle) {
+        return Answer::Refused(r);
+    }
+    if let Answer::Refused(r) = judge_column_matrices(bundle) {
+        return Answer::Refused(r);
+    }
+    judge_block_matrices(bundle)
 }

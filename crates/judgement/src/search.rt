@@ -1,4 +1,4 @@
-// Searches in one section: the first encoding that is no permutation, the first matrix that has no inverse.
+// Searches in one section: the first encoding that is no permutation, the first byte or column matrix that is bad.
 ghost use mathlib.Core.Bool.{true, cond};
 ghost use mathlib.Core.Path.{_≡_};
 ghost use Prim.Native.Nat.{_*_, _/_, _%_, _<_, _≤_};
@@ -8,9 +8,8 @@ ghost use lib.ListN.{length};
 ghost use Rattle.bits.specs.Vectors.{bit, unit};
 ghost use Rattle.bundle.specs.Format.{partOf, tenEncodings};
 ghost use Rattle.bundle.specs.Search.{first};
-ghost use Rattle.judgement.specs.Judge.{noPermutation, noInverse};
-use bundle::answer::Found;
-use matrices::matrix;
+ghost use Rattle.judgement.specs.Judge.{noPermutation, noInverse, mixingBad};
+use bundle::found::Found;
 
 // Image x is marked in `seen`, whose bit x says so.
 fn marked(seen: u64, x: u8) -> bool
@@ -54,7 +53,7 @@ pub fn first_bad_encoding(lists: &[u8], count: usize) -> Found
         'images: while i < 8 {
             let b = lists[n * 8 + i];
             if repeated(seen, b) {
-                break 'lists Found::At(n);
+                break 'lists Found::At(n as u32);
             }
             seen = turned(turned(seen, b / 16), b % 16);
             i += 1;
@@ -68,27 +67,32 @@ pub fn no_inverse(p: &[u8], w: usize) -> bool
     requires { ⌜ (w ≤ 16) × (8 * w * w ≤ length (now p)) ⌝ }
     ensures { λ r. ⌜ r ≡ noInverse w (now (p .entry)) ⌝ }
 {
-    let n = 8 * w;
-    let mut m = [0u64; 256];
     let mut b = [0u64; 256];
-    matrix::read(p, &mut m, w);
-    if inversion::invert(&m, &mut b, n) {
+    if inversion::invert_bytes(p, &mut b, w) {
         return false;
     }
     true
 }
 
-// The first of a section's matrices of 8 w rows that has no inverse.
+// The test of a byte or column matrix, of 8 w rows.
+fn mixing_bad(p: &[u8], w: usize) -> bool
+    requires { ⌜ (w ≤ 16) × (8 * w * w ≤ length (now p)) ⌝ }
+    ensures { λ r. ⌜ r ≡ mixingBad w (now (p .entry)) ⌝ }
+{
+    no_inverse(p, w)
+}
+
+// The first of a section's byte or column matrices, of 8 w rows, that is bad.
 pub fn first_singular(s: &[u8], w: usize, size: usize, count: usize) -> Found
-    requires { ⌜ (w ≤ 16) × (size ≡ 8 * w * w) × (count * size ≤ length (now s)) ⌝ }
-    ensures { λ r. ⌜ r ≡ first count (λ n. noInverse w (partOf size (now (s .entry)) n)) ⌝ }
+    requires { ⌜ (w ≤ 16) × (size ≡ 8 * w * w) × (count < 4294967296) × (count * size ≤ length (now s)) ⌝ }
+    ensures { λ r. ⌜ r ≡ first count (λ n. mixingBad w (partOf size (now (s .entry)) n)) ⌝ }
 {
     let mut k = 0;
     while k < count {
         let a = k * size;
         let e = a + size;
-        if no_inverse(&s[a..e], w) {
-            return Found::At(k);
+        if mixing_bad(&s[a..e], w) {
+            return Found::At(k as u32);
         }
         k += 1;
     }

@@ -3,17 +3,17 @@ use mathlib.Core.List.{List, []}
 use mathlib.Core.Path.{_≡_}
 use Prim.Native.Nat.{ℕ, _+_, _-_, _*_, _/_, _%_, _≤_, _<_}
 use lib.ListN.{length, take, drop}
+use Rattle.answers.specs.declared.Answer.the-variants.{Accepted}
 use Rattle.bits.specs.Bytes.{numberOf}
 use Rattle.bits.specs.Encodings.{decode}
 use Rattle.bits.specs.Nibbles.{pack}
 use Rattle.matrices.specs.Rows.{rowsOf}
 use Rattle.inversion.specs.Elimination.{inverseOf}
 use Rattle.bundle.specs.Format.{encodingOf, columnMatrix, inputMatrix}
-use Rattle.bundle.specs.declared.answer.Judgement.the-variants.{Accepted}
 use Rattle.judgement.specs.Judge.{judge}
-use Rattle.network.specs.Stages.{widthOf, shifted, sourceOf, standingNumber}
-use Rattle.network.specs.declared.stage.Stage.{Stage}
-use Rattle.network.specs.declared.stage.Stage.the-variants.{Entry, First, Second, Exit, Beyond}
+use Rattle.layout.specs.Stages.{widthOf, sourceOf, standingNumber}
+use Rattle.layout.specs.declared.stage.Stage.{Stage}
+use Rattle.layout.specs.declared.stage.Stage.the-variants.{Entry, First, Second, Exit, Beyond}
 use Rattle.whitebox.specs.Codings.{Codings}
 use Rattle.whitebox.specs.Parts.{Parts}
 use Rattle.whitebox.specs.Words.{entryWord, mixedWord, secondWord, placedWord, substituted}
@@ -27,8 +27,11 @@ roundOf Exit = 9
 roundOf Beyond = 0
 
 -- The inverses of a bundle's 36 column matrices as rows, one after the other: 64 words each.
+abbrev pub columnWords : ℕ
+columnWords = 36 * 64
+
 pub record ColumnInverses (l c : List ℕ) : Type 0 where
-  pub long : length c ≡ 2304
+  pub long : length c ≡ columnWords
   pub rows : (n : ℕ) → n < 36 → rowsOf 32 (take 64 (drop (n * 64) c)) ≡ inverseOf 32 (columnMatrix 10 l n)
 
 -- What is worked out once for a whole set, from an accepted bundle: these, and the rows of the inverse of the input matrix.
@@ -47,11 +50,12 @@ InverseFor l (Second r) p m = (64 ≤ length m) × (rowsOf 32 m ≡ inverseOf 32
 InverseFor l Exit p m = Unit {0}
 InverseFor l Beyond p m = Unit {0}
 
--- The byte x that position p reads, decoded "by the two lists of its place".
-unfoldable pub readByte : List ℕ → Stage → ℕ → ℕ → ℕ
-readByte l s p x =
-    let j = sourceOf shifted s p in
-    pack (decode (encodingOf 10 l (standingNumber 10 s (2 * j))) (x / 16)) (decode (encodingOf 10 l (standingNumber 10 s (2 * j + 1))) (x % 16))
+-- The byte x that position p reads, decoded "by the two lists of its place": of nr rounds, where `reads` is the byte that a position reads
+-- through the row shift.
+unfoldable pub readByte : ℕ → (ℕ → ℕ) → List ℕ → Stage → ℕ → ℕ → ℕ
+readByte nr reads l s p x =
+    let j = sourceOf reads s p in
+    pack (decode (encodingOf nr l (standingNumber nr s (2 * j))) (x / 16)) (decode (encodingOf nr l (standingNumber nr s (2 * j + 1))) (x % 16))
 
 module _ (P : Parts) (C : Codings) where
   -- The byte that a word is linear in: behind the S-box in first halves and in the exit, else the byte read.

@@ -4,27 +4,23 @@ ghost use mathlib.Core.List.{List};
 ghost use mathlib.Core.Path.{_≡_};
 ghost use Prim.Native.Nat.{ℕ, _*_, _<_, _≤_};
 ghost use lib.ListN.{length};
+ghost use Rattle.answers.specs.declared.Answer.the-variants.{Accepted};
 ghost use Rattle.matrices.specs.Matrices.{matrixOf, Invertible};
 ghost use Rattle.matrices.specs.Rows.{rowsOf};
 ghost use Rattle.inversion.specs.Elimination.{inverseOf};
 ghost use Rattle.bundle.specs.Format.{columnMatrix, inputMatrix};
-ghost use Rattle.bundle.specs.declared.answer.Judgement.the-variants.{Accepted};
 ghost use Rattle.judgement.specs.Judge.{judge};
-ghost use Rattle.layers.specs.Layers.{roundOf, ColumnInverses, Ready, InverseFor};
+ghost use Rattle.layers.specs.Layers.{roundOf, columnWords, ColumnInverses, Ready, InverseFor};
 use crate::numbers;
 use bundle::parts;
-use matrices::matrix;
-use network::stage::Stage;
+use layout::stage::Stage;
 
 // The inverse of the matrix of 8 w rows that bytes write.
 pub fn inverse(p: &[u8], b: &mut [u64], w: usize)
     requires { ⌜ (w ≤ 16) × (8 * w * w ≤ length (now p)) × (16 * w ≤ length (now b)) × Invertible (8 * w) (matrixOf w (now p)) ⌝ }
     ensures { λ _. ⌜ rowsOf (8 * w) (now (b .exit)) ≡ inverseOf (8 * w) (matrixOf w (now (p .entry))) ⌝ }
 {
-    let n = 8 * w;
-    let mut m = [0u64; 256];
-    matrix::read(p, &mut m, w);
-    inversion::invert(&m, b, n);
+    inversion::invert_bytes(p, b, w);
 }
 
 // The inverse of the input matrix.
@@ -43,9 +39,12 @@ fn of_column(bundle: &[u8], n: usize, dst: &mut [u64])
     inverse(parts::column_matrix_part(bundle, n), dst, 4);
 }
 
+// The words of the inverses of all column matrices.
+pub const COLUMN_WORDS: usize = 2304;
+
 // The inverses of the column matrices, one after the other.
 pub fn of_columns(bundle: &[u8], dst: &mut [u64])
-    requires { ⌜ (judge 10 (now bundle) ≡ Accepted) × (length (now dst) ≡ 2304) ⌝ }
+    requires { ⌜ (judge 10 (now bundle) ≡ Accepted) × (length (now dst) ≡ columnWords) ⌝ }
     ensures { λ _. ⌜ ColumnInverses (now (bundle .entry)) (now (dst .exit)) ⌝ }
 {
     let mut n: usize = 0;
@@ -76,7 +75,7 @@ pub fn of_table(bundle: &[u8], s: Stage, j: usize, dst: &mut [u64])
 
 // The same where all are worked out.
 pub fn chosen<'a>(columns: &'a [u64], input: &'a [u64], s: Stage, j: usize) -> &'a [u64]
-    requires { ⌜ (length (now columns) ≡ 2304) × (1 ≤ roundOf s) × (roundOf s ≤ 9) ⌝ }
+    requires { ⌜ (length (now columns) ≡ columnWords) × (1 ≤ roundOf s) × (roundOf s ≤ 9) ⌝ }
     ensures { λ r. ⌜ ((l : List ℕ) → Ready l (now (columns .entry)) (now (input .entry)) → j < 16 → InverseFor l s j (now r)) ⌝ }
 {
     if 15 < j {

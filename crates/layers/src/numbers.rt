@@ -1,16 +1,17 @@
 // Numbers of encodings (lists) and matrices by stage.
 ghost use mathlib.Core.Path.{_≡_};
 ghost use Prim.Native.Nat.{_+_, _-_, _*_, _/_, _<_, _≤_};
-ghost use Rattle.layers.specs.Layers.{roundOf};
-ghost use Rattle.network.specs.Numbers.{sumNumber};
-ghost use Rattle.network.specs.Stages.{firstNumber, standingNumber};
 ghost use Rattle.bundle.specs.Format.{tenEncodings};
-use network::stage::Stage;
+ghost use Rattle.network.specs.Numbers.{sumNumber};
+ghost use Rattle.layout.specs.Stages.{firstNumber, standingNumber};
+ghost use Rattle.layout.specs.declared.stage.Stage.the-variants.{Exit};
+ghost use Rattle.layers.specs.Layers.{roundOf};
+use layout::stage::Stage;
 
-// The number of the encoding of a stage's first result.
+// The number of the encoding of a stage's first result: the exit's is the highest.
 pub fn first_number(s: Stage) -> usize
     requires { ⌜ (1 ≤ roundOf s) × (roundOf s ≤ 9) ⌝ }
-    ensures { λ r. ⌜ (r ≡ firstNumber 10 s) × (r ≤ 5056) ⌝ }
+    ensures { λ r. ⌜ (r ≡ firstNumber 10 s) × (r ≤ firstNumber 10 Exit) ⌝ }
 {
     match s {
         Stage::Entry => 32,

@@ -5,23 +5,23 @@ ghost use Prim.Native.Nat.{_+_, _*_, _/_, _%_, _<_, _≤_};
 ghost use lib.Bits.{bitXor};
 ghost use lib.Dec.{eqb};
 ghost use lib.ListN.{length};
-ghost use Rattle.round.specs.Key.{keyOf};
+ghost use Rattle.answers.specs.declared.Answer.the-variants.{Accepted};
 ghost use Rattle.bits.specs.Lists.{at, tabulate};
 ghost use Rattle.matrices.specs.Matrices.{product};
 ghost use Rattle.matrices.specs.Rows.{rowsOf};
-ghost use Rattle.judgement.specs.Judge.{judge};
-ghost use Rattle.bundle.specs.declared.answer.Judgement.the-variants.{Accepted};
-ghost use Rattle.entries.specs.Spread.{nibbleByte};
 ghost use Rattle.field.specs.Sbox.{sboxOf};
+ghost use Rattle.round.specs.Key.{keyOf};
+ghost use Rattle.judgement.specs.Judge.{judge};
 ghost use Rattle.whitebox.specs.Bundles.{codingsOf};
 ghost use Rattle.whitebox.specs.Parts.{forward};
 ghost use Rattle.whitebox.specs.Words.{substituted};
+ghost use Rattle.entries.specs.Spread.{nibbleByte};
 use crate::inverses;
 use crate::words;
 use bits::encoding;
 use bundle::parts;
 use entries::spread;
-use network::stage;
+use layout::stage;
 
 // The products of the bytes with one nibble, which add up to those of all bytes.
 fn nibble_products(inverse: &[u64], dst: &mut [u8])

@@ -2,6 +2,7 @@
 ghost use mathlib.Core.Path.{_≡_};
 ghost use Prim.Native.Nat.{_+_, _*_, _^_, _<_, _≤_};
 ghost use lib.ListN.{length};
+ghost use Rattle.answers.specs.declared.Answer.the-variants.{Accepted};
 ghost use Rattle.bits.specs.Bytes.{number, byte, placed};
 ghost use Rattle.bits.specs.Words.{value};
 ghost use Rattle.matrices.specs.Matrices.{product, matrixOf};
@@ -9,7 +10,6 @@ ghost use Rattle.matrices.specs.Rows.{rowsOf, stored};
 ghost use Rattle.field.specs.Field.{mul};
 ghost use Rattle.round.specs.State.{mixRows, entry};
 ghost use Rattle.bundle.specs.Format.{byteMatrix, frame, partOf};
-ghost use Rattle.bundle.specs.declared.answer.Judgement.the-variants.{Accepted};
 use bits::vector;
 use bits::vector::Vector;
 use bundle::sections;

@@ -1,4 +1,3 @@
 pub mod Area
-pub mod Cuts
 pub mod Layers
 pub mod Whole

@@ -9,11 +9,11 @@ use lib.Dec.{eqb}
 use lib.ListN.{length, set, take, drop}
 use Rattle.bits.specs.Lists.{at}
 use Rattle.bits.specs.Nibbles.{pack, nibble}
-use Rattle.network.specs.Lookups.{Shape, spreadArea, xorArea, sums, lookupIn}
+use Rattle.network.specs.Lookups.{stateAt, Shape, spreadArea, xorArea, sums, lookupIn}
 use Rattle.network.specs.Order.{xors, layerLookups}
 use Rattle.network.specs.Sizes.{sizeOf, offsetOf}
-use Rattle.network.specs.Stages.{widthOf}
-use Rattle.network.specs.declared.stage.Stage.{Stage}
+use Rattle.layout.specs.Stages.{widthOf}
+use Rattle.layout.specs.declared.stage.Stage.{Stage}
 
 -- The byte x with the half replaced that is nibble q of a list.
 abbrev pub withHalf : ℕ → ℕ → ℕ → ℕ
@@ -35,7 +35,7 @@ XorIn m x = ((m ≡ 16) × (x < 480)) ⊎ ((m ≡ 4) × (x < 96))
 
 -- Lookup j over the table t turns standing bytes s and area a into s′ and a′ of the same lengths, at any count.
 pub record LookedUp (S : Shape) (j : ℕ) (t s a s′ a′ : List ℕ) : Type 0 where
-  pub walk : (n : ℕ) → lookupIn S j t (record { count = n; standing = s; area = a }) ≡ record { count = suc n; standing = s′; area = a′ }
+  pub walk : (n : ℕ) → lookupIn S j t (stateAt n s a) ≡ stateAt (suc n) s′ a′
   pub kept : length s′ ≡ length s
   pub long : length a′ ≡ length a
 

@@ -6,12 +6,12 @@ ghost use lib.ListN.{length};
 ghost use Rattle.network.specs.Lookups.{xorArea, zeroArea};
 ghost use Rattle.network.specs.Order.{xors, layerLookups};
 ghost use Rattle.network.specs.Sizes.{layerBytes};
-ghost use Rattle.network.specs.Stages.{widthOf, shapeAt, shifted, tenSetBytes};
+ghost use Rattle.layout.specs.Stages.{widthOf, shapeAt, shifted, tenSetBytes};
 ghost use Rattle.lookups.specs.InPlace.{Fits, XorIn, LookedUp, spreadsIn, xorsIn, sumsIn};
 use crate::area;
-use network::stage::Stage;
-use network::stage::source_of;
-use network::stage::width_of;
+use layout::stage::Stage;
+use layout::stage::source_of;
+use layout::stage::width_of;
 
 // All lookups of a stage or half.
 pub fn lookups_of(width: usize) -> usize

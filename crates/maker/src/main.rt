@@ -1,15 +1,15 @@
 // The maker: reads a key and then a bundle to the end of the input, and writes the tables of their set in order, or the refusal.
+use answers::Answer;
+use answers::cause;
+use answers::second;
 use bundle::frame::LONGEST;
+use layout::stage::SET_BYTES;
 use libc::STDIN_FILENO;
 use libc::STDOUT_FILENO;
-use network::stage::SET_BYTES;
-use tables::calls::Made;
-use tables::calls::cause;
 use tables::calls::make_set;
-use tables::calls::second;
 
 // Writes a refusal, with both of its numbers.
-fn refuse(answer: Made) {
+fn refuse(answer: Answer) {
     io::write_all(STDOUT_FILENO, b"refused ");
     io::print_decimal(STDOUT_FILENO, cause(answer) as u64);
     io::write_all(STDOUT_FILENO, b" ");
@@ -20,7 +20,7 @@ fn refuse(answer: Made) {
 // Makes the set and writes what came of it.
 fn make(key: &[u8], bundle: &[u8], set: &mut [u8]) {
     let answer = make_set(key, bundle, set);
-    let Made::Done = answer else {
+    let Answer::Accepted = answer else {
         refuse(answer);
         return;
     };

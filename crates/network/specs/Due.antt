@@ -9,7 +9,7 @@ use Rattle.bits.specs.Encodings.{encode, decode}
 use Rattle.bits.specs.Groups.{xorAll}
 use Rattle.bits.specs.Lists.{at, tabulate}
 use Rattle.bits.specs.Nibbles.{nibble, packed}
-use Rattle.network.specs.Lookups.{Walk}
+use Rattle.network.specs.Lookups.{State, stateAt}
 use Rattle.network.specs.Numbers.{Numbers, encodingNumber, nextNumbers}
 use Rattle.network.specs.Order.{layerLookups, added}
 use Rattle.network.specs.Tables.{Layer}
@@ -72,17 +72,13 @@ areaDue (D ∷ Ds) N k q =
     (areaDue Ds (nextNumbers (D .width) N) (k - layerLookups (D .width)) q)
 
 -- The state in which each place holds what is due, k lookups into layers that start at the count `from`.
-unfoldable pub dueWalk : (ℕ → List ℕ) → List Values → List ℕ → Numbers → ℕ → ℕ → Walk
-dueWalk E Ds left N from k =
-    record {
-      count = from + k;
-      standing = packed 16 (λ q. shown E (standingDue Ds left N k q));
-      area = packed 256 (λ q. shown E (areaDue Ds N k q));
-    }
+unfoldable pub dueState : (ℕ → List ℕ) → List Values → List ℕ → Numbers → ℕ → ℕ → State
+dueState E Ds left N from k =
+    stateAt (from + k) (packed 16 (λ q. shown E (standingDue Ds left N k q))) (packed 256 (λ q. shown E (areaDue Ds N k q)))
 
 -- The closed form: the state k lookups into layers whose plain bytes at the start are l.
-abbrev pub closed : (ℕ → List ℕ) → List Layer → Numbers → List ℕ → ℕ → ℕ → Walk
-closed E Ls N l from k = dueWalk E (valuesOf Ls l) (leftBy Ls l) N from k
+abbrev pub closed : (ℕ → List ℕ) → List Layer → Numbers → List ℕ → ℕ → ℕ → State
+closed E Ls N l from k = dueState E (valuesOf Ls l) (leftBy Ls l) N from k
 
 -- 16 bytes with each nibble under its encoding, and the way back.
 unfoldable pub encoded : (ℕ → List ℕ) → (ℕ → ℕ) → List ℕ → List ℕ

@@ -5,6 +5,4 @@ pub mod Tables
 pub mod Due
 pub mod Rule
 pub mod Sizes
-pub mod Stages
 pub mod Theorems
-pub mod Cases

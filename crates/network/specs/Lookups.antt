@@ -10,11 +10,16 @@ use Rattle.bits.specs.Lists.{at, tabulate}
 use Rattle.bits.specs.Nibbles.{pack, nibble, setNibble}
 use Rattle.network.specs.Order.{layerLookups, sumPlace, addedPlace}
 
--- The evaluation state. "A held walk is a count, 16 standing bytes and a spread area of 256 bytes, all by value."
-pub record Walk : Type 0 where
+-- The evaluation state: the part of document 01's held walk that lookups change. "A held walk is a count, 16 standing bytes and a spread area
+-- of 256 bytes, all by value."
+pub record State : Type 0 where
   pub count : ℕ
   pub standing : List ℕ
   pub area : List ℕ
+
+-- The state of a count n, standing bytes s and an area a.
+abbrev pub stateAt : ℕ → List ℕ → List ℕ → State
+stateAt n s a = record { count = n; standing = s; area = a }
 
 -- All that a lookup must know of its layer: the width, and the standing byte that each spread lookup reads.
 pub record Shape : Type 0 where
@@ -40,25 +45,25 @@ module _ (m : ℕ) where
   sums area = tabulate 16 (λ q. at area (q / m * m * m + q % m))
 
 -- Lookup j of a layer. "The last XOR of a stage or half copies the sums to the standing bytes and zeroes the area."
-unfoldable pub lookupIn : Shape → ℕ → List ℕ → Walk → Walk
+unfoldable pub lookupIn : Shape → ℕ → List ℕ → State → State
 lookupIn S j t w =
     let m = S .width in
     let xored = xorArea m (j - 16) t (w .area) in
-    cond (ltb j 16) (record { count = suc (w .count); standing = w .standing; area = spreadArea m (S .source j) j t (w .standing) (w .area) })
+    cond (ltb j 16) (stateAt (suc (w .count)) (w .standing) (spreadArea m (S .source j) j t (w .standing) (w .area)))
     (cond (eqb (suc j) (layerLookups m))
-    (record { count = suc (w .count); standing = sums m xored; area = zeroArea })
-    (record { count = suc (w .count); standing = w .standing; area = xored }))
+    (stateAt (suc (w .count)) (sums m xored) zeroArea)
+    (stateAt (suc (w .count)) (w .standing) xored))
 
 -- Lookup k of a network of layers. Past the last there is none, and the state stays as it was.
-unfoldable pub lookupAt : List Shape → ℕ → List ℕ → Walk → Walk
+unfoldable pub lookupAt : List Shape → ℕ → List ℕ → State → State
 lookupAt [] k t w = w
 lookupAt (S ∷ Ss) k t w = cond (ltb k (layerLookups (S .width))) (lookupIn S k t w) (lookupAt Ss (k - layerLookups (S .width)) t w)
 
 -- The lookup whose number is the state's count.
-unfoldable pub lookup : List Shape → List ℕ → Walk → Walk
+unfoldable pub lookup : List Shape → List ℕ → State → State
 lookup Ss t w = lookupAt Ss (w .count) t w
 
 -- The walk of n lookups, lookup k over the table `t k`.
-unfoldable pub walked : List Shape → (ℕ → List ℕ) → ℕ → Walk → Walk
+unfoldable pub walked : List Shape → (ℕ → List ℕ) → ℕ → State → State
 walked Ss t zero w = w
 walked Ss t (suc n) w = walked Ss t n (lookup Ss (t (w .count)) w)

@@ -1,22 +1,20 @@
--- The statements of this crate, for a reader to hold against document 01. Each is a type, and the last record gathers them. Only names
--- of this folder's definitions and of crate bits stand here.
+-- What is proved of a network of any layers, for a reader to hold against document 01. Each statement is a type, and the last record
+-- gathers them. Only names of this folder's definitions and of crate bits stand here.
 use mathlib.Core.List.{List, [], _∷_, _++_, map}
 use mathlib.Core.Path.{_≡_}
-use Prim.Native.Nat.{ℕ, suc, _+_, _-_, _*_, _≤_, _<_}
+use Prim.Native.Nat.{ℕ, suc, _+_, _≤_, _<_}
 use lib.ListN.{length, take, drop}
 use Rattle.bits.specs.Bytes.{Bytes, Block}
 use Rattle.bits.specs.Encodings.{decode, Permutation}
 use Rattle.bits.specs.Lists.{concat}
 use Rattle.bits.specs.Nibbles.{nibble}
 use Rattle.network.specs.Due.{Values, Due, held, blank, valuesOf, leftBy, standingDue, areaDue, closed, encoded, decoded}
-use Rattle.network.specs.Lookups.{Walk, zeroArea, lookupIn, lookupAt, walked}
+use Rattle.network.specs.Lookups.{stateAt, zeroArea, lookupAt, walked}
 use Rattle.network.specs.Numbers.{Numbers, startNumbers, numbersAfter}
 use Rattle.network.specs.Order.{GoodWidth}
 use Rattle.network.specs.Rule.{under, labelOf, labels, firstResult, ruleAt}
-use Rattle.network.specs.Sizes.{sizeOf, offsetOf, lookupsIn, bytesIn, resultsIn, sizeIn, offsetIn}
-use Rattle.network.specs.Stages.{stages, widthOf, shapeAt, shapes, widths, lookups, setBytes, encodings, tableSize, tableOffset, stageOf, indexOf, firstByte, numbersOf}
-use Rattle.network.specs.Tables.{Layer, widthsOf, shapesOf, AllGood, tableIn, tableAt}
-use Rattle.network.specs.declared.stage.Stage.{Stage}
+use Rattle.network.specs.Sizes.{lookupsIn, bytesIn, resultsIn, sizeIn, offsetIn}
+use Rattle.network.specs.Tables.{Layer, widthsOf, shapesOf, AllGood, tableAt}
 
 -- E gives a permutation for every number.
 abbrev pub Permutations : (ℕ → List ℕ) → Type 0
@@ -39,7 +37,7 @@ FromAnyLayer =
     (E : ℕ → List ℕ) → Permutations E → (As Bs : List Layer) → AllGood Bs → (s : List ℕ) → Block s → (n : ℕ) → n ≤ lookupsIn (widthsOf Bs)
     → let at : ℕ = lookupsIn (widthsOf As) in
     let N : Numbers = numbersAfter (widthsOf As) startNumbers in
-    walked (shapesOf (As ++ Bs)) (tableAt E (As ++ Bs) startNumbers) n (record { count = at; standing = s; area = zeroArea })
+    walked (shapesOf (As ++ Bs)) (tableAt E (As ++ Bs) startNumbers) n (stateAt at s zeroArea)
     ≡ closed E Bs N (decoded E (N .standing) s) at n
 
 -- After the last lookup the plain bytes that the layers leave stand under the encodings of the last sums, and the area is zero.
@@ -47,11 +45,7 @@ abbrev pub AtTheEnd : Type 0
 AtTheEnd =
     (E : ℕ → List ℕ) (Ls : List Layer) (N : Numbers) (l : List ℕ) (from : ℕ)
     → closed E Ls N l from (lookupsIn (widthsOf Ls))
-    ≡ record {
-      count = from + lookupsIn (widthsOf Ls);
-      standing = encoded E (numbersAfter (widthsOf Ls) N .standing) (leftBy Ls l);
-      area = zeroArea;
-    }
+    ≡ stateAt (from + lookupsIn (widthsOf Ls)) (encoded E (numbersAfter (widthsOf Ls) N .standing) (leftBy Ls l)) zeroArea
 
 -- Place by place: a nibble with its encoding taken off is the value due, and a place with none is zero.
 abbrev pub Reads : (ℕ → List ℕ) → ℕ → Due → Type 0
@@ -100,28 +94,6 @@ TableParts =
     × ((k : ℕ) → length (tableAt E Ls N k) ≡ sizeIn ms k)
     × ((k : ℕ) → k < lookupsIn ms → take (sizeIn ms k) (drop (offsetIn ms k) set) ≡ tableAt E Ls N k)
 
--- ---- THE STAGES BY RANGES, for any number nr of rounds
-pub record ByStage (nr : ℕ) : Type 0 where
-  -- The limits of the ranges, and of the numbers of bytes and encodings.
-  pub all-lookups : lookups nr ≡ 992 + 224 * (nr - 1)
-  pub all-bytes : setBytes nr ≡ 253952 + 57344 * (nr - 1)
-  pub all-encodings : encodings nr ≡ 2016 + 448 * (nr - 1)
-  -- After the last lookup the standing nibbles have the last 32 encodings: "the output matrix, then lists 6,016 to 6,047".
-  pub output-numbers : (q : ℕ) → q < 32 → numbersAfter (widths nr) startNumbers .standing q ≡ encodings nr - 32 + q
-  -- Lookup k is lookup `indexOf nr k` of its stage or half.
-  pub lookup-is : (reads : ℕ → ℕ) (k : ℕ) → k < lookups nr → (t : List ℕ) (w : Walk)
-      → lookupAt (shapes reads nr) k t w ≡ lookupIn (shapeAt reads (stageOf nr k)) (indexOf nr k) t w
-  -- Its table is made there, from the numbers that start the stage or half, in any network with a layer of the right width for each.
-  pub table-is : (E : ℕ → List ℕ) (F : Stage → Layer) → ((s : Stage) → F s .width ≡ widthOf s) → (k : ℕ) → k < lookups nr
-      → tableAt E (map F (stages nr)) startNumbers k ≡ tableIn E (F (stageOf nr k)) (numbersOf nr (stageOf nr k)) (indexOf nr k)
-  -- Its table has the size of its kind, and stands behind the first byte of its stage or half.
-  pub size-is : (k : ℕ) → k < lookups nr → tableSize nr k ≡ sizeOf (widthOf (stageOf nr k)) (indexOf nr k)
-  pub offset-is : (k : ℕ) → k < lookups nr → tableOffset nr k ≡ firstByte nr (stageOf nr k) + offsetOf (widthOf (stageOf nr k)) (indexOf nr k)
-  -- Past the last lookup there is none, and an empty table at the end of the set.
-  pub lookup-none : (reads : ℕ → ℕ) (k : ℕ) → lookups nr ≤ k → (t : List ℕ) (w : Walk) → lookupAt (shapes reads nr) k t w ≡ w
-  pub size-none : (k : ℕ) → lookups nr ≤ k → tableSize nr k ≡ 0
-  pub offset-none : (k : ℕ) → lookups nr ≤ k → tableOffset nr k ≡ setBytes nr
-
 -- ---- All of them, proved in proofs/laws/Proved.antt.
 pub record Network : Type 0 where
   pub one-lookup : OneLookup
@@ -132,4 +104,3 @@ pub record Network : Type 0 where
   pub rule-tables : RuleTables
   pub in-range : InRange
   pub table-parts : TableParts
-  pub by-stage : (nr : ℕ) → ByStage nr

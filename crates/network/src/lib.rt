@@ -1,2 +1,1 @@
-// The lookup network: the stage, the table size and the offset of a lookup. The definitions are those of specs/.
-pub mod stage;
+// The lookup network: the definitions of specs/ and what is proved of them. There is no code here.

@@ -1,5 +1,4 @@
 pub mod State
-pub mod Sum
 pub mod Mix
 pub mod Key
 pub mod Expansion

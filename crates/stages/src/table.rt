@@ -5,16 +5,16 @@ ghost use mathlib.Core.Path.{_≡_};
 ghost use Prim.Native.Nat.{ℕ, _+_, _-_, _*_, _^_, _<_, _≤_};
 ghost use lib.Dec.{eqb};
 ghost use lib.ListN.{length};
+ghost use Rattle.answers.specs.declared.Answer.the-variants.{Accepted};
 ghost use Rattle.bits.specs.Lists.{tabulate};
 ghost use Rattle.matrices.specs.Rows.{stored};
-ghost use Rattle.bundle.specs.declared.answer.Judgement.the-variants.{Accepted};
 ghost use Rattle.bundle.specs.Format.{tenEncodings};
 ghost use Rattle.judgement.specs.Judge.{judge};
 ghost use Rattle.network.specs.Numbers.{layerResults};
 ghost use Rattle.network.specs.Order.{GoodWidth, xors, layerLookups};
 ghost use Rattle.network.specs.Sizes.{sizeOf};
-ghost use Rattle.network.specs.Stages.{widthOf, numbersOf};
 ghost use Rattle.network.specs.Tables.{spreadTable, xorTable, tableIn};
+ghost use Rattle.layout.specs.Stages.{widthOf, shifted, numbersOf};
 ghost use Rattle.whitebox.specs.Bundles.{codingsOf};
 ghost use Rattle.whitebox.specs.Parts.{forward};
 ghost use Rattle.whitebox.specs.Tables.{layerOf};
@@ -27,13 +27,13 @@ use entries::xors;
 use layers::numbers;
 use layers::values;
 use layers::words;
-use network::stage;
-use network::stage::Stage;
+use layout::stage;
+use layout::stage::Stage;
 
 // The bytes that position p reads, decoded.
 fn read_bytes(bundle: &[u8], s: Stage, p: usize, dst: &mut [u8])
     requires { ⌜ (judge 10 (now bundle) ≡ Accepted) × (1 ≤ roundOf s) × (roundOf s ≤ 9) × (p < 16) × (length (now dst) ≡ 256) ⌝ }
-    ensures { λ _. ⌜ now (dst .exit) ≡ tabulate 256 (readByte (now (bundle .entry)) s p) ⌝ }
+    ensures { λ _. ⌜ now (dst .exit) ≡ tabulate 256 (readByte 10 shifted (now (bundle .entry)) s p) ⌝ }
 {
     let j = stage::source_of(s, p);
     let high = numbers::standing_number(s, 2 * j);
@@ -44,7 +44,7 @@ fn read_bytes(bundle: &[u8], s: Stage, p: usize, dst: &mut [u8])
 // For each of them, the byte that its word is linear in.
 fn values_of(bundle: &[u8], keys: &[u8], s: Stage, p: usize, dst: &mut [u8])
     requires { ⌜ (judge 10 (now bundle) ≡ Accepted) × (length (now keys) ≡ 176) × (1 ≤ roundOf s) × (roundOf s ≤ 9) × (p < 16) × (length (now dst) ≡ 256) ⌝ }
-    ensures { λ _. ⌜ now (dst .exit) ≡ tabulate 256 (λ x. acted (forward 10 (now (keys .entry))) (codingsOf 10 (now (bundle .entry))) 10 s p (readByte (now (bundle .entry)) s p x)) ⌝ }
+    ensures { λ _. ⌜ now (dst .exit) ≡ tabulate 256 (λ x. acted (forward 10 (now (keys .entry))) (codingsOf 10 (now (bundle .entry))) 10 s p (readByte 10 shifted (now (bundle .entry)) s p x)) ⌝ }
 {
     match s {
         Stage::First(r) => {

@@ -2,16 +2,16 @@
 ghost use mathlib.Core.Path.{_≡_};
 ghost use Prim.Native.Nat.{_+_, _<_};
 ghost use lib.ListN.{length};
+ghost use Rattle.answers.specs.declared.Answer.the-variants.{Accepted};
 ghost use Rattle.bits.specs.Lists.{concat};
 ghost use Rattle.judgement.specs.Judge.{judge};
-ghost use Rattle.bundle.specs.declared.answer.Judgement.the-variants.{Accepted};
-ghost use Rattle.layers.specs.Layers.{Ready, InverseFor};
-ghost use Rattle.network.specs.Stages.{stageOf, indexOf, tableSize, tenLookups, tenSetBytes};
+ghost use Rattle.layout.specs.Stages.{stageOf, indexOf, tableSize, tenLookups, tenTablesBytes};
 ghost use Rattle.whitebox.specs.Bundles.{codingsOf};
 ghost use Rattle.whitebox.specs.Parts.{forward};
 ghost use Rattle.whitebox.specs.Tables.{tableOf};
+ghost use Rattle.layers.specs.Layers.{Ready, InverseFor};
 use layers::inverses;
-use network::stage;
+use layout::stage;
 use stages::table;
 
 // Table n, with the inverse that it needs.
@@ -33,7 +33,7 @@ pub fn write_all<'a>(
     input: &'a [u64],
     memory: &mut [u8],
 )
-    requires { ⌜ Ready (now bundle) (now columns) (now input) × (length (now keys) ≡ 176) × (length (now memory) ≡ tenSetBytes) ⌝ }
+    requires { ⌜ Ready (now bundle) (now columns) (now input) × (length (now keys) ≡ 176) × (length (now memory) ≡ tenTablesBytes) ⌝ }
     ensures { λ _. ⌜ now (memory .exit) ≡ concat tenLookups (tableOf (forward 10 (now (keys .entry))) (codingsOf 10 (now (bundle .entry))) 10) ⌝ }
 {
     let mut n: usize = 0;

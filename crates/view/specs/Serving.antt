@@ -4,8 +4,8 @@ use mathlib.Core.Path.{_≡_}
 use Prim.Native.Nat.{ℕ}
 use denote.Ref.{RefT, now}
 use Rattle.bundle.specs.Format.{frame}
-use Rattle.bundle.specs.declared.answer.Judgement.the-variants.{Refused}
-use Rattle.bundle.specs.declared.answer.Refusal.{Refusal}
+use Rattle.answers.specs.declared.Answer.the-variants.{Refused}
+use Rattle.answers.specs.declared.Refusal.{Refusal}
 use Rattle.view.specs.declared.part.Part.{Part}
 use Rattle.view.specs.declared.starts.Starts.{Starts}
 use Rattle.view.specs.Views.{viewOf, startsIn, servedBy, partIn}

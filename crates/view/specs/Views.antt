@@ -6,22 +6,17 @@ use Prim.Native.Nat.{ℕ, _+_}
 use lib.Dec.{eqb, ltb}
 use lib.ListN.{length, take, drop}
 use denote.Ref.{RefT, now}
+use Rattle.answers.specs.Answers.{ifAccepted}
 use Rattle.bundle.specs.Format.{partSize, sectionLength, offset, frame, partOf, encodingPart, byteMatrixPart, columnMatrixPart, inputMatrixPart, outputMatrixPart}
-use Rattle.bundle.specs.declared.answer.Judgement.{Judgement}
-use Rattle.bundle.specs.declared.answer.Judgement.the-variants.{Accepted, Refused}
 use Rattle.view.specs.declared.View.{View}
 use Rattle.view.specs.declared.part.Part.{Part}
 use Rattle.view.specs.declared.part.Part.the-variants.{Encoding, ByteMatrix, ColumnMatrix, InputMatrix, OutputMatrix}
 use Rattle.view.specs.declared.starts.Starts.{Starts}
 
 -- ---- starts
-abbrev pub startWhen : Judgement → ℕ → ℕ
-startWhen Accepted a = a
-startWhen (Refused r) a = 0
-
 -- Where section s starts: the offset of its pair; "over a bundle with cause 2 or 3 its starts are 0".
 unfoldable pub startOf : ℕ → List ℕ → ℕ → ℕ
-startOf nr l s = startWhen (frame nr l) (offset l s)
+startOf nr l s = ifAccepted (frame nr l) (offset l s) 0
 
 unfoldable pub startsOf : ℕ → List ℕ → Starts
 startsOf nr l = record {

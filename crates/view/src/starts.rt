@@ -1,7 +1,7 @@
 // Where the five sections of a bundle start: encodings, byte matrices, column matrices, input matrix and output matrix.
 ghost use mathlib.Core.Path.{_≡_};
 ghost use Rattle.view.specs.Views.{startsOf};
-use bundle::answer::Judgement;
+use answers::Answer;
 use bundle::frame;
 use bundle::layout;
 
@@ -18,14 +18,14 @@ pub fn starts_of(bundle: &[u8]) -> Starts
     ensures { λ r. ⌜ r ≡ startsOf 10 (now (bundle .entry)) ⌝ }
 {
     match frame::judge_frame(bundle) {
-        Judgement::Accepted => Starts {
+        Answer::Accepted => Starts {
             encodings: layout::number_at(bundle, 0),
             bytes: layout::number_at(bundle, 8),
             columns: layout::number_at(bundle, 16),
             input: layout::number_at(bundle, 24),
             output: layout::number_at(bundle, 32),
         },
-        Judgement::Refused(_) => Starts {
+        Answer::Refused(_) => Starts {
             encodings: 0,
             bytes: 0,
             columns: 0,

@@ -1,19 +1,19 @@
 // Reads orders from standard input, and writes what the calls of a walk answer over memory that a formula fills. An order is 8 bytes: its
 // kind, a small number k and a number n of six bytes. The expected output is made by a program of other authorship (tests/walk_cases.py).
 ghost use Prim.Native.Nat.{_<_};
+use answers::Answer;
+use answers::cause;
 use bits::encoding;
-use evaluate::answer::fetch_cause;
-use evaluate::answer::move_cause;
-use evaluate::answer::start_cause;
 use evaluate::walk::Walk;
 use evaluate::walk::fetch;
 use evaluate::walk::move_one;
 use evaluate::walk::move_to;
 use evaluate::walk::start;
+use layout::stage::LOOKUPS;
+use layout::stage::SET_BYTES;
+use layout::stage::place_of;
 use libc::STDIN_FILENO;
 use libc::STDOUT_FILENO;
-use network::stage::LOOKUPS;
-use network::stage::place_of;
 
 // The memory: a linear congruence, its upper bits a byte each.
 fn next(x: u64) -> u64 {
@@ -55,8 +55,8 @@ fn changes(old: &[u8], new: &[u8]) {
 }
 
 // The cause, the count and all that a call changed in the walk.
-fn report(cause: usize, old: Walk, new: Walk) {
-    io::print_decimal(STDOUT_FILENO, cause as u64);
+fn report(answer: Answer, old: Walk, new: Walk) {
+    io::print_decimal(STDOUT_FILENO, cause(answer) as u64);
     io::write_all(STDOUT_FILENO, b" ");
     io::print_decimal(STDOUT_FILENO, new.count as u64);
     let s = old.standing;
@@ -84,7 +84,7 @@ fn start_over(walk: Walk, block: &[u8], k: usize) -> Walk {
     let o = start(&block[0..k]);
     let answer = o.answer;
     let w = o.walk;
-    report(start_cause(answer), walk, w);
+    report(answer, walk, w);
     w
 }
 
@@ -106,7 +106,7 @@ fn given(walk: Walk, k: usize, n: usize) -> Walk {
         standing: standing,
         area: area,
     };
-    report(0, walk, w);
+    report(Answer::Accepted, walk, w);
     w
 }
 
@@ -122,16 +122,16 @@ fn moved_to(walk: Walk, set: &[u8], stop: usize) -> Walk {
     let m = move_to(walk, set, stop);
     let answer = m.answer;
     let w = m.walk;
-    report(move_cause(answer), walk, w);
+    report(answer, walk, w);
     w
 }
 
-// A move over memory of 770,048 bytes and k - 2 more.
+// A move over memory of a set's length and k - 2 more bytes.
 fn long_move(walk: Walk, mem: &[u8], k: usize, stop: usize) -> Walk {
     if 3 < k {
         return walk;
     }
-    let n = 770046 + k;
+    let n = SET_BYTES - 2 + k;
     if mem.len() < n {
         return walk;
     }
@@ -162,7 +162,7 @@ fn one(walk: Walk, mem: &[u8], k: usize) -> Walk {
     let m = move_one(walk, &mem[from..to]);
     let answer = m.answer;
     let w = m.walk;
-    report(move_cause(answer), walk, w);
+    report(answer, walk, w);
     w
 }
 
@@ -172,7 +172,7 @@ fn fetch_into(walk: Walk, block: &mut [u8], k: usize) {
         return;
     }
     let f = fetch(walk, &mut block[0..k]);
-    io::print_decimal(STDOUT_FILENO, fetch_cause(f) as u64);
+    io::print_decimal(STDOUT_FILENO, cause(f) as u64);
 }
 
 // Fetches into k bytes, and writes all that changed in and behind them.

@@ -1,19 +1,18 @@
 // The walker: reads a block and then a set to the end of the input, and holds one table of it. It prints the answer in hex, or the refusal.
 ghost use mathlib.Core.Path.{_≡_};
 ghost use lib.ListN.{length};
-use evaluate::answer::Moved;
-use evaluate::answer::Started;
-use evaluate::answer::move_cause;
-use evaluate::answer::start_cause;
+use answers::Answer;
+use answers::Refusal;
+use answers::cause;
 use evaluate::walk::Move;
 use evaluate::walk::Walk;
 use evaluate::walk::fetch;
 use evaluate::walk::move_one;
 use evaluate::walk::start;
+use layout::stage::LOOKUPS;
+use layout::stage::place_of;
 use libc::STDIN_FILENO;
 use libc::STDOUT_FILENO;
-use network::stage::LOOKUPS;
-use network::stage::place_of;
 
 fn wide(x: u8) -> u64 {
     x as u64
@@ -30,9 +29,9 @@ fn show(block: [u8; 16]) {
 }
 
 // Writes a refusal.
-fn refuse(cause: usize) {
+fn refuse(answer: Answer) {
     io::write_all(STDOUT_FILENO, b"refused ");
-    io::print_decimal(STDOUT_FILENO, cause as u64);
+    io::print_decimal(STDOUT_FILENO, cause(answer) as u64);
     io::write_all(STDOUT_FILENO, b"\n");
 }
 
@@ -49,7 +48,7 @@ fn over_input(walk: Walk, table: &mut [u8]) -> Move
         let m = move_one(w, &table[..got]);
         let answer = m.answer;
         w = m.walk;
-        let Moved::Done = answer else {
+        let Answer::Accepted = answer else {
             return Move {
                 answer: answer,
                 walk: w,
@@ -58,7 +57,7 @@ fn over_input(walk: Walk, table: &mut [u8]) -> Move
         k += 1;
     }
     Move {
-        answer: Moved::Done,
+        answer: Answer::Accepted,
         walk: w,
     }
 }
@@ -69,13 +68,13 @@ fn finish(walk: Walk) {
     let m = over_input(walk, &mut table);
     let answer = m.answer;
     let w = m.walk;
-    let Moved::Done = answer else {
-        refuse(move_cause(answer));
+    let Answer::Accepted = answer else {
+        refuse(answer);
         return;
     };
     let mut rest = [0u8; 1];
     if io::read_full(STDIN_FILENO, &mut rest) != 0 {
-        refuse(move_cause(Moved::WrongLength));
+        refuse(Answer::Refused(Refusal::SetLength));
         return;
     }
     let mut block = [0u8; 16];
@@ -89,8 +88,8 @@ fn main() {
     let opening = start(&block[..got]);
     let answer = opening.answer;
     let walk = opening.walk;
-    let Started::Done = answer else {
-        refuse(start_cause(answer));
+    let Answer::Accepted = answer else {
+        refuse(answer);
         return;
     };
     finish(walk);

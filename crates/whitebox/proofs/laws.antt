@@ -1,6 +1,7 @@
 pub mod States
 pub mod Words
 pub mod Values
+pub mod Judged
 pub mod Calls
 pub mod Set
 pub mod InRange

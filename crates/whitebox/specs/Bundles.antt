@@ -4,15 +4,16 @@ use mathlib.Core.Bool.{cond}
 use mathlib.Core.List.{List}
 use Prim.Native.Nat.{ℕ}
 use lib.Dec.{ltb}
-use Rattle.round.specs.Key.{KeyExpansion, roundsOf}
 use Rattle.bits.specs.Lists.{tabulate}
 use Rattle.matrices.specs.Matrices.{identity}
+use Rattle.round.specs.Key.{KeyExpansion, roundsOf}
 use Rattle.bundle.specs.Format.{encodings, byteMatrices, columnMatrices, encodingOf, byteMatrix, columnMatrix, inputMatrix, outputMatrix}
-use Rattle.network.specs.Lookups.{Walk}
+use Rattle.network.specs.Lookups.{State}
+use Rattle.whitebox.specs.Calls.{Held, holding}
 use Rattle.whitebox.specs.Codings.{Codings}
 use Rattle.whitebox.specs.Parts.{Parts, forward}
 use Rattle.whitebox.specs.Tables.{tableOf, setOf}
-use Rattle.whitebox.specs.Values.{walkDue}
+use Rattle.whitebox.specs.Values.{stateDue}
 
 -- The encoding that changes nothing.
 unfoldable pub plainEncoding : List ℕ
@@ -41,6 +42,9 @@ module _ (nk : ℕ) (key l : List ℕ) where
   unfoldable pub madeTable : ℕ → List ℕ
   madeTable k = tableOf (partsOf nk key) (codingsOf (roundsOf nk) l) (roundsOf nk) k
 
-  -- The walk in which each place holds what is due at count k, for the uncoded presented block b.
-  unfoldable pub dueAt : List ℕ → ℕ → Walk
-  dueAt b k = walkDue (partsOf nk key) (codingsOf (roundsOf nk) l) (roundsOf nk) b k
+  -- The state in which each place holds what is due at count k, for the uncoded presented block b; and the walk that holds it.
+  unfoldable pub dueAt : List ℕ → ℕ → State
+  dueAt b k = stateDue (partsOf nk key) (codingsOf (roundsOf nk) l) (roundsOf nk) b k
+
+  abbrev pub dueHeld : List ℕ → ℕ → Held
+  dueHeld b k = holding (dueAt b k)

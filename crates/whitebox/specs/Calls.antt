@@ -1,62 +1,52 @@
 -- The calls over a held walk: start, move to a stop, move of one lookup, fetch. Each is total: on any walk, any lent memory and any number.
 -- What is turned down is read off document 01's table "Turned down"; the plain count is written apart, in PlainCount.antt, and they are
 -- proved to agree. Definitions only.
-use mathlib.Core.Bool.{Bool, not, cond, _||_}
+use mathlib.Core.Bool.{not, cond, _||_}
 use mathlib.Core.List.{List, [], _∷_}
 use Prim.Native.Nat.{ℕ, zero, suc, _-_}
 use lib.Dec.{eqb, ltb}
 use lib.ListN.{length, take, drop, replicate}
-use Rattle.network.specs.Lookups.{Walk, zeroArea, lookup}
-use Rattle.network.specs.Stages.{shapes, lookups, setBytes, tableSize, tableOffset}
+use Rattle.answers.specs.Answers.{Reply, replyOf, refusedIf, wantsLength, andThen, ifAccepted}
+use Rattle.answers.specs.declared.Answer.{Answer}
+use Rattle.answers.specs.declared.Answer.the-variants.{Refused}
+use Rattle.answers.specs.declared.Refusal.the-variants.{SetLength, BlockLength, Stop, Unfinished}
+use Rattle.network.specs.Lookups.{State, stateAt, zeroArea, lookup}
+use Rattle.layout.specs.Stages.{shapes, lookups, setBytes, tableSize, tableOffset}
 
--- An answer: accepted, or document 01's number of the cause with its second number.
-pub data Reply : Type 0 where
-  accepted : Reply
-  refused : ℕ → ℕ → Reply
+-- ---- the held walk
+-- What lookups change of it is its state. What else a walk holds stands here beside the state, and no lookup changes it.
+pub record Held : Type 0 where
+  pub state : State
 
--- A cause: its number, and whether it applies. The second number of every cause of these calls is 0.
-pub record Cause : Type 0 where
-  pub number : ℕ
-  pub applies : Bool
+-- The walk that holds a state; and a walk with its state changed by f, the rest kept.
+abbrev pub holding : State → Held
+holding s = record { state = s }
 
--- "The lowest number that applies is given": the causes stand in rising order.
-unfoldable pub lowest : List Cause → Reply
-lowest [] = accepted
-lowest (c ∷ cs) = cond (c .applies) (refused (c .number) 0) (lowest cs)
-
-abbrev pub ifAccepted {ℓ} : {A : Type ℓ} → Reply → A → A → A
-ifAccepted accepted a b = a
-ifAccepted (refused n i) a b = b
+abbrev pub changed : (State → State) → Held → Held
+changed f w = record { state = f (w .state) }
 
 -- ---- start
 -- 10: "block not 16 bytes, in or out".
-unfoldable pub judgeStart : ℕ → Reply
-judgeStart len = lowest (record { number = 10; applies = not (eqb len 16) } ∷ [])
+unfoldable pub judgeStart : ℕ → Answer
+judgeStart len = wantsLength 16 len BlockLength
 
 -- "At the start the standing bytes are the presented block and the area is zero." "A refused start hands back a walk of zeros only."
-unfoldable pub started : List ℕ → Walk
-started block =
-    ifAccepted (judgeStart (length block)) (record { count = 0; standing = block; area = zeroArea })
-    (record { count = 0; standing = replicate 16 0; area = zeroArea })
+unfoldable pub started : List ℕ → Held
+started block = ifAccepted (judgeStart (length block)) (holding (stateAt 0 block zeroArea)) (holding (stateAt 0 (replicate 16 0) zeroArea))
 
 -- ---- what is turned down, from lengths, the stop and the count
 -- 9: "set or single table of wrong length"; 11: "stop above 3,008 or below the count".
-unfoldable pub judgeStop : ℕ → ℕ → ℕ → ℕ → Reply
-judgeStop nr len stop count =
-    lowest
-    (record { number = 9; applies = not (eqb len (setBytes nr)) }
-    ∷ record { number = 11; applies = ltb (lookups nr) stop || ltb stop count } ∷ [])
+unfoldable pub judgeStop : ℕ → ℕ → ℕ → ℕ → Answer
+judgeStop nr len stop count = andThen (wantsLength (setBytes nr) len SetLength) (refusedIf (ltb (lookups nr) stop || ltb stop count) Stop)
 
 -- "A walk can also be moved one look-up with only that table lent; its stop is the count plus one. At a count of 3,008 or more that move
 -- gives 11 for a table of any length."
-unfoldable pub judgeOne : ℕ → ℕ → ℕ → Reply
-judgeOne nr len count =
-    cond (ltb count (lookups nr)) (lowest (record { number = 9; applies = not (eqb len (tableSize nr count)) } ∷ [])) (refused 11 0)
+unfoldable pub judgeOne : ℕ → ℕ → ℕ → Answer
+judgeOne nr len count = cond (ltb count (lookups nr)) (wantsLength (tableSize nr count) len SetLength) (Refused Stop)
 
 -- 10: "block not 16 bytes, in or out"; 12: "answer fetched at a count other than 3,008".
-unfoldable pub judgeFetch : ℕ → ℕ → ℕ → Reply
-judgeFetch nr len count =
-    lowest (record { number = 10; applies = not (eqb len 16) } ∷ record { number = 12; applies = not (eqb count (lookups nr)) } ∷ [])
+unfoldable pub judgeFetch : ℕ → ℕ → ℕ → Answer
+judgeFetch nr len count = andThen (wantsLength 16 len BlockLength) (refusedIf (not (eqb count (lookups nr))) Unfinished)
 
 -- ---- the calls
 pub data Call : Type 0 where
@@ -70,44 +60,48 @@ pub data Call : Type 0 where
 -- `reads` is the byte that a position of a first half or of the exit reads.
 module _ (reads : ℕ → ℕ) (nr : ℕ) where
   -- One lookup over the table t.
-  abbrev pub step : List ℕ → Walk → Walk
-  step t w = lookup (shapes reads nr) t w
+  abbrev pub step : List ℕ → State → State
+  step t s = lookup (shapes reads nr) t s
 
   -- n lookups over the set's memory, each over the part that its table is.
-  unfoldable pub advance : List ℕ → ℕ → Walk → Walk
-  advance mem zero w = w
-  advance mem (suc n) w = advance mem n (step (take (tableSize nr (w .count)) (drop (tableOffset nr (w .count)) mem)) w)
+  unfoldable pub advance : List ℕ → ℕ → State → State
+  advance mem zero s = s
+  advance mem (suc n) s = advance mem n (step (take (tableSize nr (s .count)) (drop (tableOffset nr (s .count)) mem)) s)
 
-  unfoldable pub reply : Call → Walk → Reply
-  reply (toStop mem stop) w = judgeStop nr (length mem) stop (w .count)
-  reply (oneLookup mem) w = judgeOne nr (length mem) (w .count)
-  reply (fetch block) w = judgeFetch nr (length block) (w .count)
+  unfoldable pub answer : Call → Held → Answer
+  answer (toStop mem stop) w = judgeStop nr (length mem) stop (w .state .count)
+  answer (oneLookup mem) w = judgeOne nr (length mem) (w .state .count)
+  answer (fetch block) w = judgeFetch nr (length block) (w .state .count)
+
+  -- The same in document 01's numbers.
+  abbrev pub reply : Call → Held → Reply
+  reply c w = replyOf (answer c w)
 
   -- The walk handed back, or left: a refused call leaves it as it was, and so does a fetch.
-  unfoldable pub handed : Call → Walk → Walk
-  handed (toStop mem stop) w = ifAccepted (judgeStop nr (length mem) stop (w .count)) (advance mem (stop - w .count) w) w
-  handed (oneLookup mem) w = ifAccepted (judgeOne nr (length mem) (w .count)) (step mem w) w
+  unfoldable pub handed : Call → Held → Held
+  handed (toStop mem stop) w = ifAccepted (judgeStop nr (length mem) stop (w .state .count)) (changed (advance mem (stop - w .state .count)) w) w
+  handed (oneLookup mem) w = ifAccepted (judgeOne nr (length mem) (w .state .count)) (changed (step mem) w) w
   handed (fetch block) w = w
 
   -- The lent block afterwards: the standing bytes, or what it held. A move is lent none.
-  unfoldable pub blockLeft : Call → Walk → List ℕ
+  unfoldable pub blockLeft : Call → Held → List ℕ
   blockLeft (toStop mem stop) w = []
   blockLeft (oneLookup mem) w = []
-  blockLeft (fetch block) w = ifAccepted (judgeFetch nr (length block) (w .count)) (w .standing) block
+  blockLeft (fetch block) w = ifAccepted (judgeFetch nr (length block) (w .state .count)) (w .state .standing) block
 
 -- ---- lists of calls: "each move or fetch gets the walk that the call before it handed back or left"
 -- What a call answers: its reply, the walk handed back or left, the lent block afterwards.
 pub record Served : Type 0 where
   pub reply : Reply
-  pub walk : Walk
+  pub walk : Held
   pub block : List ℕ
 
 module _ (reads : ℕ → ℕ) (nr : ℕ) where
-  unfoldable pub serve : Walk → List Call → List Served
+  unfoldable pub serve : Held → List Call → List Served
   serve w [] = []
   serve w (c ∷ cs) =
       record { reply = reply reads nr c w; walk = handed reads nr c w; block = blockLeft reads nr c w } ∷ serve (handed reads nr c w) cs
 
-  unfoldable pub lastWalk : Walk → List Call → Walk
+  unfoldable pub lastWalk : Held → List Call → Held
   lastWalk w [] = w
   lastWalk w (c ∷ cs) = lastWalk (handed reads nr c w) cs

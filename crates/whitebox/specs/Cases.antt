@@ -5,11 +5,11 @@ use Prim.Native.Nat.{ℕ, _≤_, _<_}
 use lib.ListN.{replicate}
 use Rattle.bits.specs.Lists.{at}
 use Rattle.matrices.specs.Matrices.{product, identity}
-use Rattle.judgement.specs.Cases.{List0, Byte159}
-use Rattle.bundle.specs.Format.{encodings, byteMatrices, columnMatrices, encodingOf, byteMatrix, columnMatrix, inputMatrix, outputMatrix}
 use Rattle.field.specs.Field.{mul}
 use Rattle.field.specs.Sbox.{sboxOf}
-use Rattle.network.specs.Stages.{shifted, tableOffset, lookups, indexOf}
+use Rattle.bundle.specs.Format.{encodings, byteMatrices, columnMatrices, encodingOf, byteMatrix, columnMatrix, inputMatrix, outputMatrix}
+use Rattle.judgement.specs.Cases.{List0, Byte159}
+use Rattle.layout.specs.Stages.{shifted, tableOffset, lookups, indexOf}
 use Rattle.whitebox.specs.Bundles.{plainEncoding, madeTable}
 
 -- "The plain bundle has lists and matrices that change nothing."

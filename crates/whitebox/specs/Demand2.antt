@@ -4,13 +4,13 @@ use mathlib.Core.List.{List}
 use mathlib.Core.Path.{_≡_}
 use Prim.Native.Nat.{ℕ, _*_}
 use lib.ListN.{length}
-use Rattle.aes.specs.Cipher.{encipherOf, decipherOf}
-use Rattle.round.specs.Key.{roundsOf}
+use Rattle.answers.specs.declared.Answer.the-variants.{Accepted}
 use Rattle.bits.specs.Bytes.{Bytes, Block}
+use Rattle.round.specs.Key.{roundsOf}
+use Rattle.aes.specs.Cipher.{encipherOf, decipherOf}
 use Rattle.judgement.specs.Judge.{judge}
-use Rattle.bundle.specs.declared.answer.Judgement.the-variants.{Accepted}
 use Rattle.external.specs.Coding.{encodeInput, encodeOutput, decodeOutput}
-use Rattle.network.specs.Stages.{shifted, lookups}
+use Rattle.layout.specs.Stages.{shifted, lookups}
 use Rattle.whitebox.specs.Bundles.{madeSet}
 use Rattle.whitebox.specs.Calls.{started, toStop, fetch, handed, blockLeft}
 

@@ -4,18 +4,19 @@ use mathlib.Core.List.{List, map}
 use mathlib.Core.Path.{_≡_}
 use Prim.Native.Nat.{ℕ, _*_, _≤_, _<_}
 use lib.ListN.{length}
-use Rattle.aes.specs.Cipher.{encipherOf}
-use Rattle.round.specs.Key.{roundsOf}
+use Rattle.answers.specs.Answers.{accepted}
+use Rattle.answers.specs.declared.Answer.the-variants.{Accepted}
 use Rattle.bits.specs.Bytes.{Bytes}
 use Rattle.bits.specs.Nibbles.{nibble}
+use Rattle.round.specs.Key.{roundsOf}
+use Rattle.aes.specs.Cipher.{encipherOf}
 use Rattle.judgement.specs.Judge.{judge}
-use Rattle.bundle.specs.declared.answer.Judgement.the-variants.{Accepted}
 use Rattle.external.specs.Coding.{decodeInput, encodeOutput, SameOuter}
 use Rattle.network.specs.Rule.{labelOf, under, labels}
-use Rattle.network.specs.Stages.{shifted, widths, lookups}
 use Rattle.network.specs.Theorems.{Reads}
-use Rattle.whitebox.specs.Bundles.{codingsOf, partsOf, madeSet, madeTable, dueAt}
-use Rattle.whitebox.specs.Calls.{accepted, judgeStart, started, Call, toStop, reply, handed, serve, lastWalk}
+use Rattle.layout.specs.Stages.{shifted, widths, lookups}
+use Rattle.whitebox.specs.Bundles.{codingsOf, partsOf, madeSet, madeTable, dueAt, dueHeld}
+use Rattle.whitebox.specs.Calls.{judgeStart, started, Call, toStop, reply, handed, serve, lastWalk}
 use Rattle.whitebox.specs.PlainCount.{argsOf, plainCount, Lent, dueServed, Alike, seen}
 use Rattle.whitebox.specs.Values.{dueStanding, dueArea}
 
@@ -29,7 +30,7 @@ pub record Given (nk : ℕ) (key l : List ℕ) : Type 0 where
 -- A presented block that the start accepts.
 pub record Presented (x : List ℕ) : Type 0 where
   pub bytes : Bytes x
-  pub started : judgeStart (length x) ≡ accepted
+  pub started : judgeStart (length x) ≡ Accepted
 
 -- ---- a list of calls
 pub record Answered (nk : ℕ) (key l x : List ℕ) (cs : List Call) (n : ℕ) : Type 0 where
@@ -37,9 +38,9 @@ pub record Answered (nk : ℕ) (key l x : List ℕ) (cs : List Call) (n : ℕ) :
   -- the cipher block under the output coding, a refused one the bytes that the lent block held.
   pub calls :
       serve shifted (roundsOf nk) (started x) cs
-      ≡ dueServed (roundsOf nk) (dueAt nk key l (decodeInput (roundsOf nk) l x)) (encodeOutput (roundsOf nk) l (encipherOf nk key (decodeInput (roundsOf nk) l x))) 0 cs
+      ≡ dueServed (roundsOf nk) (dueHeld nk key l (decodeInput (roundsOf nk) l x)) (encodeOutput (roundsOf nk) l (encipherOf nk key (decodeInput (roundsOf nk) l x))) 0 cs
   -- At the end: the walk due at the plain count n, which is, byte for byte, what one move straight to that count hands back.
-  pub last : lastWalk shifted (roundsOf nk) (started x) cs ≡ dueAt nk key l (decodeInput (roundsOf nk) l x) n
+  pub last : lastWalk shifted (roundsOf nk) (started x) cs ≡ dueHeld nk key l (decodeInput (roundsOf nk) l x) n
   pub straight-reply : reply shifted (roundsOf nk) (toStop (madeSet nk key l) n) (started x) ≡ accepted
   pub straight : handed shifted (roundsOf nk) (toStop (madeSet nk key l) n) (started x) ≡ lastWalk shifted (roundsOf nk) (started x) cs
 

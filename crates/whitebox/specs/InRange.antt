@@ -1,7 +1,7 @@
 -- Which codings the tables of a set use: the statement. It is proved in proofs/laws/InRange.antt.
 use mathlib.Core.Path.{_≡_}
 use Prim.Native.Nat.{ℕ, _-_, _*_, _≤_, _<_}
-use Rattle.network.specs.Stages.{encodings}
+use Rattle.layout.specs.Stages.{encodings}
 use Rattle.whitebox.specs.Codings.{Codings}
 use Rattle.whitebox.specs.Parts.{Parts, Fine}
 use Rattle.whitebox.specs.Tables.{setOf}

@@ -3,11 +3,11 @@ use mathlib.Core.Bool.{cond}
 use mathlib.Core.List.{List}
 use Prim.Native.Nat.{ℕ, _-_, _<_}
 use lib.Dec.{eqb}
-use Rattle.round.specs.Key.{keyOf}
-use Rattle.round.specs.State.{entry, mixRows}
 use Rattle.bits.specs.Lists.{at}
 use Rattle.field.specs.Sbox.{sboxOf}
-use Rattle.network.specs.Stages.{shifted}
+use Rattle.round.specs.Key.{keyOf}
+use Rattle.round.specs.State.{entry, mixRows}
+use Rattle.layout.specs.Stages.{shifted}
 
 -- The substitution; the byte that a position reads; the coefficient of the column mixing in a row and a column; the key byte that is
 -- xored before the substitution (round, byte read) and the one behind it (round, position).

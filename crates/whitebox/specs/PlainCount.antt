@@ -7,9 +7,9 @@ use mathlib.Core.Path.{_≡_}
 use Prim.Native.Nat.{ℕ, suc}
 use lib.Dec.{eqb, ltb}
 use lib.ListN.{length}
-use Rattle.network.specs.Lookups.{Walk}
-use Rattle.network.specs.Stages.{lookups, setBytes, tableSize}
-use Rattle.whitebox.specs.Calls.{Reply, accepted, refused, Call, toStop, oneLookup, fetch, Served}
+use Rattle.answers.specs.Answers.{Reply, accepted, refused}
+use Rattle.layout.specs.Stages.{lookups, setBytes, tableSize}
+use Rattle.whitebox.specs.Calls.{Held, Call, toStop, oneLookup, fetch, Served}
 
 -- A call's arguments: the length of the lent memory and the stop; the length of the lent table; the length of the lent block.
 pub data Args : Type 0 where
@@ -65,7 +65,7 @@ module _ (nr : ℕ) where
     Lent n (c ∷ cs) = LentCall c n × Lent (plain (argsOf c) n .count) cs
 
   -- ---- what a list of calls must answer, from the plain count n on: `walks` gives the walk at each count, `answer` the answer block
-  module _ (walks : ℕ → Walk) (answer : List ℕ) where
+  module _ (walks : ℕ → Held) (answer : List ℕ) where
     abbrev pub blockFor : Reply → List ℕ → List ℕ
     blockFor accepted block = answer
     blockFor (refused c i) block = block
@@ -105,4 +105,4 @@ pub record Seen : Type 0 where
   pub block : List ℕ
 
 abbrev pub seen : Served → Seen
-seen s = record { reply = s .reply; count = s .walk .count; block = s .block }
+seen s = record { reply = s .reply; count = s .walk .state .count; block = s .block }

@@ -3,10 +3,10 @@ use mathlib.Core.List.{List, [], map}
 use Prim.Native.Nat.{ℕ}
 use Rattle.bits.specs.Lists.{concat}
 use Rattle.network.specs.Numbers.{startNumbers}
-use Rattle.network.specs.Stages.{stages, widthOf, sourceOf, lookups}
 use Rattle.network.specs.Tables.{Layer, tableAt}
-use Rattle.network.specs.declared.stage.Stage.{Stage}
-use Rattle.network.specs.declared.stage.Stage.the-variants.{Entry, First, Second, Exit, Beyond}
+use Rattle.layout.specs.Stages.{stages, widthOf, sourceOf, lookups}
+use Rattle.layout.specs.declared.stage.Stage.{Stage}
+use Rattle.layout.specs.declared.stage.Stage.the-variants.{Entry, First, Second, Exit, Beyond}
 use Rattle.whitebox.specs.Codings.{Codings}
 use Rattle.whitebox.specs.Parts.{Parts}
 use Rattle.whitebox.specs.Words.{entryWord, firstWord, secondWord, exitWord}

@@ -6,12 +6,12 @@ use Rattle.bits.specs.Bytes.{number, byte}
 use Rattle.bits.specs.Lists.{at, tabulate}
 use Rattle.matrices.specs.Matrices.{product}
 use Rattle.external.specs.Coding.{multiply}
-use Rattle.network.specs.Due.{Due, Values, standingDue, areaDue, dueWalk}
-use Rattle.network.specs.Lookups.{Walk}
+use Rattle.network.specs.Due.{Due, Values, standingDue, areaDue, dueState}
+use Rattle.network.specs.Lookups.{State}
 use Rattle.network.specs.Numbers.{startNumbers}
-use Rattle.network.specs.Stages.{stages}
-use Rattle.network.specs.declared.stage.Stage.{Stage}
-use Rattle.network.specs.declared.stage.Stage.the-variants.{Entry, First, Second, Exit, Beyond}
+use Rattle.layout.specs.Stages.{stages}
+use Rattle.layout.specs.declared.stage.Stage.{Stage}
+use Rattle.layout.specs.declared.stage.Stage.the-variants.{Entry, First, Second, Exit, Beyond}
 use Rattle.whitebox.specs.Codings.{Codings, byteMatrixAt, columnMatrixAt}
 use Rattle.whitebox.specs.Parts.{Parts}
 use Rattle.whitebox.specs.States.{keyed, stateAfter, result}
@@ -45,7 +45,7 @@ module _ (P : Parts) (C : Codings) (nr : ℕ) (b : List ℕ) where
   wordAt Beyond p = []
 
   abbrev pub valuesAt : Stage → Values
-  valuesAt s = record { width = Rattle.network.specs.Stages.widthOf s; standing = standingAt s; word = wordAt s }
+  valuesAt s = record { width = Rattle.layout.specs.Stages.widthOf s; standing = standingAt s; word = wordAt s }
 
   unfoldable pub values : List Values
   values = map valuesAt (stages nr)
@@ -54,12 +54,12 @@ module _ (P : Parts) (C : Codings) (nr : ℕ) (b : List ℕ) where
   unfoldable pub ended : List ℕ
   ended = multiply (C .outputMatrix) (result P nr b)
 
-  -- Due at standing nibble q, and at nibble q of the area, at count k; and the walk in which each place holds what is due.
+  -- Due at standing nibble q, and at nibble q of the area, at count k; and the state in which each place holds what is due.
   unfoldable pub dueStanding : ℕ → ℕ → Due
   dueStanding k q = standingDue values ended startNumbers k q
 
   unfoldable pub dueArea : ℕ → ℕ → Due
   dueArea k q = areaDue values startNumbers k q
 
-  unfoldable pub walkDue : ℕ → Walk
-  walkDue k = dueWalk (C .encoding) values ended startNumbers 0 k
+  unfoldable pub stateDue : ℕ → State
+  stateDue k = dueState (C .encoding) values ended startNumbers 0 k

@@ -1,5 +1,5 @@
--- `aes::encipher` meets its contract. The answer is what `judged` ensures. Any other than Done is returned with the block as it was (`encipher-refused` of
--- `laws.Answers`). At Done the key and both blocks have 16 bytes, as the calls ask (`lent-key`, `lent-from`, `lent-into`), and the block is that of
+-- `aes::encipher` meets its contract. The answer is what `judged` ensures. A refusal is returned with the block as it was (`encipher-refused` of
+-- `laws.Answers`). Accepted, the key and both blocks have 16 bytes, as the calls ask (`lent-key`, `lent-from`, `lent-into`), and the block is that of
 -- the cipher over the expanded key (`encipher-done`); the premises are what the calls ensure.
 -- Assumes nothing.
 use Rattle.aes.proofs.laws.Answers.{lent-key, lent-from, lent-into, encipher-refused, encipher-done}
@@ -29,6 +29,9 @@ judged-requires c κs = search needs
 enum-told : tie.Need-enum-told
 enum-told c = search needs
 
+enum-told-2 : tie.Need-enum-told-2
+enum-told-2 c = search needs
+
 same-length : tie.Need-same-length
 same-length c = search needs
 
@@ -47,6 +50,7 @@ encipher-spec =
     (tie.spec
     judged-requires
     enum-told
+    enum-told-2
     same-length
     returns
     load-requires

@@ -1,43 +1,41 @@
 -- Laws, not definitions: of the answers case by case, and that one call undoes the other.
 -- Assumes nothing.
-use mathlib.Core.Path.{_≡_, refl, sym, ap, _∙_}
-use mathlib.Core.Bool.{Bool, true, false}
-use mathlib.Core.List.{List, [], _∷_}
-use mathlib.Core.Logic.{inl, inr}
+use mathlib.Core.Path.{_≡_, sym, _∙_}
+use mathlib.Core.List.{List}
 use Prim.Native.Nat.{ℕ}
-use lib.Dec.{eqb}
 use lib.ListN.{length}
-use native.Mathlib.Omega.{arith}
-use denote.Enum.Declared.{tagOf}
-use types.Run.{OneOf}
-use borrow.Author.Tests.{eq-eqb, ne-eqb, eqb-true}
 use Rattle.bits.specs.Bytes.{Bytes, Block}
+use Rattle.answers.specs.Answers.{andThen, wantsLength, ifAccepted}
+use Rattle.answers.specs.declared.Answer.{Answer}
+use Rattle.answers.specs.declared.Answer.the-variants.{Accepted, Refused}
+use Rattle.answers.specs.declared.Refusal.{Refusal}
+use Rattle.answers.specs.declared.Refusal.the-variants.{KeyLength, BlockLength}
+use Rattle.answers.proofs.laws.Tests.{first-refuses, second-decides, both, length-wrong, length-right, length-was, left-new, left-old}
+use Rattle.answers.proofs.laws.Tests.{from-wrong, to-wrong, lengths-right, lengths-were}
 use Rattle.round.specs.Key.{KeyExpansion}
 use Rattle.aes.specs.Cipher.{Cipher, InvCipher, encipherOf, decipherOf}
-use Rattle.aes.specs.Answers.{unless, outcome, answerOf, enciphered, deciphered}
+use Rattle.aes.specs.Answers.{answerOf, enciphered, deciphered}
 use Rattle.aes.specs.Theorems.{ThereAndBack, BackAndThere}
-use Rattle.aes.specs.declared.Answer.{Answer}
-use Rattle.aes.specs.declared.Answer.the-variants.{Done, KeyLength, BlockLength}
-use Rattle.aes.proofs.Answer.{the-type}
 use Rattle.aes.proofs.laws.Cipher.{encipher-block, decipher-block, decipher-encipher, encipher-decipher}
 
 -- ---- The answer, test by test.
 module _ (key from into : List ℕ) where
-  pub bad-key : (length key ≡ 16 → ⊥) → KeyLength ≡ answerOf key from into
+  pub bad-key : (length key ≡ 16 → ⊥) → Refused KeyLength ≡ answerOf key from into
   unfolding answerOf
-  bad-key h = simp (ne-eqb (length key) 16 h)
+  bad-key h = first-refuses _ _ _ (sym (length-wrong 16 (length key) KeyLength h))
 
-  pub bad-from : length key ≡ 16 → (length from ≡ 16 → ⊥) → BlockLength ≡ answerOf key from into
+  by-blocks : length key ≡ 16 → andThen (wantsLength 16 (length from) BlockLength) (wantsLength 16 (length into) BlockLength) ≡ answerOf key from into
   unfolding answerOf
-  bad-from k h = simp (eq-eqb (length key) 16 k, ne-eqb (length from) 16 h)
+  by-blocks k = second-decides _ _ (sym (length-right 16 (length key) KeyLength k))
 
-  pub bad-into : length key ≡ 16 → length from ≡ 16 → (length into ≡ 16 → ⊥) → BlockLength ≡ answerOf key from into
-  unfolding answerOf
-  bad-into k f h = simp (eq-eqb (length key) 16 k, eq-eqb (length from) 16 f, ne-eqb (length into) 16 h)
+  pub bad-from : length key ≡ 16 → (length from ≡ 16 → ⊥) → Refused BlockLength ≡ answerOf key from into
+  bad-from k h = from-wrong 16 _ (length into) BlockLength h ∙ by-blocks k
 
-  pub good : length key ≡ 16 → length from ≡ 16 → length into ≡ 16 → Done ≡ answerOf key from into
-  unfolding answerOf
-  good k f h = simp (eq-eqb (length key) 16 k, eq-eqb (length from) 16 f, eq-eqb (length into) 16 h)
+  pub bad-into : length key ≡ 16 → length from ≡ 16 → (length into ≡ 16 → ⊥) → Refused BlockLength ≡ answerOf key from into
+  bad-into k f h = to-wrong _ _ _ _ f h ∙ by-blocks k
+
+  pub good : length key ≡ 16 → length from ≡ 16 → length into ≡ 16 → Accepted ≡ answerOf key from into
+  good k f h = lengths-right _ _ _ _ f h ∙ by-blocks k
 
 -- ---- What an accepted call was lent.
 pub record Lengths (key from into : List ℕ) : Type 0 where
@@ -45,19 +43,15 @@ pub record Lengths (key from into : List ℕ) : Type 0 where
   pub of-from : length from ≡ 16
   pub of-into : length into ≡ 16
 
-pub accepted : (key from into : List ℕ) → answerOf key from into ≡ Done → Lengths key from into
+pub accepted : (key from into : List ℕ) → answerOf key from into ≡ Accepted → Lengths key from into
 unfolding answerOf
-accepted key from into = go (eqb (length key) 16) (eqb (length from) 16) (eqb (length into) 16) refl refl refl
-  where
-    go : (a b d : Bool) → eqb (length key) 16 ≡ a → eqb (length from) 16 ≡ b → eqb (length into) 16 ≡ d
-        → unless a KeyLength (unless b BlockLength (unless d BlockLength Done)) ≡ Done → Lengths key from into
-    go true true true p q r e = record { of-key = eqb-true _ _ p; of-from = eqb-true _ _ q; of-into = eqb-true _ _ r }
-    go false b d p q r e = let z : _≡_ {A = ℕ} 0 1 = cc in absurd (omega arith)
-    go true false d p q r e = let z : _≡_ {A = ℕ} 0 1 = cc in absurd (omega arith)
-    go true true false p q r e = let z : _≡_ {A = ℕ} 0 1 = cc in absurd (omega arith)
+accepted key from into e =
+    let k = both _ _ e in
+    let b = lengths-were _ _ _ _ (k .second) in
+    record { of-key = length-was _ _ _ (k .first); of-from = b .0; of-into = b .1 }
 
 -- ---- What a call that was answered a has been lent, where it goes on.
-module _ (key from into : List ℕ) {a : Answer} (e : a ≡ answerOf key from into) (d : a ≡ Done) where
+module _ (key from into : List ℕ) {a : Answer} (e : a ≡ answerOf key from into) (d : a ≡ Accepted) where
   pub lent-key : length key ≡ 16
   lent-key = accepted key from into (sym e ∙ d) .of-key
 
@@ -69,45 +63,35 @@ module _ (key from into : List ℕ) {a : Answer} (e : a ≡ answerOf key from in
 
 -- ---- The block that a call leaves, from what it called: f is the cipher or the inverse cipher over round keys.
 module _ (key from into : List ℕ) {a : Answer} (e : a ≡ answerOf key from into) where
-  -- The match found another answer than Done, whose tag is 0.
-  refused : (x : List ℕ) → OneOf (1 ∷ 2 ∷ []) (tagOf the-type a) → into ≡ outcome (answerOf key from into) x into
-  refused x o = kept a o ∙ ap (λ (z : Answer). outcome z x into) e
-    where
-      kept : (b : Answer) → OneOf (1 ∷ 2 ∷ []) (tagOf the-type b) → into ≡ outcome b x into
-      kept Done (inl h) = absurd (omega arith)
-      kept Done (inr h) = absurd (omega arith)
-      kept KeyLength o = refl
-      kept BlockLength o = refl
-
-  done : (f : List ℕ → List ℕ → List ℕ) {k w s t o : List ℕ} → a ≡ Done → k ≡ key → w ≡ KeyExpansion 4 k → s ≡ from → t ≡ f w s → o ≡ t
-      → o ≡ outcome (answerOf key from into) (f (KeyExpansion 4 key) from) into
+  done : (f : List ℕ → List ℕ → List ℕ) {k w s t o : List ℕ} → a ≡ Accepted → k ≡ key → w ≡ KeyExpansion 4 k → s ≡ from → t ≡ f w s → o ≡ t
+      → o ≡ ifAccepted (answerOf key from into) (f (KeyExpansion 4 key) from) into
   done f {o = o} d p q r u v =
       let y : o ≡ f (KeyExpansion 4 key) from = cc in
-      y ∙ ap (λ (z : Answer). outcome z (f (KeyExpansion 4 key) from) into) (sym d ∙ e)
+      y ∙ left-new _ _ _ (sym e ∙ d)
 
-  pub encipher-refused : OneOf (1 ∷ 2 ∷ []) (tagOf the-type a) → into ≡ enciphered key from into
+  pub encipher-refused : {r : Refusal} → a ≡ Refused r → into ≡ enciphered key from into
   unfolding enciphered
-  encipher-refused = refused (encipherOf 4 key from)
+  encipher-refused {r} d = left-old _ r _ _ (sym e ∙ d)
 
-  pub decipher-refused : OneOf (1 ∷ 2 ∷ []) (tagOf the-type a) → into ≡ deciphered key from into
+  pub decipher-refused : {r : Refusal} → a ≡ Refused r → into ≡ deciphered key from into
   unfolding deciphered
-  decipher-refused = refused (decipherOf 4 key from)
+  decipher-refused {r} d = left-old _ r _ _ (sym e ∙ d)
 
-  pub encipher-done : {k w s t o : List ℕ} → a ≡ Done → k ≡ key → w ≡ KeyExpansion 4 k → s ≡ from → t ≡ Cipher 10 w s → o ≡ t
+  pub encipher-done : {k w s t o : List ℕ} → a ≡ Accepted → k ≡ key → w ≡ KeyExpansion 4 k → s ≡ from → t ≡ Cipher 10 w s → o ≡ t
       → o ≡ enciphered key from into
   unfolding enciphered encipherOf
   encipher-done = done (Cipher 10)
 
-  pub decipher-done : {k w s t o : List ℕ} → a ≡ Done → k ≡ key → w ≡ KeyExpansion 4 k → s ≡ from → t ≡ InvCipher 10 w s → o ≡ t
+  pub decipher-done : {k w s t o : List ℕ} → a ≡ Accepted → k ≡ key → w ≡ KeyExpansion 4 k → s ≡ from → t ≡ InvCipher 10 w s → o ≡ t
       → o ≡ deciphered key from into
   unfolding deciphered decipherOf
   decipher-done = done (InvCipher 10)
 
 -- ---- One call undoes the other.
-module _ (key from into again : List ℕ) (e : answerOf key from into ≡ Done) (l : length again ≡ 16) (p : Bytes from) where
+module _ (key from into again : List ℕ) (e : answerOf key from into ≡ Accepted) (l : length again ≡ 16) (p : Bytes from) where
   -- A function of blocks and one that undoes it, as what two calls under one key leave.
   round-trip : (f g : List ℕ → List ℕ) → (Block from → Block (f from)) → (Block from → g (f from) ≡ from)
-      → let x : List ℕ = outcome (answerOf key from into) (f from) into in outcome (answerOf key x again) (g x) again ≡ from
+      → let x : List ℕ = ifAccepted (answerOf key from into) (f from) into in ifAccepted (answerOf key x again) (g x) again ≡ from
   round-trip f g h u =
       let a = accepted key from into e in
       let b : Block from = record { long = a .of-from; bytes = p } in

@@ -1,11 +1,13 @@
 -- Laws, not definitions: nibbles and the images of an encoding as the code reads them, and its search for an image.
 -- Assumes nothing.
+use mathlib.Core.Bool.{cond}
 use mathlib.Core.List.{List, _∷_}
 use mathlib.Core.Path.{_≡_, refl, sym, ap, _∙_}
 use Prim.Native.Nat.{ℕ, zero, suc, _+_, _/_, _%_, _≤_, _<_}
 use native.Mathlib.Nat.{zero-add}
 use native.Mathlib.Numerals.{add-one}
 use native.Mathlib.Omega.{arith}
+use lib.Dec.{eqb}
 use lib.ListN.{length, drop, drop-of-length-le}
 use lib.Seq.{drop-cons}
 use borrow.Author.Tests.{eq-eqb, ne-eqb}
@@ -46,7 +48,13 @@ image-past p v h = sym (at-past (imagesOf p) v (omega (arith, images-long p)))
 pub image-read : (p : List ℕ) (v q r : ℕ) → v < 16 → q ≡ v → r ≡ nibble p q → r ≡ at (imagesOf p) v
 image-read p v q r h e f = f ∙ ap (nibble p) e ∙ sym (image-at p v h)
 
--- ---- the search for an image: of the first i images none is y, so the first one that is y is found among the others
+-- ---- the search for an image, from place i on: the image of i is y, or the first that is y is found behind it
+pub decode-next : (l : List ℕ) (i : ℕ) → i < length l → (y : ℕ)
+    → decode (drop i l) y ≡ cond (eqb (at l i) y) zero (suc (decode (drop (i + 1) l) y))
+unfolding decode
+decode-next l i h y = ap (λ (t : List ℕ). decode t y) (drop-cons l i 0 h ∙ ap (λ (n : ℕ). at l i ∷ drop n l) (sym (add-one i)))
+
+-- The loop's invariant: of the first i images none is y, so the first one that is y is found among the others.
 pub record Passed (p : List ℕ) (y i : ℕ) : Type 0 where
   pub within : i ≤ 16
   pub others : decode (imagesOf p) y ≡ i + decode (drop i (imagesOf p)) y
@@ -54,22 +62,17 @@ pub record Passed (p : List ℕ) (y i : ℕ) : Type 0 where
 pub passed-none : {p : List ℕ} {y : ℕ} → Passed p y 0
 passed-none {p} {y} = record { within = omega arith; others = sym (zero-add (decode (imagesOf p) y)) }
 
--- The others, where there are some: the image of i and those behind it.
-next : (p : List ℕ) (y i : ℕ) → i < 16 → decode (drop i (imagesOf p)) y ≡ decode (at (imagesOf p) i ∷ drop (i + 1) (imagesOf p)) y
-next p y i h =
-    let some : i < length (imagesOf p) = omega (arith, images-long p) in
-    rw (add-one, drop-cons (imagesOf p) i 0)
+next : (p : List ℕ) (y i : ℕ) → i < 16 → decode (drop i (imagesOf p)) y ≡ cond (eqb (at (imagesOf p) i) y) zero (suc (decode (drop (i + 1) (imagesOf p)) y))
+next p y i h = decode-next (imagesOf p) i (omega (arith, images-long p)) y
 
 module _ {p : List ℕ} {y i : ℕ} (g : Passed p y i) where
   pub passed-more : {x : ℕ} → i < 16 → x ≡ at (imagesOf p) i → (x ≡ y → ⊥) → Passed p y (i + 1)
-  unfolding decode
   passed-more h e ne =
       let one : decode (drop i (imagesOf p)) y ≡ suc (decode (drop (i + 1) (imagesOf p)) y) =
       next p y i h ∙ rw (ne-eqb (at (imagesOf p) i) y (λ q. ne (e ∙ q))) in
       record { within = omega arith; others = omega (arith, g .others) }
 
   pub passed-here : {x : ℕ} → i < 16 → x ≡ at (imagesOf p) i → x ≡ y → i ≡ decode (imagesOf p) y
-  unfolding decode
   passed-here h e f =
       let none : decode (drop i (imagesOf p)) y ≡ 0 = next p y i h ∙ rw (eq-eqb (at (imagesOf p) i) y (sym e ∙ f)) in
       omega (arith, g .others)

@@ -1,4 +1,4 @@
--- Laws, not definitions: lists that are tabulated, and lists that a loop fills from the front.
+-- Laws, not definitions: lists that are tabulated, lists that a loop fills from the front, lists one after the other, and parts of lists.
 -- Assumes nothing.
 use mathlib.Core.Path.{_≡_, refl, sym, ap, ap₂, _∙_, subst}
 use mathlib.Core.List.{List, [], _∷_, _++_, append-assoc}
@@ -9,8 +9,9 @@ use native.Mathlib.Numerals.{add-one}
 use native.Mathlib.Omega.{arith}
 use borrow.Rule.Slice.PartMut.{putMid, postOf}
 use lib.Arith.{digits-lt}
-use lib.ListN.{getD, length, set, take, length-append, List·getD-append, List·getD-eq-default}
-use lib.Seq.{ext-getD, take-suc-set, take-all, take-at, length-take-le, getD-append-add}
+use lib.ListN.{getD, length, set, take, drop, replicate, length-append, length-take, length-drop, length-replicate, getD-replicate}
+use lib.ListN.{take-append-drop, List·getD-append, List·getD-eq-default}
+use lib.Seq.{ext-getD, take-suc-set, take-all, take-at, drop-at, take-append-le, drop-append-le, length-take-le, getD-append-add}
 use Rattle.bits.specs.Lists.{at, tabulate, concat}
 
 -- ---- tabulated lists
@@ -53,6 +54,18 @@ ext-at n a b p q e = ext-getD 0 a b (p ∙ sym q) (λ i h. e i (omega arith))
 pub at-past : (l : List ℕ) (i : ℕ) → length l ≤ i → at l i ≡ 0
 at-past l i h = List·getD-eq-default l 0 {n = i} h
 
+-- ---- lists of zeros
+pub zeros : (n : ℕ) → tabulate {A = ℕ} n (λ i. 0) ≡ replicate n 0
+unfolding tabulate
+zeros zero = refl
+zeros (suc n) = ap (λ (l : List ℕ). 0 ∷ l) (zeros n)
+
+pub zero-at : (n j : ℕ) → at (replicate n 0) j ≡ 0
+zero-at n j = elim (decLt j n) [
+  | yes h ↦ getD-replicate n j 0 0 h
+  | no h ↦ at-past (replicate n 0) j (omega (arith, length-replicate {A = ℕ} n 0))
+]
+
 -- ---- every element is below a bound
 abbrev pub Below : ℕ → List ℕ → Type 0
 Below b l = (i : ℕ) → at l i < b
@@ -72,11 +85,14 @@ append-below b u v p q i = elim (decLt i (length u)) [
 ]
 
 -- ---- a list that is filled from the front: element i is f i
+-- One element written at a: what then stands up to its end.
+pub put-one : (w : List ℕ) (a b k : ℕ) → a < length w → k ≡ suc a → take k (set w a b) ≡ take a w ++ (b ∷ [])
+put-one w a b k h e = ap (λ (z : ℕ). take z (set w a b)) e ∙ take-suc-set w a b h
+
 pub fill-more : (t : List ℕ) (i : ℕ) (f : ℕ → ℕ) (v : ℕ) → i < length t → take i t ≡ tabulate i f → v ≡ f i
     → take (i + 1) (set t i v) ≡ tabulate (i + 1) f
 fill-more t i f v h p q =
-    ap (λ (n : ℕ). take n (set t i v)) (add-one i)
-    ∙ take-suc-set t i v h
+    put-one t i v (i + 1) h (add-one i)
     ∙ ap₂ (λ (l : List ℕ) (x : ℕ). l ++ (x ∷ [])) p q
     ∙ sym (tabulate-snoc i f)
     ∙ ap (λ (n : ℕ). tabulate n f) (sym (add-one i))
@@ -120,8 +136,38 @@ module _ (w : ℕ) (t : ℕ → List ℕ) where
         ∙ ap (λ (x : ℕ). at (t x) j) (sym e)
   ]
 
--- ---- a part that was lent and came back: what then stands up to its end
+-- ---- a part of a list, from place `start` up to place `end`, as the code lends it
+abbrev pub cut : List ℕ → ℕ → ℕ → List ℕ
+cut l start end = take (end - start) (drop start l)
+
+module _ (l : List ℕ) (start size : ℕ) where
+  less : start + size - start ≡ size
+  less = omega arith
+
+  pub cut-is : cut l start (start + size) ≡ take size (drop start l)
+  cut-is = ap (λ (x : ℕ). take x (drop start l)) less
+
+  pub length-cut : start + size ≤ length l → length (cut l start (start + size)) ≡ size
+  length-cut h = simp (length-take, length-drop) (omega (arith, less))
+
+-- A part of a list is one of a longer list.
+pub part-front : (n b : ℕ) (u v : List ℕ) → b + n ≤ length u → take n (drop b (u ++ v)) ≡ take n (drop b u)
+part-front n b u v h =
+    ap (take n) (drop-append-le b u v (omega arith)) ∙ take-append-le n (drop b u) v (omega (arith, length-drop b u))
+
+-- ---- a part that was lent and came back, k places from a on: what then stands up to its end, there, and before it
 pub take-put : (a k e : ℕ) (xs ys : List ℕ) → a ≤ length xs → a + length ys ≡ e → take e (putMid a k xs ys) ≡ take a xs ++ ys
 take-put a k e xs ys h l =
     ap (take e) (sym (append-assoc (take a xs) ys (postOf a k xs)))
     ∙ take-at (take a xs ++ ys) (postOf a k xs) e (length-append (take a xs) ys ∙ ap (λ (n : ℕ). n + length ys) (length-take-le a xs h) ∙ l)
+
+module _ (a : ℕ) (xs ys : List ℕ) (h : a ≤ length xs) (k : ℕ) where
+  pub put-here : (n : ℕ) → length ys ≡ n → take n (drop a (putMid a k xs ys)) ≡ ys
+  put-here n l = ap (take n) (drop-at (take a xs) (ys ++ postOf a k xs) a (length-take-le a xs h)) ∙ take-at ys (postOf a k xs) n l
+
+  pub put-before : (n b : ℕ) → b + n ≤ a → take n (drop b (putMid a k xs ys)) ≡ take n (drop b xs)
+  put-before n b g =
+      let inside : b + n ≤ length (take a xs) = omega (arith, length-take-le a xs h) in
+      part-front n b (take a xs) (ys ++ postOf a k xs) inside
+      ∙ sym (part-front n b (take a xs) (drop a xs) inside)
+      ∙ ap (λ (t : List ℕ). take n (drop b t)) (take-append-drop a xs)

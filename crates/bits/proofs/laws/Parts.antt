@@ -7,10 +7,10 @@ use Prim.Native.Nat.{ℕ, _+_, _-_, _*_, _≤_, _<_}
 use native.Mathlib.Nat.{zero-mul, one-mul, add-mul}
 use native.Mathlib.Omega.{arith}
 use borrow.Rule.Slice.PartMut.{putMid, same-len-mid}
-use lib.ListN.{length, take, drop, length-take, length-drop}
+use lib.ListN.{length, take}
 use lib.Seq.{take-all}
 use Rattle.bits.specs.Lists.{concat}
-use Rattle.bits.proofs.laws.Lists.{concat-next, take-put}
+use Rattle.bits.proofs.laws.Lists.{concat-next, cut, length-cut, take-put}
 use Rattle.bits.proofs.laws.Multiples.{row-inside}
 
 -- The loop's invariant: of the list d₀, which d has become, the first i parts are filled.
@@ -29,21 +29,24 @@ parts-none {w = w} {d = d} h = record {
   front = ap (λ (k : ℕ). take k d) (zero-mul w);
 }
 
+-- The part that a turn lends: it lies within the list, and is w places long.
+pub record Part {n w : ℕ} {t : ℕ → List ℕ} {d₀ d : List ℕ} {i : ℕ} (g : Parts n w t d₀ d i) : Type 0 where
+  pub inside : i * w + w ≤ length d
+  pub long : length (cut d (i * w) (i * w + w)) ≡ w
+
 module _ {n w : ℕ} {t : ℕ → List ℕ} {d₀ d : List ℕ} {i : ℕ} (g : Parts n w t d₀ d i) where
-  -- Part i lies within the list, and is w places long.
-  pub part-inside : i < n → i * w + w ≤ length d
-  part-inside h = omega (arith, row-inside i w n h, g .room, g .long)
+  pub part-lent : i < n → Part g
+  part-lent h =
+      let inside : i * w + w ≤ length d = omega (arith, row-inside i w n h, g .room, g .long) in
+      record { inside = inside; long = length-cut d (i * w) w inside }
 
-  pub part-long : i < n → length (take (i * w + w - i * w) (drop (i * w) d)) ≡ w
-  part-long h =
-      let inside = part-inside h in
-      simp (length-take, length-drop) (omega arith)
-
-  pub parts-more : {ys : List ℕ} → i < n → length ys ≡ length (take (i * w + w - i * w) (drop (i * w) d)) → ys ≡ t i
+  -- It comes back with list i.
+  pub parts-more : {ys : List ℕ} → i < n → length ys ≡ length (cut d (i * w) (i * w + w)) → ys ≡ t i
       → Parts n w t d₀ (putMid (i * w) (i * w + w - i * w) d ys) (i + 1)
   parts-more {ys = ys} h e is =
-      let inside = part-inside h in
-      let long = part-long h in
+      let part = part-lent h in
+      let inside = part .inside in
+      let long = part .long in
       let next : i * w + w ≡ (i + 1) * w = sym (add-mul i 1 w ∙ ap (λ (x : ℕ). i * w + x) (one-mul w)) in
       record {
         within = omega arith;

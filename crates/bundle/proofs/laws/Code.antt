@@ -15,16 +15,16 @@ use Rattle.bits.proofs.laws.Groups.{joined-lt}
 use Rattle.bits.proofs.laws.Multiples.{multiple-of, product-le}
 use Rattle.bundle.specs.Format.{encodings, tenEncodings, byteMatrices, columnMatrices, partCount, partSize, sectionLength, shortest, longest}
 use Rattle.bundle.specs.Format.{numberAt, offset, stated, endBefore, pairBad, lengthBad, frame, sectionOf, partOf, partAt}
-use Rattle.bundle.specs.Refusals.{unlessAt}
-use Rattle.bundle.specs.Search.{first}
-use Rattle.bundle.specs.declared.answer.Found.{Found}
-use Rattle.bundle.specs.declared.answer.Found.the-variants.{At, Nothing}
-use Rattle.bundle.specs.declared.answer.Judgement.{Judgement}
-use Rattle.bundle.specs.declared.answer.Judgement.the-variants.{Accepted, Refused}
-use Rattle.bundle.specs.declared.answer.Refusal.{Refusal}
-use Rattle.bundle.specs.declared.answer.Refusal.the-variants.{Length, Pair}
+use Rattle.bundle.specs.Search.{first, refusedAt}
+use Rattle.bundle.specs.declared.found.Found.{Found}
+use Rattle.bundle.specs.declared.found.Found.the-variants.{At, Nothing}
+use Rattle.answers.specs.declared.Answer.{Answer}
+use Rattle.answers.specs.declared.Answer.the-variants.{Accepted, Refused}
+use Rattle.answers.specs.declared.Refusal.{Refusal}
+use Rattle.answers.specs.declared.Refusal.the-variants.{BundleLength, Pair}
 use Rattle.bundle.proofs.laws.Frame.{sizes, framed, right-good, range-good, section-is, section-none, section-fits, section-length}
 use Rattle.bundle.proofs.laws.Parts.{part-none, part-long}
+use Rattle.bundle.proofs.laws.Tests.{found-refuses, found-passes}
 
 -- ---- a section from 3 on holds one block matrix
 block-size : (s : ℕ) → 3 ≤ s → partSize s ≡ 2048
@@ -118,36 +118,36 @@ module _ (nr : ℕ) (l : List ℕ) (i : ℕ) {n want : ℕ} (en : n ≡ stated l
 
 -- ---- the frame, with the two lengths that the code has
 module _ (l : List ℕ) where
-  pub frame-short : length l < 58408 → Refused Length ≡ frame 10 l
+  pub frame-short : length l < 58408 → Refused BundleLength ≡ frame 10 l
   unfolding frame lengthBad
   frame-short a = simp (lt-ltb (length l) (shortest 10) (omega (arith, sizes .low)))
 
   module _ (a : 58408 ≤ length l) where
-    pub frame-long : 65536 < length l → Refused Length ≡ frame 10 l
+    pub frame-long : 65536 < length l → Refused BundleLength ≡ frame 10 l
     unfolding frame lengthBad
     frame-long b =
         simp (le-ltb (length l) (shortest 10) (omega (arith, sizes .low)), lt-ltb (longest 10) (length l) (omega (arith, sizes .high)))
 
     -- The length is in range, and the search for a bad pair found f.
     module _ (b : length l ≤ 65536) {f : Found} (e : f ≡ first 5 (pairBad 10 l)) where
-      found : unlessAt f Pair Accepted ≡ frame 10 l
+      found : refusedAt f Pair ≡ frame 10 l
       unfolding frame
       found =
           let range = range-good 10 l (record { low = omega (arith, sizes .low); high = omega (arith, sizes .high) }) in
           rw (range, ← e)
 
       pub frame-pair : {i : ℕ} → f ≡ At i → Refused (Pair i) ≡ frame 10 l
-      frame-pair q = ap (λ (x : Found). unlessAt x Pair Accepted) (sym q) ∙ found
+      frame-pair q = found-refuses f Pair _ q ∙ found
 
       pub frame-right : f ≡ Nothing → Accepted ≡ frame 10 l
-      frame-right q = ap (λ (x : Found). unlessAt x Pair Accepted) (sym q) ∙ found
+      frame-right q = found-passes f Pair q ∙ found
 
 -- ---- sections and parts; j is the judgement of the frame
 -- A bundle with neither cause 2 nor cause 3 has its five pairs.
-pub pairs-there : (l : List ℕ) {j : Judgement} → j ≡ frame 10 l → j ≡ Accepted → 40 ≤ length l
+pub pairs-there : (l : List ℕ) {j : Answer} → j ≡ frame 10 l → j ≡ Accepted → 40 ≤ length l
 pairs-there l f t = omega (arith, sizes .low, framed 10 l (sym f ∙ t) .range .low)
 
-module _ (nr : ℕ) (l : List ℕ) (s : ℕ) {j : Judgement} (f : j ≡ frame nr l) where
+module _ (nr : ℕ) (l : List ℕ) (s : ℕ) {j : Answer} (f : j ≡ frame nr l) where
   pub section-empty : {r : Refusal} → j ≡ Refused r → [] ≡ sectionOf nr l s
   section-empty t = sym (section-none nr l _ (sym f ∙ t) s)
 
@@ -162,7 +162,7 @@ module _ (nr : ℕ) (l : List ℕ) (s : ℕ) {j : Judgement} (f : j ≡ frame nr
 
 module _ (nr : ℕ) (l : List ℕ) where
   -- A section's length is a multiple of its parts' size, also where it is empty.
-  multiple-by : (s : ℕ) → s < 5 → 0 < partSize s → (j : Judgement) → frame nr l ≡ j → length (sectionOf nr l s) / partSize s * partSize s ≡ length (sectionOf nr l s)
+  multiple-by : (s : ℕ) → s < 5 → 0 < partSize s → (j : Answer) → frame nr l ≡ j → length (sectionOf nr l s) / partSize s * partSize s ≡ length (sectionOf nr l s)
   unfolding sectionLength
   multiple-by s h p Accepted e = multiple-of (partCount nr s) (partSize s) _ p (section-length nr l e s h)
   multiple-by s h p (Refused r) e = multiple-of 0 (partSize s) _ p (ap length (section-none nr l r e s) ∙ sym (zero-mul (partSize s)))

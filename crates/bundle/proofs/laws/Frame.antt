@@ -11,16 +11,16 @@ use borrow.Author.Tests.{not-false, eqb-true, ltb-false, eq-eqb, le-ltb}
 use Rattle.bundle.specs.Format.{encodings, byteMatrices, columnMatrices, partCount, partSize, sectionLength, shortest, longest}
 use Rattle.bundle.specs.Format.{offset, stated, endBefore, PairRight, pairBad, lengthBad, frame, sectionOf}
 use Rattle.bundle.specs.Frames.{Sizes, InRange, Framed, Apart}
-use Rattle.bundle.specs.Refusals.{unless, unlessAt}
-use Rattle.bundle.specs.Search.{first}
-use Rattle.bundle.specs.declared.answer.Found.{Found}
-use Rattle.bundle.specs.declared.answer.Found.the-variants.{Nothing}
-use Rattle.bundle.specs.declared.answer.Judgement.{Judgement}
-use Rattle.bundle.specs.declared.answer.Judgement.the-variants.{Accepted, Refused}
-use Rattle.bundle.specs.declared.answer.Refusal.{Refusal}
-use Rattle.bundle.specs.declared.answer.Refusal.the-variants.{Length, Pair}
+use Rattle.bundle.specs.Search.{first, refusedAt}
+use Rattle.bundle.specs.declared.found.Found.{Found}
+use Rattle.bundle.specs.declared.found.Found.the-variants.{Nothing}
+use Rattle.answers.specs.Answers.{refusedIf, andThen}
+use Rattle.answers.specs.declared.Answer.the-variants.{Accepted, Refused}
+use Rattle.answers.specs.declared.Refusal.{Refusal}
+use Rattle.answers.specs.declared.Refusal.the-variants.{BundleLength, Pair}
+use Rattle.answers.proofs.laws.Tests.{both, passed}
 use Rattle.bundle.proofs.laws.Search.{none-all, all-none}
-use Rattle.bundle.proofs.laws.Tests.{or-left, or-right, neither, by-unless, by-unlessAt}
+use Rattle.bundle.proofs.laws.Tests.{or-left, or-right, neither, none-found}
 
 pub sizes : Sizes
 unfolding encodings byteMatrices columnMatrices partCount partSize sectionLength shortest longest
@@ -79,22 +79,19 @@ module _ (nr : ℕ) (l : List ℕ) where
   pairs-none = all-none 5 (pairBad nr l) (PairRight nr l) (pair-good nr l) (right-good nr l)
 
   -- ---- the frame
-  abbrev FramedIf : Judgement → Type 0
-  FramedIf j = j ≡ Accepted → Framed nr l
-
   pub framed : frame nr l ≡ Accepted → Framed nr l
   unfolding frame
-  framed =
-      by-unless FramedIf (lengthBad nr l) Length (unlessAt (first 5 (pairBad nr l)) Pair Accepted)
-      (λ e r. let y : _≡_ {A = ℕ} 0 1 = cc in absurd (omega arith))
-      (λ e₂. by-unlessAt FramedIf (first 5 (pairBad nr l)) Pair Accepted
-      (λ n e r. let y : _≡_ {A = ℕ} 0 1 = cc in absurd (omega arith))
-      (λ e₃ r. record { range = length-good e₂; pairs = pairs-all e₃ }))
+  framed e =
+      let accepted = both (refusedIf (lengthBad nr l) BundleLength) (refusedAt (first 5 (pairBad nr l)) Pair) e in
+      record {
+        range = length-good (passed (lengthBad nr l) BundleLength (accepted .first));
+        pairs = pairs-all (none-found (first 5 (pairBad nr l)) Pair (accepted .second));
+      }
 
   pub frame-accepted : Framed nr l → frame nr l ≡ Accepted
   unfolding frame
   frame-accepted F =
-      ap₂ (λ (b : Bool) (f : Found). unless b Length (unlessAt f Pair Accepted)) (range-good (F .range)) (pairs-none (F .pairs))
+      ap₂ (λ (b : Bool) (f : Found). andThen (refusedIf b BundleLength) (refusedAt f Pair)) (range-good (F .range)) (pairs-none (F .pairs))
 
   -- ---- sections
   pub section-is : frame nr l ≡ Accepted → (s : ℕ) → sectionOf nr l s ≡ take (sectionLength nr s) (drop (offset l s) l)

@@ -11,10 +11,11 @@ use lib.Seq.{take-nil, drop-nil, drop-drop, ext-getD, getD-take, getD-drop}
 use Rattle.bits.specs.Bytes.{Bytes}
 use Rattle.bits.proofs.laws.Lists.{at-past}
 use Rattle.bits.proofs.laws.Multiples.{row-inside}
-use Rattle.bundle.specs.Format.{partCount, partSize, sectionLength, offset, frame, whenAccepted, sectionOf, partOf, partAt}
-use Rattle.bundle.specs.declared.answer.Judgement.{Judgement}
-use Rattle.bundle.specs.declared.answer.Judgement.the-variants.{Accepted, Refused}
-use Rattle.bundle.specs.declared.answer.Refusal.{Refusal}
+use Rattle.bundle.specs.Format.{partCount, partSize, sectionLength, offset, frame, sectionOf, partOf, partAt}
+use Rattle.answers.specs.Answers.{ifAccepted}
+use Rattle.answers.specs.declared.Answer.{Answer}
+use Rattle.answers.specs.declared.Answer.the-variants.{Accepted, Refused}
+use Rattle.answers.specs.declared.Refusal.{Refusal}
 use Rattle.bundle.proofs.laws.Frame.{section-is, section-none, section-fits, section-length}
 
 -- ---- lists in general: a part of bytes is bytes, and a part of a part is a part
@@ -56,7 +57,7 @@ module _ (size : ℕ) (s : List ℕ) (n : ℕ) where
   part-cut = let e : (n * size + size) - n * size ≡ size = omega arith in rw e
 
 -- ---- parts of a bundle
-when-bytes : (j : Judgement) (l : List ℕ) → Bytes l → Bytes (whenAccepted j l)
+when-bytes : (j : Answer) (l : List ℕ) → Bytes l → Bytes (ifAccepted j l [])
 when-bytes Accepted l h i = h i
 when-bytes (Refused r) l h i = omega arith
 
@@ -76,7 +77,7 @@ module _ (nr : ℕ) (l : List ℕ) (s n : ℕ) where
   part-refused r f = rw (section-none nr l r f s, drop-nil, take-nil)
 
   module _ (h : s < 5) where
-    behind-by : (j : Judgement) → frame nr l ≡ j → partCount nr s ≤ n → partAt nr l s n ≡ []
+    behind-by : (j : Answer) → frame nr l ≡ j → partCount nr s ≤ n → partAt nr l s n ≡ []
     unfolding partAt sectionLength
     behind-by Accepted f b =
         part-none (partSize s) (sectionOf nr l s) n

@@ -7,14 +7,14 @@ use native.Mathlib.Decide.{ℕ-discrete, decLt}
 use native.Mathlib.Numerals.{add-one}
 use native.Mathlib.Omega.{arith}
 use Rattle.bundle.specs.Search.{All, FirstBad, pick, firstFrom, first}
-use Rattle.bundle.specs.declared.answer.Found.{Found}
-use Rattle.bundle.specs.declared.answer.Found.the-variants.{At, Nothing}
+use Rattle.bundle.specs.declared.found.Found.{Found}
+use Rattle.bundle.specs.declared.found.Found.the-variants.{At, Nothing}
 use Rattle.bundle.proofs.laws.Tests.{clash, not-false-true}
 
 -- ---- what an answer says, from n on
-abbrev Answer : ℕ → ℕ → (ℕ → Bool) → Found → Type 0
-Answer k n p (At m) = (n ≤ m) × (m < n + k) × (p m ≡ true) × ((i : ℕ) → n ≤ i → i < m → p i ≡ false)
-Answer k n p Nothing = (i : ℕ) → n ≤ i → i < n + k → p i ≡ false
+abbrev Says : ℕ → ℕ → (ℕ → Bool) → Found → Type 0
+Says k n p (At m) = (n ≤ m) × (m < n + k) × (p m ≡ true) × ((i : ℕ) → n ≤ i → i < m → p i ≡ false)
+Says k n p Nothing = (i : ℕ) → n ≤ i → i < n + k → p i ≡ false
 
 here-or : (p : ℕ → Bool) (n i : ℕ) → p n ≡ false → n ≤ i → (n < i → p i ≡ false) → p i ≡ false
 here-or p n i e h r = elim (ℕ-discrete n i) [
@@ -22,17 +22,17 @@ here-or p n i e h r = elim (ℕ-discrete n i) [
   | no q ↦ r (omega arith)
 ]
 
-step : (k n : ℕ) (p : ℕ → Bool) (r : Found) (b : Bool) → p n ≡ b → Answer k (suc n) p r → Answer (suc k) n p (pick b (At n) r)
+step : (k n : ℕ) (p : ℕ → Bool) (r : Found) (b : Bool) → p n ≡ b → Says k (suc n) p r → Says (suc k) n p (pick b (At n) r)
 step k n p r true e A = (omega arith, omega arith, e, λ i h j. absurd (omega arith))
 step k n p (At m) false e A = (omega (arith, A .0), omega (arith, A .1), A .2, λ i h j. here-or p n i e h (λ g. A .3 i g j))
 step k n p Nothing false e A = λ i h j. here-or p n i e h (λ g. A i g (omega arith))
 
-answers : (k n : ℕ) (p : ℕ → Bool) → Answer k n p (firstFrom k n p)
+says : (k n : ℕ) (p : ℕ → Bool) → Says k n p (firstFrom k n p)
 unfolding firstFrom
-answers zero n p = λ i h j. absurd (omega arith)
-answers (suc k) n p = step k n p (firstFrom k (suc n) p) (p n) refl (answers k (suc n) p)
+says zero n p = λ i h j. absurd (omega arith)
+says (suc k) n p = step k n p (firstFrom k (suc n) p) (p n) refl (says k (suc n) p)
 
-same : (k : ℕ) (p : ℕ → Bool) (r s : Found) → Answer k 0 p r → Answer k 0 p s → r ≡ s
+same : (k : ℕ) (p : ℕ → Bool) (r s : Found) → Says k 0 p r → Says k 0 p s → r ≡ s
 same k p (At m) (At n) A B = elim (decLt m n) [
   | yes q ↦ absurd (clash (p m) (A .2) (B .3 m (omega arith) q))
   | no q ↦ elim (decLt n m) [
@@ -46,13 +46,13 @@ same k p Nothing Nothing A B = refl
 
 -- ---- a search by a test that is exact
 module _ (count : ℕ) (p : ℕ → Bool) (Good : ℕ → Type 0) (to : (i : ℕ) → p i ≡ false → Good i) (from : (i : ℕ) → Good i → p i ≡ false) where
-  answer : (r : Found) → first count p ≡ r → Answer count 0 p r
+  answer : (r : Found) → first count p ≡ r → Says count 0 p r
   unfolding first
-  answer r e = subst (Answer count 0 p) e (answers count 0 p)
+  answer r e = subst (Says count 0 p) e (says count 0 p)
 
-  is : (r : Found) → Answer count 0 p r → first count p ≡ r
+  is : (r : Found) → Says count 0 p r → first count p ≡ r
   unfolding first
-  is r A = same count p (first count p) r (answers count 0 p) A
+  is r A = same count p (first count p) r (says count 0 p) A
 
   pub none-all : first count p ≡ Nothing → All count Good
   none-all e i h = to i (answer Nothing e i (omega arith) (omega arith))

@@ -1,15 +1,15 @@
--- Laws, not definitions: tests, and judgements one after the other.
+-- Laws, not definitions: tests, and the refusal for what a search found.
 -- Assumes nothing.
 use mathlib.Core.Bool.{Bool, true, false, _||_}
-use mathlib.Core.Path.{_≡_, refl}
+use mathlib.Core.Path.{_≡_, refl, sym, ap}
 use Prim.Native.Nat.{ℕ}
 use native.Mathlib.Omega.{arith}
-use Rattle.bundle.specs.Refusals.{unless, unlessAt, andThen}
-use Rattle.bundle.specs.declared.answer.Found.{Found}
-use Rattle.bundle.specs.declared.answer.Found.the-variants.{At, Nothing}
-use Rattle.bundle.specs.declared.answer.Judgement.{Judgement}
-use Rattle.bundle.specs.declared.answer.Judgement.the-variants.{Accepted, Refused}
-use Rattle.bundle.specs.declared.answer.Refusal.{Refusal}
+use Rattle.answers.specs.declared.Answer.{Answer}
+use Rattle.answers.specs.declared.Answer.the-variants.{Accepted, Refused}
+use Rattle.answers.specs.declared.Refusal.{Refusal}
+use Rattle.bundle.specs.Search.{refusedAt}
+use Rattle.bundle.specs.declared.found.Found.{Found}
+use Rattle.bundle.specs.declared.found.Found.the-variants.{At, Nothing}
 
 -- ---- tests
 pub or-left : (a b : Bool) → (a || b) ≡ false → a ≡ false
@@ -31,20 +31,19 @@ pub not-false-true : (b : Bool) → (b ≡ false → ⊥) → b ≡ true
 not-false-true true h = refl
 not-false-true false h = absurd (h refl)
 
--- ---- what holds of each judgement that can be given, holds of the one that is
-pub by-unless : (P : Judgement → Type 0) (b : Bool) (r : Refusal) (j : Judgement) → (b ≡ true → P (Refused r)) → (b ≡ false → P j) → P (unless b r j)
-by-unless P true r j t f = t refl
-by-unless P false r j t f = f refl
+-- ---- a search found f: refused for the number that it found, or accepted
+pub found-refuses : (f : Found) (r : ℕ → Refusal) (n : ℕ) → f ≡ At n → Refused (r n) ≡ refusedAt f r
+found-refuses f r n e = ap (λ (x : Found). refusedAt x r) (sym e)
 
-pub by-unlessAt : (P : Judgement → Type 0) (f : Found) (r : ℕ → Refusal) (j : Judgement) → ((n : ℕ) → f ≡ At n → P (Refused (r n)))
-    → (f ≡ Nothing → P j) → P (unlessAt f r j)
-by-unlessAt P (At n) r j t f = t n refl
-by-unlessAt P Nothing r j t f = f refl
+pub found-passes : (f : Found) (r : ℕ → Refusal) → f ≡ Nothing → Accepted ≡ refusedAt f r
+found-passes f r e = ap (λ (x : Found). refusedAt x r) (sym e)
 
-pub by-andThen : (P : Judgement → Type 0) (j k : Judgement) → ((r : Refusal) → j ≡ Refused r → P (Refused r)) → (j ≡ Accepted → P k) → P (andThen j k)
-by-andThen P Accepted k t f = f refl
-by-andThen P (Refused r) k t f = t r refl
+pub none-found : (f : Found) (r : ℕ → Refusal) → refusedAt f r ≡ Accepted → f ≡ Nothing
+none-found (At n) r e = let y : _≡_ {A = ℕ} 0 1 = cc in absurd (omega arith)
+none-found Nothing r e = refl
 
-pub first-accepted : (j k : Judgement) → andThen j k ≡ Accepted → j ≡ Accepted
-first-accepted Accepted k e = refl
-first-accepted (Refused r) k e = e
+-- What holds of each answer that can be given, holds of the one that is.
+pub by-refusedAt : (P : Answer → Type 0) (f : Found) (r : ℕ → Refusal) → ((n : ℕ) → f ≡ At n → P (Refused (r n))) → (f ≡ Nothing → P Accepted)
+    → P (refusedAt f r)
+by-refusedAt P (At n) r h k = h n refl
+by-refusedAt P Nothing r h k = k refl

@@ -2,16 +2,14 @@
 -- Assumes nothing.
 use mathlib.Core.List.{List}
 use mathlib.Core.Path.{_≡_, sym, ap, ap₂, _∙_}
-use Prim.Native.Nat.{ℕ, _+_, _*_, _/_, _%_, _^_, _≤_, _<_}
+use Prim.Native.Nat.{ℕ, _+_, _*_, _/_, _%_, _^_, _<_}
 use native.Mathlib.Nat.{zero-mul, one-mul}
-use native.Mathlib.Numerals.{add-one}
 use native.Mathlib.Omega.{arith}
 use borrow.Author.Tests.{lt-ltb, le-ltb}
 use lib.Bits.{bitXor, xor-self, xor-zero-l, xor-zero-r, xor-comm, xor-disjoint, and-shifted}
 use lib.ListN.{take, drop}
 use lib.Seq.{getD-take, getD-drop}
 use Rattle.bits.specs.Bytes.{Bytes, byte, bytesOf}
-use Rattle.bits.specs.Groups.{xorAll}
 use Rattle.bits.specs.Lists.{at, tabulate, concat}
 use Rattle.bits.specs.Vectors.{dot}
 use Rattle.bits.proofs.laws.Bytes.{at-bytesOf, length-bytesOf}
@@ -72,25 +70,6 @@ by-nibbles u linear y =
     ∙ sym (linear (y % 16) (y / 16 * 16))
     ∙ ap u (of-nibbles y)
 
--- ---- the loop that adds the words up: the sum of the first i of n
-pub record Added (n : ℕ) (f : ℕ → ℕ) (v i : ℕ) : Type 0 where
-  pub within : i ≤ n
-  pub sum : v ≡ xorAll i f
-
-pub added-none : (n : ℕ) (f : ℕ → ℕ) (v : ℕ) → v ≡ 0 → Added n f v 0
-unfolding xorAll
-added-none n f v e = record { within = omega arith; sum = e }
-
-module _ {n : ℕ} {f : ℕ → ℕ} {v i : ℕ} (I : Added n f v i) where
-  pub added-more : {w : ℕ} → i < n → w ≡ bitXor v (f i) → Added n f w (i + 1)
-  unfolding xorAll
-  added-more h e = record { within = omega arith; sum = e ∙ ap (λ (x : ℕ). bitXor x (f i)) (I .sum) ∙ rw add-one }
-
-  pub added-all : n ≤ i → v ≡ xorAll n f
-  added-all h =
-      let done : i ≡ n = omega arith in
-      rw done at (I .sum)
-
 -- ---- the parts of a list that has a part for each byte with one nibble
 -- The word of y, encoded, from its parts for the nibbles of y: a and b are these, and n is as many bytes as a word has.
 pub word-encoded : (images : ℕ → ℕ) (m n y a b : ℕ) (l low high ys : List ℕ)
@@ -109,11 +88,6 @@ word-encoded images m n y a b l low high ys long ea el eb eh written =
   where
     inside : (s : List ℕ) (p k : ℕ) → s ≡ take m (drop p l) → k < m → at s k ≡ at l (p + k)
     inside s p k e h = ap (λ (t : List ℕ). at t k) e ∙ getD-take m (drop p l) k 0 h ∙ getD-drop p l k 0
-
--- The bytes of the word of a byte with one nibble, as they are written: v is its word, and n is as many bytes as a word has.
-pub nibble-word : (f : ℕ → ℕ) (m n r b v : ℕ) (ys : List ℕ) → n ≡ m → b ≡ nibbleByte r → v ≡ combined f b → ys ≡ bytesOf n v
-    → ys ≡ bytesOf m (combined f (nibbleByte r))
-nibble-word f m n r b v ys long eb ev written = written ∙ ap₂ bytesOf long (ev ∙ ap (combined f) eb)
 
 -- The bytes of the word of y are the sum of its parts, where each part has the bytes of the word of its byte.
 module _ (f : ℕ → ℕ) (m : ℕ) (l : List ℕ) (e : take (32 * m) l ≡ concat 32 (λ r. bytesOf m (combined f (nibbleByte r)))) where

@@ -1,7 +1,7 @@
 -- Laws, not definitions: what undoes an encoding, when its nibbles are taken from the last down.
 -- Assumes nothing.
 use mathlib.Core.Bool.{Bool, true, false, cond}
-use mathlib.Core.List.{List, [], _∷_}
+use mathlib.Core.List.{List, []}
 use mathlib.Core.Path.{_≡_, sym, ap, _∙_}
 use Prim.Native.Nat.{ℕ, zero, suc, _+_, _-_, _≤_, _<_}
 use native.Mathlib.Nat.{zero-add}
@@ -10,10 +10,11 @@ use native.Mathlib.Omega.{arith}
 use borrow.Author.Tests.{eq-eqb, ne-eqb}
 use lib.Dec.{eqb}
 use lib.ListN.{length, set, drop, length-set}
-use lib.Seq.{drop-length, drop-cons, getD-set-same, getD-set-other}
+use lib.Seq.{drop-length, getD-set-same, getD-set-other}
 use Rattle.bits.specs.Encodings.{imagesOf, decode}
 use Rattle.bits.specs.Lists.{at, tabulate}
 use Rattle.bits.specs.Nibbles.{nibble}
+use Rattle.bits.proofs.laws.Images.{image-at, images-long, decode-next}
 use Rattle.bits.proofs.laws.Lists.{at-tabulate, length-tabulate, tabulate-ext, ext-at}
 
 -- The first place from v on that has the image y; the list's length where none has.
@@ -25,11 +26,7 @@ at-or-after true v d = omega arith
 at-or-after false v d = omega arith
 
 sought-more : (l : List ℕ) (v : ℕ) → v < length l → (y : ℕ) → sought l v y ≡ cond (eqb (at l v) y) v (sought l (v + 1) y)
-unfolding decode
-sought-more l v h y =
-    let s : suc v ≡ v + 1 = omega arith in
-    ap (λ (t : List ℕ). v + decode t y) (drop-cons l v 0 h ∙ ap (λ (n : ℕ). at l v ∷ drop n l) s)
-    ∙ at-or-after (eqb (at l v) y) v (decode (drop (v + 1) l) y)
+sought-more l v h y = ap (λ (n : ℕ). v + n) (decode-next l v h y) ∙ at-or-after (eqb (at l v) y) v (decode (drop (v + 1) l) y)
 
 -- Place v is written at its image: there v is sought, elsewhere what was sought from v + 1 on.
 module _ (l t : List ℕ) (v y : ℕ) (n : length l ≡ 16) (h : v < 16) (e : y ≡ at l v) (is : t ≡ tabulate 16 (sought l (v + 1))) where
@@ -65,14 +62,10 @@ pub record Placed (p t : List ℕ) (v : ℕ) : Type 0 where
   pub long : length t ≡ 16
   pub found : t ≡ tabulate 16 (sought (imagesOf p) v)
 
-length-images : (p : List ℕ) → length (imagesOf p) ≡ 16
-unfolding imagesOf
-length-images p = length-tabulate 16 (nibble p)
-
 pub placed-none : (p t : List ℕ) → t ≡ tabulate 16 (λ _. 16) → Placed p t 16
 unfolding decode
 placed-none p t e =
-    let past : [] ≡ drop 16 (imagesOf p) = sym (drop-length (imagesOf p)) ∙ ap (λ (n : ℕ). drop n (imagesOf p)) (length-images p) in
+    let past : [] ≡ drop 16 (imagesOf p) = sym (drop-length (imagesOf p)) ∙ ap (λ (n : ℕ). drop n (imagesOf p)) (images-long p) in
     record {
       within = omega arith;
       long = ap length e ∙ length-tabulate 16 _;
@@ -81,14 +74,13 @@ placed-none p t e =
 
 module _ {p t : List ℕ} {v : ℕ} (I : Placed p t v) where
   pub placed-more : {x y : ℕ} → 0 < v → x ≡ nibble p (v - 1) → y ≡ x → Placed p (set t y (v - 1)) (v - 1)
-  unfolding imagesOf
   placed-more {x = x} {y = y} h e is =
       let back : v ≡ v - 1 + 1 = omega arith in
-      let image : y ≡ at (imagesOf p) (v - 1) = is ∙ e ∙ sym (at-tabulate 16 (nibble p) (v - 1) (omega arith)) in
+      let image : y ≡ at (imagesOf p) (v - 1) = is ∙ e ∙ sym (image-at p (v - 1) (omega arith)) in
       record {
         within = omega arith;
         long = length-set t y (v - 1) ∙ I .long;
-        found = sought-next (imagesOf p) t (v - 1) y (length-images p) (omega arith) image (I .found ∙ ap (λ (k : ℕ). tabulate 16 (sought (imagesOf p) k)) back);
+        found = sought-next (imagesOf p) t (v - 1) y (images-long p) (omega arith) image (I .found ∙ ap (λ (k : ℕ). tabulate 16 (sought (imagesOf p) k)) back);
       }
 
   pub placed-all : v ≤ 0 → t ≡ tabulate 16 (decode (imagesOf p))

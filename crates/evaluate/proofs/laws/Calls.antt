@@ -1,132 +1,127 @@
--- Laws, not definitions: the calls, from what their parts left.
+-- Laws, not definitions: the calls, from what their parts left, for any number nr of rounds and any byte `reads` that the row shift reads. What the
+-- code has as numbers, the lookups and the bytes of a set, is `count` and `bytes`.
 -- Assumes nothing.
-use mathlib.Core.List.{List, []}
+use mathlib.Core.List.{List}
 use mathlib.Core.Logic.{_⊎_}
-use mathlib.Core.Path.{_≡_, refl, sym, ap, ap₂, _∙_, subst}
+use mathlib.Core.Path.{_≡_, refl, sym, ap, ap₂, _∙_}
 use Prim.Native.Nat.{ℕ, _+_, _-_, _≤_, _<_}
 use native.Mathlib.Numerals.{add-one}
 use native.Mathlib.Omega.{arith}
-use borrow.Author.Tests.{eq-eqb, ne-eqb, lt-ltb, le-ltb}
 use lib.ListN.{length, take, drop, replicate, length-replicate}
-use Rattle.bits.specs.Lists.{at}
-use Rattle.bits.proofs.laws.Filled.{Filled, copied}
-use Rattle.network.specs.Lookups.{Walk, zeroArea, lookup, lookupIn}
+use Rattle.answers.specs.declared.Answer.{Answer}
+use Rattle.answers.specs.declared.Answer.the-variants.{Accepted, Refused}
+use Rattle.answers.specs.declared.Refusal.{Refusal}
+use Rattle.answers.specs.declared.Refusal.the-variants.{SetLength, BlockLength, Stop, Unfinished}
+use Rattle.answers.proofs.laws.Tests.{left-new, left-old}
+use Rattle.network.specs.Lookups.{State, stateAt, zeroArea, lookup, lookupIn}
 use Rattle.network.specs.Order.{layerLookups}
 use Rattle.network.specs.Sizes.{layerBytes}
-use Rattle.network.specs.Stages.{widthOf, shapeAt, shapes, shifted, lookups, tableSize, tableOffset, stageOf, indexOf, placeOf}
-use Rattle.network.specs.declared.stage.Place.{Place}
-use Rattle.network.proofs.laws.Cases.{starred}
-use Rattle.network.proofs.laws.Instance.{offset-within}
 use Rattle.network.proofs.laws.Order.{layer-lookups}
-use Rattle.network.proofs.laws.Ranges.{by-stage}
-use Rattle.whitebox.specs.Calls.{Reply, Call, accepted, refused, lowest, toStop, oneLookup, fetch}
-use Rattle.whitebox.specs.Calls.{judgeStart, started, judgeStop, judgeOne, judgeFetch, advance, reply, handed, blockLeft}
+use Rattle.layout.specs.Stages.{widthOf, shapeAt, shapes, lookups, setBytes, tableOffset, stageOf, indexOf, placeOf}
+use Rattle.layout.specs.declared.stage.Place.{Place}
+use Rattle.layout.proofs.laws.Lookup.{Sizes, Stands, stands, tables-in-set}
+use Rattle.layout.proofs.laws.Ranges.{by-stage}
+use Rattle.whitebox.specs.Calls.{Held, holding, changed, Call, toStop, oneLookup, fetch, judgeStart, started, judgeStop, judgeOne, judgeFetch, advance, answer, handed, blockLeft}
+use Rattle.whitebox.proofs.laws.Judged as judged
+use Rattle.whitebox.proofs.laws.Judged.{presented-wrong, presented-right, set-wrong, stop-right, none-left, table-wrong, table-right, block-wrong, count-wrong, count-right}
 use Rattle.lookups.specs.InPlace.{Fits, LookedUp, sumsIn}
-use Rattle.lookups.proofs.laws.Cuts.{cut, cut-is, length-cut}
+use Rattle.bits.proofs.laws.Lists.{cut, cut-is, length-cut}
 use Rattle.lookups.proofs.laws.Whole.{length-sums-in}
 use Rattle.evaluate.specs.Advanced.{Advanced}
-use Rattle.evaluate.proofs.laws.Stages.{in-stage, advance-split, layer-walk, layer-within}
+use Rattle.evaluate.proofs.laws.Stages.{advance-split, layer-walk}
 
 -- ---- the place of a lookup
-below : (n : ℕ) → n < 3008 → n < lookups 10
-below n h = subst (λ (x : ℕ). n < x) (sym (starred .all-lookups)) h
-
-module _ (n : ℕ) (p : Place) (h : n < 3008) (e : p ≡ placeOf 10 n) where
-  fits-at : Fits (p .stage) (p .index) (p .size)
-  fits-at =
-      subst (λ (p : Place). Fits (p .stage) (p .index) (p .size)) (sym e)
-      (record { within = unfold indexOf in in-stage n h .within; sized = by-stage 10 .size-is n (below n h) })
+module _ {nr count bytes : ℕ} (N : Sizes nr count bytes) (n : ℕ) (p : Place) (h : n < count) (e : p ≡ placeOf nr n) where
+  place : Stands nr n p
+  place = stands (omega (arith, N .all-lookups)) e
 
   -- The table of a lookup, lent alone, or as a part of the set.
   pub table-fits : (long : ℕ) → long ≡ p .size → Fits (p .stage) (p .index) long
-  table-fits long l = rw l fits-at
+  table-fits long l = record { within = place .index; sized = l ∙ place .kind }
 
-  pub part-within : p .offset + p .size ≤ 770048
-  part-within =
-      subst (λ (p : Place). p .offset + p .size ≤ 770048) (sym e)
-      (subst (λ (x : ℕ). tableOffset 10 n + tableSize 10 n ≤ x) (starred .all-bytes) (offset-within 10 n (below n h)))
+  pub part-within : p .offset + p .size ≤ bytes
+  part-within = omega (arith, place .end, tables-in-set nr, N .all-bytes)
 
-  pub part-fits : (set : List ℕ) → length set ≡ 770048 → Fits (p .stage) (p .index) (length (cut set (p .offset) (p .offset + p .size)))
+  pub part-fits : (set : List ℕ) → length set ≡ bytes → Fits (p .stage) (p .index) (length (cut set (p .offset) (p .offset + p .size)))
   part-fits set l = table-fits _ (length-cut set (p .offset) (p .size) (omega (arith, part-within)))
 
   pub place-width : (m : ℕ) → m ≡ widthOf (p .stage) → (m ≡ 4) ⊎ (m ≡ 16)
-  place-width m f = rw f (subst (λ (p : Place). (widthOf (p .stage) ≡ 4) ⊎ (widthOf (p .stage) ≡ 16)) (sym e) (in-stage n h .width))
-
-  index-0 : p .index ≡ 0 → indexOf 10 n ≡ 0
-  index-0 z = ap (λ (p : Place). p .index) (sym e) ∙ z
+  place-width m f = rw f (place .width)
 
   -- The tables of a stage or half, from its first lookup on.
-  pub place-room : p .index ≡ 0 → p .offset + layerBytes (widthOf (p .stage)) ≤ 770048
-  place-room z = subst (λ (p : Place). p .offset + layerBytes (widthOf (p .stage)) ≤ 770048) (sym e) (layer-within [] n h (index-0 z))
+  pub place-room : p .index ≡ 0 → p .offset + layerBytes (widthOf (p .stage)) ≤ bytes
+  place-room z = omega (arith, place .layer z, tables-in-set nr, N .all-bytes)
 
-  -- The lookup made in place is the walk's.
-  looked-up : (t s a s′ a′ : List ℕ) → LookedUp (shapeAt shifted (p .stage)) (p .index) t s a s′ a′
-      → lookup (shapes shifted 10) t (record { count = n; standing = s; area = a }) ≡ record { count = n + 1; standing = s′; area = a′ }
-  unfolding lookup
-  looked-up t s a s′ a′ l =
-      let w : Walk = record { count = n; standing = s; area = a } in
-      let after : ℕ → Walk = λ k. record { count = k; standing = s′; area = a′ } in
-      by-stage 10 .lookup-is shifted n (below n h) t w
-      ∙ ap (λ (p : Place). lookupIn (shapeAt shifted (p .stage)) (p .index) t w) (sym e)
-      ∙ l .walk n
-      ∙ ap after (sym (add-one n))
+-- The lookup made in place is the walk's.
+looked-up : (reads : ℕ → ℕ) (nr n : ℕ) (p : Place) → n < lookups nr → p ≡ placeOf nr n → (t s a s′ a′ : List ℕ)
+    → LookedUp (shapeAt reads (p .stage)) (p .index) t s a s′ a′
+    → lookup (shapes reads nr) t (stateAt n s a) ≡ stateAt (n + 1) s′ a′
+unfolding lookup
+looked-up reads nr n p h e t s a s′ a′ l =
+    let w : State = stateAt n s a in
+    by-stage nr .lookup-is reads n h t w
+    ∙ ap (λ (p : Place). lookupIn (shapeAt reads (p .stage)) (p .index) t w) (sym e)
+    ∙ l .walk n
+    ∙ ap (λ (k : ℕ). stateAt k s′ a′) (sym (add-one n))
 
 -- ---- a step: one lookup, or all of a stage or half, made in place, is the walk's
-module _ {set : List ℕ} {n stop : ℕ} {p : Place} {s a s′ a′ : List ℕ} (e : p ≡ placeOf 10 n) (b : n < stop) (d : stop ≤ 3008) where
-  pub one-advanced : LookedUp (shapeAt shifted (p .stage)) (p .index) (cut set (p .offset) (p .offset + p .size)) s a s′ a′
-      → Advanced set n stop (n + 1) s a s′ a′
+module _ {reads : ℕ → ℕ} {nr count bytes : ℕ} (N : Sizes nr count bytes) {set : List ℕ} {n stop : ℕ} {p : Place} {s a s′ a′ : List ℕ}
+    (e : p ≡ placeOf nr n) (b : n < stop) (d : stop ≤ count) where
+  pub one-advanced : LookedUp (shapeAt reads (p .stage)) (p .index) (cut set (p .offset) (p .offset + p .size)) s a s′ a′
+      → Advanced reads nr set n stop (n + 1) s a s′ a′
   unfolding advance
   one-advanced l =
-      let w : Walk = record { count = n; standing = s; area = a } in
+      let w : State = stateAt n s a in
+      let inside : n < lookups nr = omega (arith, N .all-lookups) in
       let one : n + 1 - n ≡ 1 = omega arith in
       let part = ap (λ (p : Place). take (p .size) (drop (p .offset) set)) (sym e) ∙ sym (cut-is set (p .offset) (p .size)) in
       record {
         more = omega arith;
         most = omega arith;
         walk =
-            ap (λ (x : ℕ). advance shifted 10 set x w) one
-            ∙ ap (λ (t : List ℕ). lookup (shapes shifted 10) t w) part
-            ∙ looked-up n p (omega arith) e _ s a s′ a′ l;
+            ap (λ (x : ℕ). advance reads nr set x w) one
+            ∙ ap (λ (t : List ℕ). lookup (shapes reads nr) t w) part
+            ∙ looked-up reads nr n p inside e _ s a s′ a′ l;
         kept = l .kept;
         long = l .long;
       }
 
   pub all-advanced : {all m : ℕ} → m ≡ widthOf (p .stage) → all ≡ layerLookups m → p .index ≡ 0 → all ≤ stop - n → length s ≡ 16 → length a ≡ 256
-      → s′ ≡ sumsIn (shapeAt shifted (p .stage)) set (p .offset) s a → a′ ≡ zeroArea → Advanced set n stop (n + all) s a s′ a′
+      → s′ ≡ sumsIn (shapeAt reads (p .stage)) set (p .offset) s a → a′ ≡ zeroArea → Advanced reads nr set n stop (n + all) s a s′ a′
   all-advanced {all} {m} v c z r ls la f g =
-      let h : n < 3008 = omega arith in
-      let after : ℕ → List ℕ → List ℕ → Walk = λ k u v. record { count = k; standing = u; area = v } in
+      let inside : n < lookups nr = omega (arith, N .all-lookups) in
       let x : n + all - n ≡ all = omega arith in
-      let q : all ≡ layerLookups (widthOf (stageOf 10 n)) = c ∙ ap layerLookups v ∙ ap (λ (p : Place). layerLookups (widthOf (p .stage))) e in
-      let sums : sumsIn (shapeAt shifted (stageOf 10 n)) set (tableOffset 10 n) s a ≡ s′ =
-      ap (λ (p : Place). sumsIn (shapeAt shifted (p .stage)) set (p .offset) s a) (sym e) ∙ sym f in
+      let q : all ≡ layerLookups (widthOf (stageOf nr n)) = c ∙ ap layerLookups v ∙ ap (λ (p : Place). layerLookups (widthOf (p .stage))) e in
+      let i : indexOf nr n ≡ 0 = ap (λ (p : Place). p .index) (sym e) ∙ z in
+      let sums : sumsIn (shapeAt reads (stageOf nr n)) set (tableOffset nr n) s a ≡ s′ =
+      ap (λ (p : Place). sumsIn (shapeAt reads (p .stage)) set (p .offset) s a) (sym e) ∙ sym f in
       record {
         more = omega (arith, layer-lookups m);
         most = omega arith;
         walk =
-            ap (λ (x : ℕ). advance shifted 10 set x (after n s a)) (x ∙ q)
-            ∙ layer-walk set n h (index-0 n p h e z) s a
-            ∙ ap (λ (k : ℕ). after (n + k) (sumsIn (shapeAt shifted (stageOf 10 n)) set (tableOffset 10 n) s a) zeroArea) (sym q)
-            ∙ ap₂ (after (n + all)) sums (sym g);
-        kept = ap length f ∙ length-sums-in (shapeAt shifted (p .stage)) set (p .offset) s a ∙ sym ls;
+            ap (λ (x : ℕ). advance reads nr set x (stateAt n s a)) (x ∙ q)
+            ∙ layer-walk reads nr set n inside i s a
+            ∙ ap (λ (k : ℕ). stateAt (n + k) (sumsIn (shapeAt reads (stageOf nr n)) set (tableOffset nr n) s a) zeroArea) (sym q)
+            ∙ ap₂ (stateAt (n + all)) sums (sym g);
+        kept = ap length f ∙ length-sums-in (shapeAt reads (p .stage)) set (p .offset) s a ∙ sym ls;
         long = ap length g ∙ length-replicate {A = ℕ} 256 0 ∙ sym la;
       }
 
 -- ---- the loop over a set, from the walk w₀: at count n, with standing bytes s and area a, what is left of the way to the stop ends as all of it
-pub record Going (set : List ℕ) (stop : ℕ) (w₀ : Walk) (s a : List ℕ) (n : ℕ) : Type 0 where
+pub record Going (reads : ℕ → ℕ) (nr : ℕ) (set : List ℕ) (stop : ℕ) (w₀ : State) (s a : List ℕ) (n : ℕ) : Type 0 where
   pub within : n ≤ stop
   pub kept : length s ≡ 16
   pub long : length a ≡ 256
-  pub same : advance shifted 10 set (stop - w₀ .count) w₀ ≡ advance shifted 10 set (stop - n) (record { count = n; standing = s; area = a })
+  pub same : advance reads nr set (stop - w₀ .count) w₀ ≡ advance reads nr set (stop - n) (stateAt n s a)
 
-pub going-none : {set : List ℕ} {stop n : ℕ} {s a : List ℕ} → n ≤ stop → length s ≡ 16 → length a ≡ 256
-    → Going set stop (record { count = n; standing = s; area = a }) s a n
+pub going-none : {reads : ℕ → ℕ} {nr : ℕ} {set : List ℕ} {stop n : ℕ} {s a : List ℕ} → n ≤ stop → length s ≡ 16 → length a ≡ 256
+    → Going reads nr set stop (stateAt n s a) s a n
 going-none h l k = record { within = h; kept = l; long = k; same = refl }
 
-module _ {set : List ℕ} {stop : ℕ} {w₀ : Walk} {s a : List ℕ} {n : ℕ} (I : Going set stop w₀ s a n) where
-  pub going-more : {r : ℕ} {s′ a′ : List ℕ} → Advanced set n stop r s a s′ a′ → Going set stop w₀ s′ a′ r
+module _ {reads : ℕ → ℕ} {nr : ℕ} {set : List ℕ} {stop : ℕ} {w₀ : State} {s a : List ℕ} {n : ℕ} (I : Going reads nr set stop w₀ s a n) where
+  pub going-more : {r : ℕ} {s′ a′ : List ℕ} → Advanced reads nr set n stop r s a s′ a′ → Going reads nr set stop w₀ s′ a′ r
   going-more {r} d =
-      let w : Walk = record { count = n; standing = s; area = a } in
+      let w : State = stateAt n s a in
       let e : stop - n ≡ r - n + (stop - r) = omega (arith, d .more, d .most) in
       record {
         within = d .most;
@@ -134,121 +129,105 @@ module _ {set : List ℕ} {stop : ℕ} {w₀ : Walk} {s a : List ℕ} {n : ℕ} 
         long = d .long ∙ I .long;
         same =
             I .same
-            ∙ ap (λ (x : ℕ). advance shifted 10 set x w) e
-            ∙ advance-split set (r - n) (stop - r) w
-            ∙ ap (advance shifted 10 set (stop - r)) (d .walk);
+            ∙ ap (λ (x : ℕ). advance reads nr set x w) e
+            ∙ advance-split reads nr set (r - n) (stop - r) w
+            ∙ ap (advance reads nr set (stop - r)) (d .walk);
       }
 
-  pub going-all : stop ≤ n → record { count = n; standing = s; area = a } ≡ advance shifted 10 set (stop - w₀ .count) w₀
+  pub going-all : stop ≤ n → stateAt n s a ≡ advance reads nr set (stop - w₀ .count) w₀
   unfolding advance
   going-all h =
       let z : stop - n ≡ 0 = omega arith in
-      sym (I .same ∙ ap (λ (x : ℕ). advance shifted 10 set x (record { count = n; standing = s; area = a })) z)
+      sym (I .same ∙ ap (λ (x : ℕ). advance reads nr set x (stateAt n s a)) z)
 
 -- ---- start
 pub start-refused : (block : List ℕ) → (length block ≡ 16 → ⊥)
-    → (refused 10 0 ≡ judgeStart (length block)) × (record { count = 0; standing = replicate 16 0; area = zeroArea } ≡ started block)
-unfolding started judgeStart lowest
-start-refused block n = (rw (ne-eqb (length block) 16 n), rw (ne-eqb (length block) 16 n))
+    → (Refused BlockLength ≡ judgeStart (length block)) × (holding (stateAt 0 (replicate 16 0) zeroArea) ≡ started block)
+unfolding started
+start-refused block n =
+    let j = presented-wrong (length block) n in
+    (j, left-old _ BlockLength _ _ (sym j))
 
--- The standing bytes s are the block, copied.
-pub start-done : (block s : List ℕ) (i : ℕ) → length block ≡ 16 → Filled 16 (at block) s i → 16 ≤ i
-    → (accepted ≡ judgeStart (length block)) × (record { count = 0; standing = s; area = zeroArea } ≡ started block)
-unfolding started judgeStart lowest
-start-done block s i l f h =
-    let same : s ≡ block = copied f h l in
-    (rw (eq-eqb (length block) 16 l), rw (eq-eqb (length block) 16 l, same))
+-- The standing bytes s are the block.
+pub start-done : (block s : List ℕ) → length block ≡ 16 → s ≡ block
+    → (Accepted ≡ judgeStart (length block)) × (holding (stateAt 0 s zeroArea) ≡ started block)
+unfolding started
+start-done block s l e =
+    let begun : List ℕ → Held = λ x. holding (stateAt 0 x zeroArea) in
+    let j = presented-right (length block) l in
+    (j, ap begun e ∙ left-new _ _ _ (sym j))
 
--- ---- a move to a stop
-module _ (len stop count : ℕ) where
-  stop-9 : (len ≡ 770048 → ⊥) → judgeStop 10 len stop count ≡ refused 9 0
-  unfolding judgeStop lowest
-  stop-9 n = rw (starred .all-bytes, ne-eqb len 770048 n)
+-- ---- a move: the answer, and the walk handed back
+abbrev pub Answers : (ℕ → ℕ) → ℕ → Call → Held → Answer → Held → Type 0
+Answers reads nr c w r w′ = (r ≡ answer reads nr c w) × (w′ ≡ handed reads nr c w)
 
-  stop-11-above : len ≡ 770048 → 3008 < stop → judgeStop 10 len stop count ≡ refused 11 0
-  unfolding judgeStop lowest
-  stop-11-above l h = rw (starred .all-bytes, eq-eqb len 770048 l, starred .all-lookups, lt-ltb 3008 stop h)
+-- A refused one leaves the walk as it was.
+module _ (reads : ℕ → ℕ) {nr count bytes : ℕ} (N : Sizes nr count bytes) (set : List ℕ) (stop : ℕ) (w : Held) where
+  not-moved : (r : Refusal) → Refused r ≡ judgeStop nr (length set) stop (w .state .count) → Answers reads nr (toStop set stop) w (Refused r) w
+  unfolding answer handed
+  not-moved r e = (e, left-old _ r _ w (sym e))
 
-  stop-11-below : len ≡ 770048 → stop ≤ 3008 → stop < count → judgeStop 10 len stop count ≡ refused 11 0
-  unfolding judgeStop lowest
-  stop-11-below l h b = rw (starred .all-bytes, eq-eqb len 770048 l, starred .all-lookups, le-ltb 3008 stop h, lt-ltb stop count b)
+  pub wrong-set : (length set ≡ bytes → ⊥) → Answers reads nr (toStop set stop) w (Refused SetLength) w
+  wrong-set n = not-moved SetLength (set-wrong nr _ _ _ (λ e. n (e ∙ N .all-bytes)))
 
-  stop-accepted : len ≡ 770048 → stop ≤ 3008 → count ≤ stop → judgeStop 10 len stop count ≡ accepted
-  unfolding judgeStop lowest
-  stop-accepted l h b = rw (starred .all-bytes, eq-eqb len 770048 l, starred .all-lookups, le-ltb 3008 stop h, le-ltb stop count b)
+  module _ (l : length set ≡ bytes) where
+    long : length set ≡ setBytes nr
+    long = l ∙ sym (N .all-bytes)
 
-abbrev pub Answers : Call → Walk → Reply → Walk → Type 0
-Answers c w r w′ = (r ≡ reply shifted 10 c w) × (w′ ≡ handed shifted 10 c w)
+    pub stop-above : count < stop → Answers reads nr (toStop set stop) w (Refused Stop) w
+    stop-above h = not-moved Stop (judged.stop-above nr _ _ _ long (omega (arith, N .all-lookups)))
 
-module _ (set : List ℕ) (stop : ℕ) (w : Walk) where
-  stop-refused : (i : ℕ) → judgeStop 10 (length set) stop (w .count) ≡ refused i 0 → Answers (toStop set stop) w (refused i 0) w
-  unfolding reply handed
-  stop-refused i e = (sym e, rw e)
+    pub stop-below : stop ≤ count → stop < w .state .count → Answers reads nr (toStop set stop) w (Refused Stop) w
+    stop-below h b = not-moved Stop (judged.stop-below nr _ _ _ long (omega (arith, N .all-lookups)) b)
 
-  pub wrong-set : (length set ≡ 770048 → ⊥) → Answers (toStop set stop) w (refused 9 0) w
-  wrong-set n = stop-refused 9 (stop-9 (length set) stop (w .count) n)
+    pub stop-done : (w′ : Held) → stop ≤ count → w .state .count ≤ stop → w′ ≡ changed (advance reads nr set (stop - w .state .count)) w
+        → Answers reads nr (toStop set stop) w Accepted w′
+    unfolding answer handed
+    stop-done w′ h b e =
+        let j = stop-right nr _ stop (w .state .count) long (omega (arith, N .all-lookups)) b in
+        (j, e ∙ left-new _ _ w (sym j))
 
-  pub stop-above : length set ≡ 770048 → 3008 < stop → Answers (toStop set stop) w (refused 11 0) w
-  stop-above l h = stop-refused 11 (stop-11-above (length set) stop (w .count) l h)
+module _ (reads : ℕ → ℕ) {nr count bytes : ℕ} (N : Sizes nr count bytes) (table : List ℕ) (w : Held) where
+  not-looked : (r : Refusal) → Refused r ≡ judgeOne nr (length table) (w .state .count) → Answers reads nr (oneLookup table) w (Refused r) w
+  unfolding answer handed
+  not-looked r e = (e, left-old _ r _ w (sym e))
 
-  pub stop-below : length set ≡ 770048 → stop ≤ 3008 → stop < w .count → Answers (toStop set stop) w (refused 11 0) w
-  stop-below l h b = stop-refused 11 (stop-11-below (length set) stop (w .count) l h b)
+  pub no-lookup : count ≤ w .state .count → Answers reads nr (oneLookup table) w (Refused Stop) w
+  no-lookup h = not-looked Stop (none-left nr _ _ (omega (arith, N .all-lookups)))
 
-  pub stop-done : (w′ : Walk) → length set ≡ 770048 → stop ≤ 3008 → w .count ≤ stop → w′ ≡ advance shifted 10 set (stop - w .count) w
-      → Answers (toStop set stop) w accepted w′
-  unfolding reply handed
-  stop-done w′ l h b e =
-      let j = stop-accepted (length set) stop (w .count) l h b in
-      (sym j, rw j e)
+  module _ (p : Place) (h : w .state .count < count) (e : p ≡ placeOf nr (w .state .count)) where
+    left : w .state .count < lookups nr
+    left = omega (arith, N .all-lookups)
 
--- ---- a move of one lookup
-module _ (table : List ℕ) (w : Walk) where
-  pub no-lookup : 3008 ≤ w .count → Answers (oneLookup table) w (refused 11 0) w
-  unfolding reply handed judgeOne
-  no-lookup h = (rw (starred .all-lookups, le-ltb (w .count) 3008 h), rw (starred .all-lookups, le-ltb (w .count) 3008 h))
-
-  module _ (p : Place) (h : w .count < 3008) (e : p ≡ placeOf 10 (w .count)) where
-    size-is : tableSize 10 (w .count) ≡ p .size
-    size-is = ap (λ (p : Place). p .size) (sym e)
-
-    pub wrong-table : (length table ≡ p .size → ⊥) → Answers (oneLookup table) w (refused 9 0) w
-    unfolding reply handed judgeOne lowest
-    wrong-table n = (
-      rw (starred .all-lookups, lt-ltb (w .count) 3008 h, size-is, ne-eqb (length table) (p .size) n),
-      rw (starred .all-lookups, lt-ltb (w .count) 3008 h, size-is, ne-eqb (length table) (p .size) n),
-    )
+    pub wrong-table : (length table ≡ p .size → ⊥) → Answers reads nr (oneLookup table) w (Refused SetLength) w
+    wrong-table n = not-looked SetLength (table-wrong nr _ _ left (λ l. n (l ∙ sym (stands left e .size))))
 
     pub one-done : (s′ a′ : List ℕ) → length table ≡ p .size
-        → LookedUp (shapeAt shifted (p .stage)) (p .index) table (w .standing) (w .area) s′ a′
-        → Answers (oneLookup table) w accepted (record { count = w .count + 1; standing = s′; area = a′ })
-    unfolding reply handed judgeOne lowest
-    one-done s′ a′ l u = (
-      rw (starred .all-lookups, lt-ltb (w .count) 3008 h, size-is, eq-eqb (length table) (p .size) l),
-      rw (starred .all-lookups, lt-ltb (w .count) 3008 h, size-is, eq-eqb (length table) (p .size) l)
-          (sym (looked-up (w .count) p h e table (w .standing) (w .area) s′ a′ u)),
-    )
+        → LookedUp (shapeAt reads (p .stage)) (p .index) table (w .state .standing) (w .state .area) s′ a′
+        → Answers reads nr (oneLookup table) w Accepted (changed (λ (s : State). stateAt (s .count + 1) s′ a′) w)
+    unfolding answer handed
+    one-done s′ a′ l u =
+        let j = table-right nr _ _ left (l ∙ stands left e .size) in
+        (j, ap holding (sym (looked-up reads nr (w .state .count) p left e table (w .state .standing) (w .state .area) s′ a′ u)) ∙ left-new _ _ w (sym j))
 
--- ---- fetch
-abbrev pub Fetches : List ℕ → Walk → Reply → List ℕ → Type 0
-Fetches block w r left = (r ≡ reply shifted 10 (fetch block) w) × (left ≡ blockLeft shifted 10 (fetch block) w)
+-- ---- fetch: the answer, and the block as it is left
+abbrev pub Fetches : (ℕ → ℕ) → ℕ → List ℕ → Held → Answer → List ℕ → Type 0
+Fetches reads nr block w r left = (r ≡ answer reads nr (fetch block) w) × (left ≡ blockLeft reads nr (fetch block) w)
 
-module _ (block : List ℕ) (w : Walk) where
-  pub wrong-block : (length block ≡ 16 → ⊥) → Fetches block w (refused 10 0) block
-  unfolding reply blockLeft judgeFetch lowest
-  wrong-block n = (rw (ne-eqb (length block) 16 n), rw (ne-eqb (length block) 16 n))
+module _ (reads : ℕ → ℕ) {nr count bytes : ℕ} (N : Sizes nr count bytes) (block : List ℕ) (w : Held) where
+  not-fetched : (r : Refusal) → Refused r ≡ judgeFetch nr (length block) (w .state .count) → Fetches reads nr block w (Refused r) block
+  unfolding answer blockLeft
+  not-fetched r e = (e, left-old _ r _ block (sym e))
 
-  pub unfinished : length block ≡ 16 → (w .count ≡ 3008 → ⊥) → Fetches block w (refused 12 0) block
-  unfolding reply blockLeft judgeFetch lowest
-  unfinished l n = (
-    rw (eq-eqb (length block) 16 l, starred .all-lookups, ne-eqb (w .count) 3008 n),
-    rw (eq-eqb (length block) 16 l, starred .all-lookups, ne-eqb (w .count) 3008 n),
-  )
+  pub wrong-block : (length block ≡ 16 → ⊥) → Fetches reads nr block w (Refused BlockLength) block
+  wrong-block n = not-fetched BlockLength (block-wrong nr _ _ n)
 
-  -- The block is left as the standing bytes, copied.
-  pub fetched : (left : List ℕ) (i : ℕ) → length block ≡ 16 → w .count ≡ 3008 → Filled 16 (at (w .standing)) left i → 16 ≤ i → length (w .standing) ≡ 16
-      → Fetches block w accepted left
-  unfolding reply blockLeft judgeFetch lowest
-  fetched left i l n f h k = (
-    rw (eq-eqb (length block) 16 l, starred .all-lookups, eq-eqb (w .count) 3008 n),
-    rw (eq-eqb (length block) 16 l, starred .all-lookups, eq-eqb (w .count) 3008 n) (copied f h k),
-  )
+  pub unfinished : length block ≡ 16 → (w .state .count ≡ count → ⊥) → Fetches reads nr block w (Refused Unfinished) block
+  unfinished l n = not-fetched Unfinished (count-wrong nr _ _ l (λ e. n (e ∙ N .all-lookups)))
+
+  -- The block is left as the standing bytes.
+  pub fetched : (left : List ℕ) → length block ≡ 16 → w .state .count ≡ count → left ≡ w .state .standing → Fetches reads nr block w Accepted left
+  unfolding answer blockLeft
+  fetched left l n e =
+      let j = count-right nr _ _ l (n ∙ sym (N .all-lookups)) in
+      (j, e ∙ left-new _ _ block (sym j))

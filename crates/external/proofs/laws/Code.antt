@@ -1,14 +1,18 @@
 -- Laws, not definitions: the definitions as the code meets them.
 -- Assumes nothing.
-use mathlib.Core.Bool.{Bool, true, false, cond, _&&_}
+use mathlib.Core.Bool.{Bool, true, false}
 use mathlib.Core.List.{List}
 use mathlib.Core.Path.{_≡_, refl, sym, ap, ap₂, _∙_, subst}
 use Prim.Native.Nat.{ℕ, _+_, _*_, _/_, _%_, _≤_, _<_}
 use native.Mathlib.Nat.{zero-add}
 use native.Mathlib.Omega.{arith}
-use lib.Dec.{eqb}
 use lib.ListN.{length}
-use borrow.Author.Tests.{eq-eqb, ne-eqb, eqb-true}
+use Rattle.answers.specs.Answers.{wantsLength, andThen, ifAccepted}
+use Rattle.answers.specs.declared.Answer.{Answer}
+use Rattle.answers.specs.declared.Answer.the-variants.{Accepted, Refused}
+use Rattle.answers.specs.declared.Refusal.{Refusal}
+use Rattle.answers.specs.declared.Refusal.the-variants.{BlockLength}
+use Rattle.answers.proofs.laws.Tests.{first-refuses, second-decides, both, from-wrong, to-wrong, lengths-right, lengths-were, left-new, left-old}
 use Rattle.bits.specs.Bytes.{Bytes, number, bytesOf}
 use Rattle.bits.specs.Encodings.{encode, decode, imagesOf, Permutation}
 use Rattle.bits.specs.Lists.{at, tabulate}
@@ -16,28 +20,21 @@ use Rattle.bits.specs.Nibbles.{pack, nibble, packed}
 use Rattle.bits.proofs.laws.Encodings.{decode-lt}
 use Rattle.bits.proofs.laws.Filled.{Filled, filled-all}
 use Rattle.bits.proofs.laws.Groups.{joined-same}
-use Rattle.bits.proofs.laws.Lists.{tabulate-at, tabulate-ext}
+use Rattle.bits.proofs.laws.Lists.{tabulate-ext}
 use Rattle.bits.proofs.laws.Nibbles.{nibble-even, nibble-odd, length-packed}
-use Rattle.matrices.specs.Matrices.{product, RowsFit, Invertible, matrixOf}
+use Rattle.matrices.specs.Matrices.{product, Invertible, matrixOf}
 use Rattle.matrices.specs.Rows.{rowsOf, stored}
-use Rattle.matrices.proofs.laws.Stored.{matrixOf-fits, read-rows}
-use Rattle.matrices.proofs.laws.Rows.{rows-stored}
-use Rattle.inversion.specs.Elimination.{Inversion, inverse, singular, invert, rowsIn, inverseOf, hasInverse, withInverse}
-use Rattle.inversion.proofs.laws.Inverses.{answered, exact}
+use Rattle.matrices.proofs.laws.Stored.{read-rows}
+use Rattle.inversion.specs.Elimination.{invert, inverseOf, hasInverse, withInverse}
+use Rattle.inversion.proofs.laws.Inverses.{has-inverse, inverse-left}
 use Rattle.bundle.specs.Format.{encodings, encodingOf, frame, partAt, inputMatrixPart, outputMatrixPart}
-use Rattle.bundle.specs.declared.answer.Judgement.{Judgement}
-use Rattle.bundle.specs.declared.answer.Judgement.the-variants.{Accepted, Refused}
-use Rattle.bundle.specs.declared.answer.Refusal.{Refusal}
 use Rattle.bundle.proofs.laws.Code.{block-room}
 use Rattle.bundle.proofs.laws.Parts.{at-bytes}
-use Rattle.bundle.proofs.laws.Tests.{first-accepted}
 use Rattle.judgement.specs.Judge.{judge}
 use Rattle.judgement.proofs.laws.Judgements.{accepted-sound}
-use Rattle.external.specs.Calls.{answer, unlessRefused, written, leaves}
+use Rattle.external.specs.Calls.{answer, leaves}
 use Rattle.external.specs.Coding.{encodeNibbles, decodeNibbles, multiply, encodeBy, decodeBy}
-use Rattle.external.specs.Coding.{encodeInput, decodeInput, outputFirst, encodeOutput, decodeOutput}
-use Rattle.external.specs.declared.coding.Coded.{Coded}
-use Rattle.external.specs.declared.coding.Coded.the-variants.{Done, Bundle, BlockLength}
+use Rattle.external.specs.Coding.{encodeInput, decodeInput, outputFirst, tenOutputFirst, encodeOutput, decodeOutput}
 use Rattle.external.proofs.laws.Coding.{multiply-block, accepted-encodings}
 
 -- ---- encodings on nibbles, byte by byte: g is `encode` or `decode`
@@ -91,100 +88,70 @@ multiplied-read p x a b d h e q = q ∙ ap (λ (r : List ℕ). multiply r x) (re
 pub multiply-long : (m x t : List ℕ) → t ≡ multiply m x → length t ≡ 16
 multiply-long m x t e = ap length e ∙ multiply-block m x .long
 
-inverse-stored : (m b b′ : List ℕ) → RowsFit 128 (at m) → 256 ≤ length b → (r : Inversion) → invert 128 m ≡ r → hasInverse r ≡ true
-    → b′ ≡ withInverse 128 r b → rowsOf 128 b′ ≡ rowsIn r
-inverse-stored m b b′ fits h (inverse c) e t q =
-    ap (rowsOf 128) q ∙ rows-stored 128 (at c) b (omega arith) ∙ tabulate-at 128 c (answered 128 m c fits e .long)
-inverse-stored m b b′ fits h singular e t q = let y : _≡_ {A = ℕ} 0 1 = cc in absurd (omega arith)
+-- By the inverse of the matrix that bytes write: the inversion leaves the rows a, which had the place b.
+module _ (p : List ℕ) (has : hasInverse (invert 128 (matrixOf 16 p)) ≡ true) where
+  pub multiplied-back : Bytes p → (x a b d : List ℕ) → 256 ≤ length b → a ≡ withInverse 128 (invert 128 (matrixOf 16 p)) b
+      → d ≡ multiply (rowsOf 128 a) x → d ≡ multiply (inverseOf 128 (matrixOf 16 p)) x
+  multiplied-back bytes x a b d h e q = q ∙ ap (λ (r : List ℕ). multiply r x) (inverse-left 16 p bytes b a has h e)
 
--- By the inverse: a is read as above, and `invert` leaves the rows c, which had the place d.
-module _ (p : List ℕ) (bytes : Bytes p) (has : hasInverse (invert 128 (matrixOf 16 p)) ≡ true) (a b : List ℕ) (room : 256 ≤ length b)
-    (read : a ≡ stored 128 (at (matrixOf 16 p)) b) where
-  rows : rowsOf 128 a ≡ matrixOf 16 p
-  rows = read-rows 16 p b a room read
-
-  pub multiplied-back : (x c d o : List ℕ) → 256 ≤ length d → c ≡ withInverse 128 (invert 128 (rowsOf 128 a)) d
-      → o ≡ multiply (rowsOf 128 c) x → o ≡ multiply (inverseOf 128 (matrixOf 16 p)) x
-  unfolding inverseOf
-  multiplied-back x c d o h e q =
-      let left = e ∙ ap (λ (m : List ℕ). withInverse 128 (invert 128 m) d) rows in
-      q ∙ ap (λ (r : List ℕ). multiply r x)
-      (inverse-stored (matrixOf 16 p) d c (matrixOf-fits 16 p bytes) h (invert 128 (matrixOf 16 p)) refl has left)
-
-  pub never-singular : (r : Bool) → r ≡ hasInverse (invert 128 (rowsOf 128 a)) → r ≡ false → ⊥
-  never-singular r e f =
-      let same = e ∙ ap (λ (m : List ℕ). hasInverse (invert 128 m)) rows in
-      let y : _≡_ {A = ℕ} 0 1 = cc in omega arith
+  pub never-singular : (r : Bool) → r ≡ hasInverse (invert 128 (matrixOf 16 p)) → r ≡ false → ⊥
+  never-singular r e f = let y : _≡_ {A = ℕ} 0 1 = cc in omega arith
 
 -- ---- answers: j is what the code's judgement answers
-module _ (nr : ℕ) (l : List ℕ) (from to : ℕ) (j : Judgement) (judged : j ≡ judge nr l) where
-  pub answer-bundle : (r : Refusal) → j ≡ Refused r → Bundle r ≡ answer nr l from to
+module _ (nr : ℕ) (l : List ℕ) (from to : ℕ) (j : Answer) (judged : j ≡ judge nr l) where
+  pub answer-bundle : (r : Refusal) → j ≡ Refused r → j ≡ answer nr l from to
   unfolding answer
-  answer-bundle r e = rw (← judged, e)
+  answer-bundle r e = e ∙ first-refuses _ _ r (sym judged ∙ e)
 
-  pub answer-from : j ≡ Accepted → (from ≡ 16 → ⊥) → BlockLength ≡ answer nr l from to
+  by-blocks : j ≡ Accepted → andThen (wantsLength 16 from BlockLength) (wantsLength 16 to BlockLength) ≡ answer nr l from to
   unfolding answer
-  answer-from e n = rw (← judged, e, ne-eqb from 16 n)
+  by-blocks e = second-decides _ _ (sym judged ∙ e)
 
-  pub answer-to : j ≡ Accepted → from ≡ 16 → (to ≡ 16 → ⊥) → BlockLength ≡ answer nr l from to
-  unfolding answer
-  answer-to e p n = rw (← judged, e, eq-eqb from 16 p, ne-eqb to 16 n)
+  pub answer-from : j ≡ Accepted → (from ≡ 16 → ⊥) → Refused BlockLength ≡ answer nr l from to
+  answer-from e n = from-wrong 16 from to BlockLength n ∙ by-blocks e
 
-  pub answer-done : j ≡ Accepted → from ≡ 16 → to ≡ 16 → Done ≡ answer nr l from to
-  unfolding answer
-  answer-done e p q = rw (← judged, e, eq-eqb from 16 p, eq-eqb to 16 q)
+  pub answer-to : j ≡ Accepted → from ≡ 16 → (to ≡ 16 → ⊥) → Refused BlockLength ≡ answer nr l from to
+  answer-to e p n = to-wrong 16 from to BlockLength p n ∙ by-blocks e
 
--- What an answer says of the bundle and the blocks.
+  pub answer-accepted : j ≡ Accepted → from ≡ 16 → to ≡ 16 → j ≡ answer nr l from to
+  answer-accepted e p q = e ∙ lengths-right 16 from to BlockLength p q ∙ by-blocks e
+
+-- What an accepted call was lent.
 pub record Ready (nr : ℕ) (l : List ℕ) (from to : ℕ) : Type 0 where
   pub judged : judge nr l ≡ Accepted
   pub long : from ≡ 16
   pub room : to ≡ 16
 
-both-true : (a b : Bool) → cond (a && b) Done BlockLength ≡ Done → (a ≡ true) × (b ≡ true)
-both-true true true e = (refl, refl)
-both-true true false e = let y : _≡_ {A = ℕ} 0 1 = cc in absurd (omega arith)
-both-true false b e = let y : _≡_ {A = ℕ} 0 1 = cc in absurd (omega arith)
-
-ready-by : (nr : ℕ) (l : List ℕ) (from to : ℕ) (j : Judgement) → judge nr l ≡ j
-    → unlessRefused j (cond (eqb from 16 && eqb to 16) Done BlockLength) ≡ Done → Ready nr l from to
-ready-by nr l from to Accepted e q =
-    let B = both-true (eqb from 16) (eqb to 16) q in
-    record { judged = e; long = eqb-true from 16 (B .0); room = eqb-true to 16 (B .1) }
-ready-by nr l from to (Refused r) e q = let y : _≡_ {A = ℕ} 0 1 = cc in absurd (omega arith)
-
-pub done-ready : {nr : ℕ} {l : List ℕ} {from to : ℕ} {a : Coded} → a ≡ answer nr l from to → a ≡ Done → Ready nr l from to
+pub accepted-ready : {nr : ℕ} {l : List ℕ} {from to : ℕ} {a : Answer} → a ≡ answer nr l from to → a ≡ Accepted → Ready nr l from to
 unfolding answer
-done-ready {nr} {l} {from} {to} e d = ready-by nr l from to (judge nr l) refl (sym e ∙ d)
+accepted-ready {nr} {l} {from} {to} e d =
+    let whole = both (judge nr l) _ (sym e ∙ d) in
+    let blocks = lengths-were 16 from to BlockLength (whole .second) in
+    record { judged = whole .first; long = blocks .0; room = blocks .1 }
 
--- ---- what a call answers and leaves of the lent block `old`, where c is the answer for the bundle and the blocks and a what the code has of it
-module _ {a c : Coded} (e : a ≡ c) (new old : List ℕ) where
-  same : {b : Coded} → a ≡ b → {out : List ℕ} → out ≡ written b new old → (b ≡ c) × (out ≡ written c new old)
-  same f q = (sym f ∙ e, q ∙ ap (λ (x : Coded). written x new old) (sym f ∙ e))
+-- ---- what a call leaves of the lent block `old`, where c is the answer for the bundle and the blocks and a what the code has of it
+module _ {a c : Answer} (e : a ≡ c) where
+  pub refused : {r : Refusal} (new old : List ℕ) → a ≡ Refused r → old ≡ ifAccepted c new old
+  refused {r} new old f = left-old c r new old (sym e ∙ f)
 
-  pub bundle-refused : {r : Refusal} → a ≡ Bundle r → (Bundle r ≡ c) × (old ≡ written c new old)
-  bundle-refused f = same f refl
+  -- Both steps done.
+  module _ (done : a ≡ Accepted) (E : ℕ → List ℕ) (first : ℕ) (m x t old out : List ℕ) where
+    pub encoded-by : t ≡ multiply m x → out ≡ encodeNibbles E first t → out ≡ ifAccepted c (encodeBy E first m x) old
+    unfolding encodeBy
+    encoded-by p q = (q ∙ ap (encodeNibbles E first) p) ∙ left-new c _ old (sym e ∙ done)
 
-  pub block-refused : a ≡ BlockLength → (BlockLength ≡ c) × (old ≡ written c new old)
-  block-refused f = same f refl
-
--- Both steps done.
-module _ {a c : Coded} (e : a ≡ c) (done : a ≡ Done) (E : ℕ → List ℕ) (first : ℕ) (m x t old out : List ℕ) where
-  pub encoded-by : t ≡ multiply m x → out ≡ encodeNibbles E first t → (Done ≡ c) × (out ≡ written c (encodeBy E first m x) old)
-  unfolding encodeBy
-  encoded-by p q = same e (encodeBy E first m x) old done (q ∙ ap (encodeNibbles E first) p)
-
-  pub decoded-by : t ≡ decodeNibbles E first x → out ≡ multiply (inverseOf 128 m) t → (Done ≡ c) × (out ≡ written c (decodeBy E first m x) old)
-  unfolding decodeBy
-  decoded-by p q = same e (decodeBy E first m x) old done (q ∙ ap (multiply (inverseOf 128 m)) p)
+    pub decoded-by : t ≡ decodeNibbles E first x → out ≡ multiply (inverseOf 128 m) t → out ≡ ifAccepted c (decodeBy E first m x) old
+    unfolding decodeBy
+    decoded-by p q = (q ∙ ap (multiply (inverseOf 128 m)) p) ∙ left-new c _ old (sym e ∙ done)
 
 -- ---- the block matrices of an accepted bundle, as the public calls lend them: the part p
 module _ (nr : ℕ) (l : List ℕ) (s : ℕ) (h : 3 ≤ s) (k : s < 5) (p : List ℕ) (e : p ≡ partAt nr l s 0) where
   matrix-room : judge nr l ≡ Accepted → 2048 ≤ length p
   unfolding judge
-  matrix-room a = block-room nr l s (first-accepted (frame nr l) _ a) h k p e
+  matrix-room a = block-room nr l s (both (frame nr l) _ a .first) h k p e
 
-has-inverse : (p q : List ℕ) → p ≡ q → Bytes q → Invertible 128 (matrixOf 16 q) → hasInverse (invert 128 (matrixOf 16 p)) ≡ true
-has-inverse p q e bytes I = rw e (ap hasInverse (exact 128 (matrixOf 16 q) (matrixOf-fits 16 q bytes) I .1))
+part-has : (p q : List ℕ) → p ≡ q → Bytes q → Invertible 128 (matrixOf 16 q) → hasInverse (invert 128 (matrixOf 16 p)) ≡ true
+part-has p q e bytes I = rw e (has-inverse 16 q bytes I)
 
 module _ (nr : ℕ) (l : List ℕ) {p : List ℕ} where
   pub input-long : p ≡ inputMatrixPart nr l → judge nr l ≡ Accepted → 2048 ≤ length p
@@ -195,14 +162,14 @@ module _ (nr : ℕ) (l : List ℕ) {p : List ℕ} where
 
   pub input-has : p ≡ inputMatrixPart nr l → Bytes l → judge nr l ≡ Accepted
       → (2048 ≤ length p) × (hasInverse (invert 128 (matrixOf 16 p)) ≡ true)
-  input-has e bytes a = (input-long e a, has-inverse p _ e (at-bytes nr l 3 0 bytes) (accepted-sound nr l bytes a .input))
+  input-has e bytes a = (input-long e a, part-has p _ e (at-bytes nr l 3 0 bytes) (accepted-sound nr l bytes a .input))
 
   pub output-has : p ≡ outputMatrixPart nr l → Bytes l → judge nr l ≡ Accepted
       → (2048 ≤ length p) × (hasInverse (invert 128 (matrixOf 16 p)) ≡ true)
-  output-has e bytes a = (output-long e a, has-inverse p _ e (at-bytes nr l 4 0 bytes) (accepted-sound nr l bytes a .output))
+  output-has e bytes a = (output-long e a, part-has p _ e (at-bytes nr l 4 0 bytes) (accepted-sound nr l bytes a .output))
 
 -- ---- the four codings: what the code does with the part p is what the definition does with the bundle's matrix
-output-first : outputFirst 10 ≡ 6016
+output-first : outputFirst 10 ≡ tenOutputFirst
 unfolding outputFirst encodings
 output-first = refl
 
@@ -217,18 +184,18 @@ module _ (l x old : List ℕ) {p out : List ℕ} where
   unfolding decodeInput
   input-decoded e q = q ∙ rw e
 
-  pub output-encoded : p ≡ outputMatrixPart 10 l → out ≡ leaves 10 l (encodeBy (encodingOf 10 l) 6016 (matrixOf 16 p)) x old
+  pub output-encoded : p ≡ outputMatrixPart 10 l → out ≡ leaves 10 l (encodeBy (encodingOf 10 l) tenOutputFirst (matrixOf 16 p)) x old
       → out ≡ leaves 10 l (encodeOutput 10 l) x old
   unfolding encodeOutput
   output-encoded e q = q ∙ rw (e, ← output-first)
 
-  pub output-decoded : p ≡ outputMatrixPart 10 l → out ≡ leaves 10 l (decodeBy (encodingOf 10 l) 6016 (matrixOf 16 p)) x old
+  pub output-decoded : p ≡ outputMatrixPart 10 l → out ≡ leaves 10 l (decodeBy (encodingOf 10 l) tenOutputFirst (matrixOf 16 p)) x old
       → out ≡ leaves 10 l (decodeOutput 10 l) x old
   unfolding decodeOutput
   output-decoded e q = q ∙ rw (e, ← output-first)
 
 -- The 32 encodings that a call takes off.
-pub called-encodings : (l : List ℕ) → Bytes l → judge 10 l ≡ Accepted → (first : ℕ) → first ≤ 6016 → (q : ℕ) → q < 32
+pub called-encodings : (l : List ℕ) → Bytes l → judge 10 l ≡ Accepted → (first : ℕ) → first ≤ tenOutputFirst → (q : ℕ) → q < 32
     → Permutation (encodingOf 10 l (first + q))
 unfolding encodings
 called-encodings l bytes a first h = accepted-encodings 10 l bytes a first (omega arith)

@@ -19,7 +19,7 @@ use Rattle.inversion.specs.Elimination.{inverseOf}
 use Rattle.inversion.specs.Inverses.{UndoesBothWays}
 use Rattle.inversion.proofs.laws.Inverses.{inverse-undoes}
 use Rattle.bundle.specs.Format.{encodings, encodingOf, inputMatrix, outputMatrix, inputMatrixPart, outputMatrixPart}
-use Rattle.bundle.specs.declared.answer.Judgement.the-variants.{Accepted}
+use Rattle.answers.specs.declared.Answer.the-variants.{Accepted}
 use Rattle.bundle.proofs.laws.Parts.{at-bytes}
 use Rattle.judgement.specs.Judge.{judge}
 use Rattle.judgement.proofs.laws.Judgements.{accepted-sound}

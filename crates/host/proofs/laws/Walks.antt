@@ -1,53 +1,46 @@
--- Laws, not definitions: the causes of the call from a block to its answer, and the answer that it leaves.
+-- Laws, not definitions: what the call from a block to its answer returns and leaves.
 -- Assumes nothing.
-use mathlib.Core.Bool.{Bool, true, false, cond, _&&_}
 use mathlib.Core.List.{List}
-use mathlib.Core.Path.{_≡_, _∙_, sym}
-use Prim.Native.Nat.{ℕ, _<_}
-use native.Mathlib.Omega.{arith}
-use lib.Dec.{eqb}
-use borrow.Author.Tests.{eq-eqb, ne-eqb}
+use mathlib.Core.Path.{_≡_, sym, _∙_}
+use Prim.Native.Nat.{ℕ}
 use lib.ListN.{length}
-use Rattle.network.specs.Lookups.{Walk}
-use Rattle.network.specs.Stages.{shifted, setBytes}
-use Rattle.network.proofs.laws.Cases.{starred}
-use Rattle.whitebox.specs.Calls.{started, toStop, fetch, handed, blockLeft}
-use Rattle.host.specs.Numbers.{returned}
-use Rattle.host.specs.Walks.{walkCause, walkReturns, walkLeaves}
+use Rattle.answers.specs.Answers.{wantsLength, andThen}
+use Rattle.answers.specs.declared.Answer.{Answer}
+use Rattle.answers.specs.declared.Answer.the-variants.{Accepted, Refused}
+use Rattle.answers.specs.declared.Refusal.{Refusal}
+use Rattle.answers.specs.declared.Refusal.the-variants.{SetLength, BlockLength}
+use Rattle.answers.proofs.laws.Tests.{first-refuses, second-decides, length-wrong, length-right, from-wrong, to-wrong, lengths-right, left-new, left-old}
+use Rattle.layout.specs.Stages.{shifted, tenLookups, setBytes, tenSetBytes}
+use Rattle.layout.proofs.laws.Cases.{starred}
+use Rattle.whitebox.specs.Calls.{Held, started, toStop, fetch, handed, blockLeft}
+use Rattle.host.specs.Walks.{walkAnswer, walkLeaves}
 
-module _ (s b a : ℕ) where
-  pub cause-set : (s ≡ 770048 → ⊥) → 9 ≡ walkCause s b a
-  unfolding walkCause
-  cause-set n = rw (starred .all-bytes, ne-eqb s 770048 n)
+-- ---- The answer, test by test.
+module _ (set block answer : ℕ) where
+  pub bad-set : (set ≡ tenSetBytes → ⊥) → Refused SetLength ≡ walkAnswer set block answer
+  unfolding walkAnswer
+  bad-set n = first-refuses _ _ _ (sym (length-wrong (setBytes 10) set SetLength (λ e. n (e ∙ starred .all-bytes))))
 
-  pub cause-block : s ≡ 770048 → (b ≡ 16 → ⊥) → 10 ≡ walkCause s b a
-  unfolding walkCause
-  cause-block e n = rw (starred .all-bytes, eq-eqb s 770048 e, ne-eqb b 16 n)
+  by-blocks : set ≡ tenSetBytes → andThen (wantsLength 16 block BlockLength) (wantsLength 16 answer BlockLength) ≡ walkAnswer set block answer
+  unfolding walkAnswer
+  by-blocks e = second-decides _ _ (sym (length-right (setBytes 10) set SetLength (e ∙ sym (starred .all-bytes))))
 
-  pub cause-answer : s ≡ 770048 → b ≡ 16 → (a ≡ 16 → ⊥) → 10 ≡ walkCause s b a
-  unfolding walkCause
-  cause-answer e f n = rw (starred .all-bytes, eq-eqb s 770048 e, eq-eqb b 16 f, ne-eqb a 16 n)
+  pub bad-block : set ≡ tenSetBytes → (block ≡ 16 → ⊥) → Refused BlockLength ≡ walkAnswer set block answer
+  bad-block e n = from-wrong 16 block answer BlockLength n ∙ by-blocks e
 
-  pub cause-none : s ≡ 770048 → b ≡ 16 → a ≡ 16 → 0 ≡ walkCause s b a
-  unfolding walkCause
-  cause-none e f g = rw (starred .all-bytes, eq-eqb s 770048 e, eq-eqb b 16 f, eq-eqb a 16 g)
+  pub bad-answer : set ≡ tenSetBytes → block ≡ 16 → (answer ≡ 16 → ⊥) → Refused BlockLength ≡ walkAnswer set block answer
+  bad-answer e f n = to-wrong 16 block answer BlockLength f n ∙ by-blocks e
 
-chosen-below : (p q : Bool) → cond p (cond q 0 10) 9 < 16
-chosen-below true true = omega arith
-chosen-below true false = omega arith
-chosen-below false q = omega arith
+  pub good : set ≡ tenSetBytes → block ≡ 16 → answer ≡ 16 → Accepted ≡ walkAnswer set block answer
+  good e f g = lengths-right 16 block answer BlockLength f g ∙ by-blocks e
 
-pub walk-fits : {c : ℕ} (s b a : ℕ) → c ≡ walkCause s b a → (c < 16) × (0 < 65536)
-unfolding walkCause
-walk-fits s b a e = (rw e (chosen-below (eqb s (setBytes 10)) (eqb b 16 && eqb a 16)), omega arith)
-
--- ---- what the call returns, r, and what it leaves of the lent answer
-module _ (set block lent : List ℕ) {c r : ℕ} (e : c ≡ walkCause (length set) (length block) (length lent)) (q : r ≡ returned c 0) where
-  pub walk-refused : (c ≡ 0 → ⊥) → (r ≡ walkReturns set block lent) × (lent ≡ walkLeaves set block lent)
+-- ---- What the call leaves of the lent answer, where the code has the answer a.
+module _ (set block lent : List ℕ) {a : Answer} (e : a ≡ walkAnswer (length set) (length block) (length lent)) where
+  pub walk-refused : {r : Refusal} → a ≡ Refused r → lent ≡ walkLeaves set block lent
   unfolding walkLeaves
-  walk-refused n = (q ∙ rw e, rw (sym e, ne-eqb c 0 n))
+  walk-refused {r} f = left-old _ r _ lent (sym e ∙ f)
 
-  pub walk-done : c ≡ 0 → (u v : Walk) (left : List ℕ) → u ≡ started block → v ≡ handed shifted 10 (toStop set 3008) u
-      → left ≡ blockLeft shifted 10 (fetch lent) v → (r ≡ walkReturns set block lent) × (left ≡ walkLeaves set block lent)
+  pub walk-done : a ≡ Accepted → (u v : Held) (left : List ℕ) → u ≡ started block → v ≡ handed shifted 10 (toStop set tenLookups) u
+      → left ≡ blockLeft shifted 10 (fetch lent) v → left ≡ walkLeaves set block lent
   unfolding walkLeaves
-  walk-done z u v left s m f = (q ∙ rw e, f ∙ rw (m, s, sym e, z, starred .all-lookups))
+  walk-done f u v left s m g = (g ∙ rw (m, s, starred .all-lookups)) ∙ left-new _ _ lent (sym e ∙ f)

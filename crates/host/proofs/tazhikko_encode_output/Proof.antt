@@ -1,30 +1,27 @@
--- `host::tazhikko_encode_output`: the call of the crate `external`, whose answer is handed on as a number: of an answer for a bundle and blocks the
--- number returned with the cause is below 65,536 (`coded-fits` of `laws.Numbers`). The block is as the call leaves it.
+-- `host::tazhikko_encode_output`: the output coding of a block, by the crate `external`. The number returned is that of the definition's answer,
+-- since the call's answer is it, and the block is as the call leaves it.
 -- Assumes nothing.
 use mathlib.Core.Path.{ap, _∙_}
-use Rattle.host.specs.Numbers.{ofCoded}
-use Rattle.host.proofs.laws.Numbers.{coded-fits}
+use Rattle.answers.specs.Numbers.{numberOf}
 use borrow.Author.Needs.{needs}
 use Rattle.host.proofs.tazhikko_encode_output.Statement.{statement}
 use Rattle.host.proofs.tazhikko_encode_output.Tie as tie
 
-of-coded-requires : tie.Need-of-coded-requires
-of-coded-requires c κs =
-    let call : tie.After-encode-output = search in
-    coded-fits _ _ _ (call .encode-output .ensures .0)
-
 returns : tie.Need-returns
 returns c =
     let call : tie.After-encode-output = search in
-    (c .of-coded .ensures ∙ ap ofCoded (call .encode-output .ensures .0), call .encode-output .ensures .1)
+    (c .number .ensures ∙ ap numberOf (call .encode-output .ensures .0), call .encode-output .ensures .1)
 
 -- ---- the needs that the search closes
 encode-output-requires : tie.Need-encode-output-requires
 encode-output-requires c κs = search needs
+
+number-requires : tie.Need-number-requires
+number-requires c κs = search needs
 
 same-length : tie.Need-same-length
 same-length c = search needs
 
 pub tazhikko-encode-output-spec : {M : Type 1} → statement M
 tazhikko-encode-output-spec =
-    tie.close (tie.spec encode-output-requires of-coded-requires same-length returns)
+    tie.close (tie.spec encode-output-requires number-requires same-length returns)

@@ -1,25 +1,23 @@
--- `host::tazhikko_judge_bundle`: the judgement as a number: of a bundle's judgement the number returned with the cause is below 65,536
--- (`judged-fits` of `laws.Numbers`).
+-- `host::tazhikko_judge_bundle`: the bundle's judgement, by the crate `judgement`, as a number.
 -- Assumes nothing.
 use mathlib.Core.Path.{ap, _∙_}
-use Rattle.host.specs.Numbers.{ofJudgement}
-use Rattle.host.proofs.laws.Numbers.{judged-fits}
+use Rattle.answers.specs.Numbers.{numberOf}
 use borrow.Author.Needs.{needs}
 use Rattle.host.proofs.tazhikko_judge_bundle.Statement.{statement}
 use Rattle.host.proofs.tazhikko_judge_bundle.Tie as tie
 
-of-judgement-requires : tie.Need-of-judgement-requires
-of-judgement-requires c κs = judged-fits _ (c .judge-bundle .ensures)
-
 returns : tie.Need-returns
 returns c =
     let judged : tie.After-judge-bundle = search in
-    c .of-judgement .ensures ∙ ap ofJudgement (judged .judge-bundle .ensures)
+    c .number .ensures ∙ ap numberOf (judged .judge-bundle .ensures)
 
 -- ---- the needs that the search closes
 judge-bundle-requires : tie.Need-judge-bundle-requires
 judge-bundle-requires c κs = search needs
 
+number-requires : tie.Need-number-requires
+number-requires c κs = search needs
+
 pub tazhikko-judge-bundle-spec : {M : Type 1} → statement M
 tazhikko-judge-bundle-spec =
-    tie.close (tie.spec judge-bundle-requires of-judgement-requires returns)
+    tie.close (tie.spec judge-bundle-requires number-requires returns)

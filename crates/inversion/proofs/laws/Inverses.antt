@@ -1,19 +1,25 @@
--- Laws, not definitions: the theorems of specs/Inverses.antt, and what an elimination in code has to show to meet `invert`.
+-- Laws, not definitions: the theorems of specs/Inverses.antt, what an elimination in code has to show to meet `invert`, and the rows that it leaves.
 -- Assumes nothing.
+use mathlib.Core.Bool.{Bool, true}
 use mathlib.Core.List.{List}
 use mathlib.Core.Path.{_≡_, refl, sym, ap, _∙_, subst}
-use Prim.Native.Nat.{ℕ, zero, suc, _+_, _-_, _^_, _≤_, _<_}
+use Prim.Native.Nat.{ℕ, zero, suc, _+_, _-_, _*_, _^_, _≤_, _<_}
 use native.Mathlib.Decide.{ℕ-discrete}
 use native.Mathlib.Omega.{arith}
 use lib.ListN.{length}
 use lib.Pow.{pow-pos}
+use Rattle.bits.specs.Bytes.{Bytes}
 use Rattle.bits.specs.Lists.{at, tabulate}
 use Rattle.bits.specs.Vectors.{bit, unit}
-use Rattle.bits.proofs.laws.Lists.{at-tabulate, length-tabulate, ext-at}
+use Rattle.bits.proofs.laws.Lists.{at-tabulate, length-tabulate, tabulate-at, ext-at}
 use Rattle.bits.proofs.laws.Vectors.{bit-lt, dot-unit, unit-lt, bit-ext}
-use Rattle.matrices.specs.Matrices.{productBy, product, identity, RowsFit, Undoes, Invertible}
+use Rattle.matrices.specs.Matrices.{productBy, product, identity, matrixOf, RowsFit, Undoes, Invertible}
+use Rattle.matrices.specs.Rows.{rowsOf, stored}
 use Rattle.matrices.proofs.laws.Matrices.{product-lt, bit-product, product-zero, identity-length}
-use Rattle.inversion.specs.Elimination.{leftStep, rightStep, choose, pivotFrom, Inversion, inverse, singular, unlessZero, columns, invert, inverseOf}
+use Rattle.matrices.proofs.laws.Rows.{rows-stored}
+use Rattle.matrices.proofs.laws.Stored.{matrixOf-fits, read-rows}
+use Rattle.inversion.specs.Elimination.{leftStep, rightStep, choose, pivotFrom, Inversion, inverse, singular, unlessZero, columns, invert}
+use Rattle.inversion.specs.Elimination.{rowsIn, inverseOf, hasInverse, withInverse}
 use Rattle.inversion.specs.Inverses.{UndoesBothWays, Answered, Refused, Exact, Unique}
 use Rattle.inversion.proofs.laws.Elimination.{Inv, inv-same, inv-start, Solved, step-inv, step-solved, left-inverse, right-inverse, Kernel, kernel, kern}
 
@@ -151,3 +157,35 @@ unfolding inverseOf
 inverse-undoes n m fits has =
     let B = exact n m fits has in
     rw (B .1) (answered n m (B .0) fits (B .1))
+
+-- ---- the rows that the code's `invert` leaves in the words b
+inverse-stored : (n : ℕ) (m b b′ : List ℕ) → RowsFit n (at m) → 2 * n ≤ length b → (r : Inversion) → invert n m ≡ r → hasInverse r ≡ true
+    → b′ ≡ withInverse n r b → rowsOf n b′ ≡ rowsIn r
+inverse-stored n m b b′ fits h (inverse c) e t q =
+    ap (rowsOf n) q ∙ rows-stored n (at c) b h ∙ tabulate-at n c (answered n m c fits e .long)
+inverse-stored n m b b′ fits h singular e t q = let y : _≡_ {A = ℕ} 0 1 = cc in absurd (omega arith)
+
+-- Of a matrix that the bytes p write.
+module _ (w : ℕ) (p : List ℕ) (bytes : Bytes p) where
+  fits : RowsFit (8 * w) (at (matrixOf w p))
+  fits = matrixOf-fits w p bytes
+
+  pub has-inverse : Invertible (8 * w) (matrixOf w p) → hasInverse (invert (8 * w) (matrixOf w p)) ≡ true
+  has-inverse I = ap hasInverse (exact (8 * w) (matrixOf w p) fits I .1)
+
+  -- `invert_bytes` leaves the rows b′ in the place of b.
+  pub inverse-left : (b b′ : List ℕ) → hasInverse (invert (8 * w) (matrixOf w p)) ≡ true → 16 * w ≤ length b
+      → b′ ≡ withInverse (8 * w) (invert (8 * w) (matrixOf w p)) b → rowsOf (8 * w) b′ ≡ inverseOf (8 * w) (matrixOf w p)
+  unfolding inverseOf
+  inverse-left b b′ has h left =
+      inverse-stored (8 * w) (matrixOf w p) b b′ fits (omega arith) (invert (8 * w) (matrixOf w p)) refl has left
+
+-- What `invert_bytes` puts together: the bytes p are read into the rows m, which were m₀, and r and b′ are what their inversion answers and leaves.
+pub read-inverted : (w : ℕ) (p m₀ m b b′ : List ℕ) (r : Bool) → 16 * w ≤ length m₀ → m ≡ stored (8 * w) (at (matrixOf w p)) m₀
+    → (r ≡ hasInverse (invert (8 * w) (rowsOf (8 * w) m))) × (b′ ≡ withInverse (8 * w) (invert (8 * w) (rowsOf (8 * w) m)) b)
+    → (r ≡ hasInverse (invert (8 * w) (matrixOf w p))) × (b′ ≡ withInverse (8 * w) (invert (8 * w) (matrixOf w p)) b)
+read-inverted w p m₀ m b b′ r h read inverted =
+    let same = read-rows w p m₀ m h read in (
+      inverted .0 ∙ ap (λ (a : List ℕ). hasInverse (invert (8 * w) a)) same,
+      inverted .1 ∙ ap (λ (a : List ℕ). withInverse (8 * w) (invert (8 * w) a) b) same,
+    )

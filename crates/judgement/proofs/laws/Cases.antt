@@ -7,39 +7,38 @@ use native.Mathlib.Omega.{arith}
 use Rattle.matrices.proofs.laws.Stored.{matrixOf-fits}
 use Rattle.bundle.specs.Format.{encodings, byteMatrices, lengthBad, pairBad, frame, byteMatrix, byteMatrixPart}
 use Rattle.bundle.specs.Frames.{Framed}
-use Rattle.bundle.specs.Refusals.{causeOf, unlessAt}
-use Rattle.bundle.specs.Search.{first}
-use Rattle.bundle.specs.declared.answer.Judgement.{Judgement}
-use Rattle.bundle.specs.declared.answer.Judgement.the-variants.{Accepted, Refused}
-use Rattle.bundle.specs.declared.answer.Refusal.{Refusal}
-use Rattle.bundle.specs.declared.answer.Refusal.the-variants.{Length, Pair, Encoding, ByteMatrix}
+use Rattle.bundle.specs.Search.{first, refusedAt}
+use Rattle.answers.specs.Answers.{andThen}
+use Rattle.answers.specs.Numbers.{causeOf}
+use Rattle.answers.specs.declared.Answer.{Answer}
+use Rattle.answers.specs.declared.Answer.the-variants.{Accepted, Refused}
+use Rattle.answers.specs.declared.Refusal.the-variants.{BundleLength, Pair, Encoding, ByteMatrix}
+use Rattle.answers.proofs.laws.Tests.{by-test}
 use Rattle.bundle.proofs.laws.Frame.{framed}
 use Rattle.bundle.proofs.laws.Parts.{at-bytes}
-use Rattle.bundle.proofs.laws.Tests.{by-unless, by-unlessAt}
+use Rattle.bundle.proofs.laws.Tests.{by-refusedAt}
 use Rattle.judgement.specs.Cases.{NoneBelow4, List0, Byte159}
 use Rattle.judgement.specs.Judge.{judge}
 use Rattle.judgement.proofs.laws.Judgements.{only}
 use Rattle.judgement.proofs.laws.Matrices.{equal-rows}
 
 -- ---- where no cause below 4 is given, the frame is right
-abbrev Low : Judgement → Type 0
-Low j = (r : Refusal) → j ≡ Refused r → causeOf r < 4
+abbrev Low : Answer → Type 0
+Low Accepted = 0 < 4
+Low (Refused r) = causeOf r < 4
 
 low : (nr : ℕ) (l : List ℕ) → Low (frame nr l)
 unfolding frame
 low nr l =
-    by-unless Low (lengthBad nr l) Length (unlessAt (first 5 (pairBad nr l)) Pair Accepted)
-    (λ e r q. let z : Length ≡ r = cc in subst (λ (x : Refusal). causeOf x < 4) z (omega arith))
-    (λ e. by-unlessAt Low (first 5 (pairBad nr l)) Pair Accepted
-    (λ n f r q. let z : Pair n ≡ r = cc in subst (λ (x : Refusal). causeOf x < 4) z (omega arith))
-    (λ f r q. let y : _≡_ {A = ℕ} 0 1 = cc in absurd (omega arith)))
+    by-test (λ j. Low (andThen j (refusedAt (first 5 (pairBad nr l)) Pair))) (lengthBad nr l) BundleLength (λ e. omega arith)
+    (λ e. by-refusedAt Low (first 5 (pairBad nr l)) Pair (λ n e. omega arith) (λ e. omega arith))
 
-none-below : (l : List ℕ) → NoneBelow4 l → (j : Judgement) → frame 10 l ≡ j → Framed 10 l
+none-below : (l : List ℕ) → NoneBelow4 l → (j : Answer) → frame 10 l ≡ j → Framed 10 l
 unfolding judge
 none-below l high Accepted e = framed 10 l e
 none-below l high (Refused r) e =
     let a : 4 ≤ causeOf r = high r (rw e) in
-    let b : causeOf r < 4 = low 10 l r e in
+    let b : causeOf r < 4 = subst Low e (low 10 l) in
     absurd (omega arith)
 
 pub list-0 : List0

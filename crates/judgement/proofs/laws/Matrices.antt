@@ -15,7 +15,8 @@ use Rattle.matrices.proofs.laws.Stored.{matrixOf-fits}
 use Rattle.matrices.proofs.laws.Matrices.{bit-product}
 use Rattle.inversion.specs.Elimination.{Inversion, inverse, singular, invert, hasInverse}
 use Rattle.inversion.proofs.laws.Inverses.{answered, refused, exact}
-use Rattle.judgement.specs.Judge.{noInverse}
+use Rattle.judgement.specs.Judge.{noInverse, mixingBad}
+use Rattle.judgement.specs.Judgements.{Mixing}
 
 module _ (n : ℕ) (m : List ℕ) (fits : RowsFit n (at m)) where
   has : (r : Inversion) → invert n m ≡ r → not (hasInverse r) ≡ false → Invertible n m
@@ -45,3 +46,12 @@ module _ (w : ℕ) (p : List ℕ) (bytes : Bytes p) where
   pub invertible-good : Invertible (8 * w) (matrixOf w p) → noInverse w p ≡ false
   unfolding noInverse
   invertible-good = hasnt (8 * w) (matrixOf w p) (matrixOf-fits w p bytes) (invert (8 * w) (matrixOf w p)) refl
+
+  -- The same of byte and column matrices.
+  pub good-mixing : mixingBad w p ≡ false → Mixing w (matrixOf w p)
+  unfolding mixingBad
+  good-mixing = good-invertible
+
+  pub mixing-good : Mixing w (matrixOf w p) → mixingBad w p ≡ false
+  unfolding mixingBad
+  mixing-good = invertible-good

@@ -1,42 +1,18 @@
--- Laws, not definitions: a basis, that is the words of the bytes 2^0 to 2^7, as a loop writes its eight rows.
+-- Laws, not definitions: the rows of a basis, that is the words of the bytes 2^0 to 2^7, as a loop makes them.
 -- Assumes nothing.
 use mathlib.Core.List.{List}
-use mathlib.Core.Path.{_≡_, refl, sym, ap, ap₂, _∙_}
-use Prim.Native.Nat.{ℕ, _+_, _*_, _^_, _≤_, _<_}
+use mathlib.Core.Path.{_≡_, ap, ap₂, _∙_}
+use Prim.Native.Nat.{ℕ, _+_, _*_, _^_, _≤_}
 use native.Mathlib.Omega.{arith}
 use lib.ListN.{length}
+use Rattle.answers.specs.declared.Answer.the-variants.{Accepted}
 use Rattle.bits.specs.Bytes.{number, byte, placed}
 use Rattle.bits.specs.Lists.{at}
 use Rattle.matrices.specs.Matrices.{product, matrixOf}
-use Rattle.matrices.specs.Rows.{rowsOf, setRow, stored}
-use Rattle.matrices.proofs.laws.Rows.{stored-next, length-setRow}
+use Rattle.matrices.specs.Rows.{rowsOf, stored}
 use Rattle.matrices.proofs.laws.Stored.{read-rows}
 use Rattle.bundle.specs.Format.{byteMatrices, partCount, partSize, sectionLength, frame, sectionOf, partOf, partAt, byteMatrix}
-use Rattle.bundle.specs.declared.answer.Judgement.the-variants.{Accepted}
 use Rattle.bundle.proofs.laws.Frame.{section-length}
-
--- The loop's invariant: b is the basis b₀ with rows 0 to k - 1 replaced by the words of 2^0, 2^1, ..; W y is the word of the byte y.
-pub record Basis (W : ℕ → ℕ) (b₀ b : List ℕ) (k : ℕ) : Type 0 where
-  pub within : k ≤ 8
-  pub long : length b ≡ 16
-  pub rows : b ≡ stored k (λ j. W (2 ^ j)) b₀
-
-pub basis-none : (W : ℕ → ℕ) (b : List ℕ) → length b ≡ 16 → Basis W b b 0
-unfolding stored
-basis-none W b l = record { within = omega arith; long = l; rows = refl }
-
-module _ {W : ℕ → ℕ} {b₀ b : List ℕ} {k : ℕ} (B : Basis W b₀ b k) where
-  pub basis-more : (v : ℕ) {b′ : List ℕ} → k < 8 → v ≡ W (2 ^ k) → b′ ≡ setRow b k v → Basis W b₀ b′ (k + 1)
-  basis-more v h ev e = record {
-    within = omega arith;
-    long = ap length e ∙ length-setRow b k v ∙ B .long;
-    rows = e ∙ ap₂ (λ (t : List ℕ) (x : ℕ). setRow t k x) (B .rows) ev ∙ sym (stored-next k (λ j. W (2 ^ j)) b₀);
-  }
-
-  pub basis-all : 8 ≤ k → b ≡ stored 8 (λ j. W (2 ^ j)) b₀
-  basis-all h =
-      let done : k ≡ 8 = omega arith in
-      B .rows ∙ ap (λ (n : ℕ). stored n (λ j. W (2 ^ j)) b₀) done
 
 -- ---- row k of first halves and of the exit
 -- The word of the byte y: the vector that f makes of it, times the matrix that the bytes p write.
@@ -50,23 +26,23 @@ read-row w p m m′ f k x y v h e ex ey ev = ev ∙ ap₂ (product (8 * w)) (rea
 
 -- ---- row k of the entry and of second halves
 -- The word of the byte y at place i of n bytes, by the matrix m and then by the byte matrices from number `first` on.
-abbrev pub spreadWord : (l m : List ℕ) (n i first : ℕ) → ℕ → ℕ
-spreadWord l m n i first y =
-    number n (λ j. product 8 (byteMatrix 10 l (first + j)) (byte n j (product (8 * n) (rowsOf (8 * n) m) (placed n i y))))
+abbrev pub spreadWord : (nr : ℕ) (l m : List ℕ) (n i first : ℕ) → ℕ → ℕ
+spreadWord nr l m n i first y =
+    number n (λ j. product 8 (byteMatrix nr l (first + j)) (byte n j (product (8 * n) (rowsOf (8 * n) m) (placed n i y))))
 
--- The section of the byte matrices.
-module _ (l s : List ℕ) (e : s ≡ sectionOf 10 l 1) where
-  pub byte-section-long : frame 10 l ≡ Accepted → length s ≡ 1280
-  unfolding sectionLength partCount partSize byteMatrices
-  byte-section-long f = ap length e ∙ section-length 10 l f 1 (omega arith)
+-- The section of the byte matrices, which for ten rounds has as many bytes as the code asks for.
+pub byte-section-long : (l s : List ℕ) → s ≡ sectionOf 10 l 1 → frame 10 l ≡ Accepted → length s ≡ 1280
+unfolding sectionLength partCount partSize byteMatrices
+byte-section-long l s e f = ap length e ∙ section-length 10 l f 1 (omega arith)
 
-  byte-matrices-in : _≡_ {A = ℕ → List ℕ} (λ n. matrixOf 1 (partOf 8 s n)) (byteMatrix 10 l)
+module _ (nr : ℕ) (l s : List ℕ) (e : s ≡ sectionOf nr l 1) where
+  byte-matrices-in : _≡_ {A = ℕ → List ℕ} (λ n. matrixOf 1 (partOf 8 s n)) (byteMatrix nr l)
   unfolding partAt partSize
   byte-matrices-in = ap {B = ℕ → List ℕ} (λ (t : List ℕ). λ (n : ℕ). matrixOf 1 (partOf 8 t n)) e
 
   -- x is 2^k, p the vector with x at its place, v its product with m, r that with the byte matrices.
   pub spread-row : (m : List ℕ) (n i first k x p v r : ℕ) → x ≡ 2 ^ k → p ≡ placed n i x → v ≡ product (8 * n) (rowsOf (8 * n) m) p
-      → r ≡ number n (λ j. product 8 (matrixOf 1 (partOf 8 s (first + j))) (byte n j v)) → r ≡ spreadWord l m n i first (2 ^ k)
+      → r ≡ number n (λ j. product 8 (matrixOf 1 (partOf 8 s (first + j))) (byte n j v)) → r ≡ spreadWord nr l m n i first (2 ^ k)
   spread-row m n i first k x p v r ex ep ev er =
       let is = ev ∙ ap (product (8 * n) (rowsOf (8 * n) m)) (ep ∙ ap (placed n i) ex) in
       er ∙ ap₂ (λ (f : ℕ → List ℕ) (z : ℕ). number n (λ j. product 8 (f (first + j)) (byte n j z))) byte-matrices-in is

@@ -6,56 +6,48 @@ use Prim.Native.Nat.{ℕ, _+_, _-_, _*_, _/_, _≤_, _<_}
 use native.Mathlib.Decide.{decLt}
 use native.Mathlib.Omega.{arith}
 use borrow.Rule.Slice.PartMut.{putMid}
-use lib.ListN.{length, take, drop, length-take, length-drop}
+use lib.ListN.{length, take, drop}
+use Rattle.answers.specs.declared.Answer.the-variants.{Accepted}
 use Rattle.bits.specs.Bytes.{Bytes}
-use Rattle.bits.specs.Lists.{at}
+use Rattle.bits.proofs.laws.Lists.{cut, cut-is, length-cut, put-here, put-before}
 use Rattle.matrices.specs.Matrices.{matrixOf, Invertible}
-use Rattle.matrices.specs.Rows.{rowsOf, stored}
-use Rattle.matrices.proofs.laws.Stored.{read-rows}
-use Rattle.inversion.specs.Elimination.{invert, inverseOf, withInverse}
+use Rattle.matrices.specs.Rows.{rowsOf}
+use Rattle.inversion.specs.Elimination.{inverseOf}
 use Rattle.bundle.specs.Format.{columnMatrices, columnMatrixPart, inputMatrixPart, columnMatrix, inputMatrix}
-use Rattle.bundle.specs.declared.answer.Judgement.the-variants.{Accepted}
 use Rattle.judgement.specs.Judge.{judge}
 use Rattle.judgement.proofs.laws.Judgements.{accepted-sound}
-use Rattle.network.specs.declared.stage.Stage.{Stage}
-use Rattle.network.specs.declared.stage.Stage.the-variants.{Entry, First, Second, Exit}
-use Rattle.layers.specs.Layers.{ColumnInverses, Ready, InverseFor}
-use Rattle.layers.proofs.laws.Code.{inverse-rows, put-here, put-before, frame-of, column-part-long, input-part-long}
-
--- ---- one inverse: the bytes p are read into the rows a, which had the place b, and `invert` leaves the rows c, which had the place d
-pub inverse-left : (w : ℕ) (p a b c d : List ℕ) → Bytes p → Invertible (8 * w) (matrixOf w p) → 16 * w ≤ length b
-    → a ≡ stored (8 * w) (at (matrixOf w p)) b → 16 * w ≤ length d → c ≡ withInverse (8 * w) (invert (8 * w) (rowsOf (8 * w) a)) d
-    → rowsOf (8 * w) c ≡ inverseOf (8 * w) (matrixOf w p)
-inverse-left w p a b c d bytes I h e k q = inverse-rows w p a d c bytes k I (read-rows w p b a h e) q
+use Rattle.layout.specs.declared.stage.Stage.{Stage}
+use Rattle.layout.specs.declared.stage.Stage.the-variants.{Entry, First, Second, Exit}
+use Rattle.layers.specs.Layers.{columnWords, ColumnInverses, Ready, InverseFor}
+use Rattle.layers.proofs.laws.Code.{frame-of, column-part-long, input-part-long}
 
 -- ---- the parts p of an accepted bundle that hold a matrix
-module _ (l p : List ℕ) (bytes : Bytes l) (ok : judge 10 l ≡ Accepted) where
-  pub input-part : p ≡ inputMatrixPart 10 l → (2048 ≤ length p) × Invertible 128 (matrixOf 16 p)
+module _ (nr : ℕ) (l p : List ℕ) (bytes : Bytes l) (ok : judge nr l ≡ Accepted) where
+  pub input-part : p ≡ inputMatrixPart nr l → (2048 ≤ length p) × Invertible 128 (matrixOf 16 p)
   input-part e =
-      let long = input-part-long l p (frame-of l ok) e in
-      (omega arith, subst (λ (t : List ℕ). Invertible 128 (matrixOf 16 t)) (sym e) (accepted-sound 10 l bytes ok .input))
+      let long = input-part-long nr l p (frame-of nr l ok) e in
+      (omega arith, subst (λ (t : List ℕ). Invertible 128 (matrixOf 16 t)) (sym e) (accepted-sound nr l bytes ok .input))
 
-  pub column-part : (n : ℕ) → n < 36 → p ≡ columnMatrixPart 10 l n → (128 ≤ length p) × Invertible 32 (matrixOf 4 p)
-  unfolding columnMatrices
+  pub column-part : (n : ℕ) → n < columnMatrices nr → p ≡ columnMatrixPart nr l n → (128 ≤ length p) × Invertible 32 (matrixOf 4 p)
   column-part n h e =
-      let long = column-part-long l p (frame-of l ok) n h e in
-      (omega arith, subst (λ (t : List ℕ). Invertible 32 (matrixOf 4 t)) (sym e) (accepted-sound 10 l bytes ok .columns n h))
+      let long = column-part-long nr l p (frame-of nr l ok) n h e in
+      (omega arith, subst (λ (t : List ℕ). Invertible 32 (matrixOf 4 t)) (sym e) (accepted-sound nr l bytes ok .columns n h))
 
 -- ---- the loop over the column matrices: the inverses of the first n stand in t
 pub record Inverted (l t : List ℕ) (n : ℕ) : Type 0 where
   pub within : n ≤ 36
-  pub long : length t ≡ 2304
+  pub long : length t ≡ columnWords
   pub rows : (k : ℕ) → k < n → rowsOf 32 (take 64 (drop (k * 64) t)) ≡ inverseOf 32 (columnMatrix 10 l k)
 
-pub inverted-none : (l t : List ℕ) → length t ≡ 2304 → Inverted l t 0
+pub inverted-none : (l t : List ℕ) → length t ≡ columnWords → Inverted l t 0
 inverted-none l t e = record { within = omega arith; long = e; rows = λ k h. absurd (omega arith) }
 
 -- The place of the next, 64 words that the code lends from n * 64 to n * 64 + 64, and what it leaves with the words u there.
 module _ {l t : List ℕ} {n : ℕ} (I : Inverted l t n) (h : n < 36) where
-  pub place-long : length (take (n * 64 + 64 - n * 64) (drop (n * 64) t)) ≡ 64
-  place-long = let long = I .long in simp (length-take, length-drop) (omega arith)
+  pub place-long : length (cut t (n * 64) (n * 64 + 64)) ≡ 64
+  place-long = let long = I .long in length-cut t (n * 64) 64 (omega arith)
 
-  pub inverted-more : (u : List ℕ) → length u ≡ length (take (n * 64 + 64 - n * 64) (drop (n * 64) t))
+  pub inverted-more : (u : List ℕ) → length u ≡ length (cut t (n * 64) (n * 64 + 64))
       → rowsOf 32 u ≡ inverseOf 32 (columnMatrix 10 l n)
       → length (putMid (n * 64) (n * 64 + 64 - n * 64) t u) ≡ length t
       → Inverted l (putMid (n * 64) (n * 64 + 64 - n * 64) t u) (n + 1)
@@ -102,9 +94,8 @@ module _ {s : Stage} (columns input : List ℕ) (p : ℕ) where
   entry-chosen e l ready = let long = ready .long in for-entry l p input e (omega arith) (ready .rows)
 
   pub second-chosen : {r n : ℕ} → s ≡ Second r → n ≡ 4 * (r - 1) + p / 4 → n < 36 → (l : List ℕ) → Ready l columns input
-      → InverseFor l s p (take (n * 64 + 64 - n * 64) (drop (n * 64) columns))
+      → InverseFor l s p (cut columns (n * 64) (n * 64 + 64))
   second-chosen {r} {n} e f h l ready =
       let all = ready .inverses .long in
-      let size : n * 64 + 64 - n * 64 ≡ 64 = omega arith in
-      let rows = ap (λ (k : ℕ). rowsOf 32 (take k (drop (n * 64) columns))) size ∙ ready .inverses .rows n h in
-      for-second l p _ e f (simp (length-take, length-drop) (omega arith)) rows
+      let long = length-cut columns (n * 64) 64 (omega arith) in
+      for-second l p _ e f (omega arith) (ap (rowsOf 32) (cut-is columns (n * 64) 64) ∙ ready .inverses .rows n h)

@@ -41,7 +41,7 @@ pub by-powers : (W f : ℕ → ℕ) → OnBytes W → ((j : ℕ) → j < 8 → f
 by-powers W f lin e = same (combined f) W (λ x y h k. combined-linear f x y) lin (λ j h. combined-power f j h ∙ e j h)
 
 -- ---- the three forms of a word
-pub placed-xor : (n i : ℕ) → OnBytes (placed n i)
+placed-xor : (n i : ℕ) → OnBytes (placed n i)
 unfolding placed
 placed-xor n i x y h k =
     joined-same 8 n _ _ (λ j g. cond-xor (eqb j i) x y)

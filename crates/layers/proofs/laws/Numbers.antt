@@ -5,10 +5,10 @@ use Prim.Native.Nat.{ℕ, suc, _+_, _-_, _*_, _≤_, _<_}
 use native.Mathlib.Omega.{arith}
 use Rattle.bundle.specs.Format.{tenEncodings}
 use Rattle.network.specs.Numbers.{sumNumber}
-use Rattle.network.specs.Stages.{firstNumber, afterRound, standingNumber}
-use Rattle.network.specs.declared.stage.Stage.{Stage}
-use Rattle.network.specs.declared.stage.Stage.the-variants.{First, Second, Exit, Beyond}
-use Rattle.network.proofs.laws.Stages.{sums-16}
+use Rattle.layout.specs.Stages.{firstNumber, afterRound, standingNumber}
+use Rattle.layout.specs.declared.stage.Stage.{Stage}
+use Rattle.layout.specs.declared.stage.Stage.the-variants.{First, Second, Exit, Beyond}
+use Rattle.layout.proofs.laws.Stages.{sums-16}
 use Rattle.layers.specs.Layers.{roundOf}
 
 -- ---- rounds: what the functions ask of the stage is what they know of its round
@@ -28,10 +28,10 @@ never-beyond e h = let is = ap roundOf e in omega arith
 
 -- ---- the number of a stage's first result
 module _ {s : Stage} {r : ℕ} where
-  pub first-in-first : s ≡ First r → Round r → (1024 + 448 * (r - 1) ≡ firstNumber 10 s) × (1024 + 448 * (r - 1) ≤ 5056)
+  pub first-in-first : s ≡ First r → Round r → (1024 + 448 * (r - 1) ≡ firstNumber 10 s) × (1024 + 448 * (r - 1) ≤ firstNumber 10 Exit)
   first-in-first e round = (ap (firstNumber 10) (sym e), omega arith)
 
-  pub first-in-second : s ≡ Second r → Round r → (1248 + 448 * (r - 1) ≡ firstNumber 10 s) × (1248 + 448 * (r - 1) ≤ 5056)
+  pub first-in-second : s ≡ Second r → Round r → (1248 + 448 * (r - 1) ≡ firstNumber 10 s) × (1248 + 448 * (r - 1) ≤ firstNumber 10 Exit)
   first-in-second e round = (ap (firstNumber 10) (sym e), omega arith)
 
 -- ---- the number of standing nibble q: of a sum of the layer before, which n is where that layer is a half

@@ -9,6 +9,7 @@ use borrow.Author.Tests.{eq-eqb, ne-eqb}
 use lib.Bits.{bitXor, xor-lt}
 use lib.Dec.{eqb}
 use lib.ListN.{length, set}
+use Rattle.answers.specs.declared.Answer.the-variants.{Accepted}
 use Rattle.bits.specs.Bytes.{Bytes}
 use Rattle.bits.specs.Lists.{at, tabulate}
 use Rattle.bits.proofs.laws.Filled.{Filled, filled-more}
@@ -21,10 +22,9 @@ use Rattle.field.specs.Sbox.{sboxOf}
 use Rattle.round.specs.Key.{keyOf}
 use Rattle.round.proofs.laws.Key.{key-at}
 use Rattle.bundle.specs.Format.{byteMatrices, byteMatrixPart, byteMatrix}
-use Rattle.bundle.specs.declared.answer.Judgement.the-variants.{Accepted}
 use Rattle.judgement.specs.Judge.{judge}
 use Rattle.judgement.proofs.laws.Judgements.{accepted-sound}
-use Rattle.network.specs.Stages.{shifted}
+use Rattle.layout.specs.Stages.{shifted}
 use Rattle.whitebox.specs.Bundles.{codingsOf}
 use Rattle.whitebox.specs.Parts.{forward}
 use Rattle.whitebox.specs.Words.{substituted}
@@ -83,25 +83,28 @@ behind-last keys r p e h = rw (eq-eqb r 10 e) (sym (key-at keys 10 p h))
 pub behind-none : (keys : List ℕ) (r p : ℕ) → (r ≡ 10 → ⊥) → 0 ≡ cond (eqb r 10) (at (keyOf keys 10) p) 0
 behind-none keys r p e = rw (ne-eqb r 10 e) refl
 
--- ---- round r, position p, of an accepted bundle l: j is the position that p reads, part the byte matrix of round r there
-module _ (l part : List ℕ) (r j : ℕ) (low : 1 ≤ r) (high : r ≤ 10) (h : j < 16) (ep : part ≡ byteMatrixPart 10 l (16 * (r - 1) + j)) where
-  pub byte-part-room : judge 10 l ≡ Accepted → 8 ≤ length part
-  byte-part-room a = omega (arith, byte-part-long l part (frame-of l a) (16 * (r - 1) + j) (omega arith) ep)
-
-  pub byte-part-invertible : Bytes l → judge 10 l ≡ Accepted → Invertible 8 (matrixOf 1 part)
+-- ---- round r of nr, position p, of an accepted bundle l: j is the position that p reads, part the byte matrix of round r there
+module _ (nr : ℕ) (l part : List ℕ) (r j : ℕ) (low : 1 ≤ r) (high : r ≤ nr) (h : j < 16) (ep : part ≡ byteMatrixPart nr l (16 * (r - 1) + j)) where
+  number-lt : 16 * (r - 1) + j < byteMatrices nr
   unfolding byteMatrices
+  number-lt = omega arith
+
+  pub byte-part-room : judge nr l ≡ Accepted → 8 ≤ length part
+  byte-part-room a = omega (arith, byte-part-long nr l part (frame-of nr l a) (16 * (r - 1) + j) number-lt ep)
+
+  pub byte-part-invertible : Bytes l → judge nr l ≡ Accepted → Invertible 8 (matrixOf 1 part)
   byte-part-invertible bytes a =
-      subst (λ (t : List ℕ). Invertible 8 (matrixOf 1 t)) (sym ep) (accepted-sound 10 l bytes a .bytes (16 * (r - 1) + j) (omega arith))
+      subst (λ (t : List ℕ). Invertible 8 (matrixOf 1 t)) (sym ep) (accepted-sound nr l bytes a .bytes (16 * (r - 1) + j) number-lt)
 
   -- rows has the rows of the inverse, t the bytes that `substitute` leaves.
   pub behind-is : (keys read rows : List ℕ) (p behind : ℕ) (t : List ℕ) → j ≡ shifted p
-      → rowsOf 8 rows ≡ inverseOf 8 (matrixOf 1 part) → behind ≡ cond (eqb r 10) (at (keyOf keys 10) p) 0
+      → rowsOf 8 rows ≡ inverseOf 8 (matrixOf 1 part) → behind ≡ cond (eqb r nr) (at (keyOf keys nr) p) 0
       → t ≡ tabulate 256 (λ x. behindSbox rows (at keys (16 * (r - 1) + j)) behind (at read x))
-      → t ≡ tabulate 256 (λ x. substituted (forward 10 keys) (codingsOf 10 l) r p (at read x))
+      → t ≡ tabulate 256 (λ x. substituted (forward nr keys) (codingsOf nr l) r p (at read x))
   unfolding substituted forward
   behind-is keys read rows p behind t ej er eb e =
       let n = 16 * (r - 1) + j in
-      let matrix = sym (byte-is l n (omega arith)) ∙ ap (λ (k : ℕ). codingsOf 10 l .byteMatrix (16 * (r - 1) + k)) ej in
+      let matrix = sym (byte-is nr l n number-lt) ∙ ap (λ (k : ℕ). codingsOf nr l .byteMatrix (16 * (r - 1) + k)) ej in
       let inverse = er ∙ ap (λ (q : List ℕ). inverseOf 8 (matrixOf 1 q)) ep ∙ ap (inverseOf 8) matrix in
       let key = sym (key-at keys (r - 1) j h) ∙ ap (at (keyOf keys (r - 1))) ej in
       e ∙ tabulate-ext 256 _ _ (λ x g.

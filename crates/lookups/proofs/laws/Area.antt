@@ -1,83 +1,41 @@
 -- Laws, not definitions: the spread area, changed in place.
 -- Assumes nothing.
-use mathlib.Core.List.{List, _∷_}
+use mathlib.Core.List.{List}
 use mathlib.Core.Logic.{⊎-elim, _⊎_}
-use mathlib.Core.Path.{_≡_, refl, sym, ap, _∙_, subst}
-use Prim.Native.Nat.{ℕ, zero, suc, _+_, _*_, _/_, _%_, _≤_, _<_}
-use native.Mathlib.Numerals.{add-one}
+use mathlib.Core.Path.{_≡_, sym, ap, _∙_, subst}
+use Prim.Native.Nat.{ℕ, _+_, _*_, _/_, _%_, _≤_, _<_}
 use native.Mathlib.Omega.{arith}
-use lib.ListN.{length, set, drop, replicate, length-drop}
-use lib.Seq.{getD-drop, getD-set-same, getD-set-other, set-set, paste, paste-zero, paste-suc, length-paste}
-use Rattle.bits.specs.Lists.{at, tabulate}
+use lib.ListN.{length, set}
+use lib.Seq.{getD-set-same, getD-set-other, set-set}
+use Rattle.bits.specs.Lists.{at}
 use Rattle.bits.specs.Nibbles.{pack, nibble, setNibble}
-use Rattle.bits.proofs.laws.Filled.{Filled, filled-none, filled-more, filled-all}
+use Rattle.bits.proofs.laws.Filled.{Filled, filled-more, filled-all}
+use Rattle.bits.proofs.laws.Lists.{zeros}
 use Rattle.bits.proofs.laws.Multiples.{row-inside}
 use Rattle.bits.proofs.laws.Nibbles.{nibble-even, nibble-odd}
+use Rattle.bits.proofs.laws.Pasted.{Pasted, pasted-none}
 use Rattle.network.specs.Lookups.{sums, zeroArea}
 use Rattle.lookups.specs.InPlace.{xorByte}
 
--- ---- the loop that copies m elements of t, from place `from` on, into d, from place `to` on: b of them are copied, and d has become a
-pub record Pasted (d t : List ℕ) (to from m : ℕ) (a : List ℕ) (b : ℕ) : Type 0 where
-  pub within : b ≤ m
-  pub room : to + m ≤ length d
-  pub source : from + m ≤ length t
-  pub done : a ≡ paste d to (drop from t) b
-
--- The start: word p of an area of 16 words of m bytes, and word w of a table of 256 of them.
-pub pasted-none : (d t : List ℕ) (p w m : ℕ) → length d ≡ 256 → m ≤ 16 → p < 16 → length t ≡ 256 * m → w < 256 → Pasted d t (p * m) (w * m) m d 0
-pasted-none d t p w m l b h k g =
-    record {
-      within = omega arith;
-      room = omega (arith, row-inside p m 16 h);
-      source = omega (arith, row-inside w m 256 g);
-      done = paste-zero d (p * m) (drop (w * m) t);
-    }
-
-module _ {d t : List ℕ} {to from m : ℕ} {a : List ℕ} {b : ℕ} (I : Pasted d t to from m a b) where
-  pub pasted-more : b < m → Pasted d t to from m (set a (to + b) (at t (from + b))) (b + 1)
-  pasted-more h =
-      record {
-        within = omega arith;
-        room = I .room;
-        source = I .source;
-        done =
-            ap (λ (l : List ℕ). set l (to + b) (at t (from + b))) (I .done)
-            ∙ ap (set (paste d to (drop from t) b) (to + b)) (sym (getD-drop from t b 0))
-            ∙ paste-suc d to (drop from t) b 0 (omega arith) (omega (arith, length-drop from t))
-            ∙ ap (paste d to (drop from t)) (sym (add-one b));
-      }
-
-  pub pasted-all : m ≤ b → a ≡ paste d to (drop from t) m
-  pasted-all h =
-      let e : b ≡ m = omega arith in
-      I .done ∙ ap (paste d to (drop from t)) e
-
-  pub length-pasted : m ≤ b → length a ≡ length d
-  length-pasted h = ap length (pasted-all h) ∙ length-paste d to (drop from t) m (I .room) (omega (arith, length-drop from t))
+-- ---- the loop that copies word w of a table, of 256 words of m bytes, to word p of an area, of 16 of them: its start
+pub word-none : (d t : List ℕ) (p w m : ℕ) → length d ≡ 256 → m ≤ 16 → p < 16 → length t ≡ 256 * m → w < 256 → Pasted d t (p * m) (w * m) m d 0
+word-none d t p w m l b h k g = pasted-none (omega (arith, row-inside p m 16 h)) (omega (arith, row-inside w m 256 g))
 
 -- ---- the loop that fills the area with zeros
-zeros : (n : ℕ) → tabulate {A = ℕ} n (λ i. 0) ≡ replicate n 0
-unfolding tabulate
-zeros zero = refl
-zeros (suc n) = ap (λ (l : List ℕ). 0 ∷ l) (zeros n)
-
 pub cleared : {a : List ℕ} {i : ℕ} → Filled 256 (λ k. 0) a i → 256 ≤ i → a ≡ zeroArea
 cleared I h = filled-all I h ∙ zeros 256
 
--- ---- the loop that takes the sums of an area a of words of m bytes: q bytes of s are filled, each from word 0 of its group
-pub record Summed (a : List ℕ) (m : ℕ) (s : List ℕ) (q : ℕ) : Type 0 where
-  pub filled : Filled 16 (λ k. at a (k / m * m * m + k % m)) s q
+-- ---- the loop that takes the sums of an area a of words of m bytes: byte q of them, from word 0 of its group
+abbrev pub sumOf : List ℕ → ℕ → ℕ → ℕ
+sumOf a m q = at a (q / m * m * m + q % m)
 
-pub summed-none : (a : List ℕ) (m : ℕ) (s : List ℕ) → length s ≡ 16 → Summed a m s 0
-summed-none a m s l = record { filled = filled-none 16 _ s l }
+module _ (a : List ℕ) (m : ℕ) {s : List ℕ} {q : ℕ} (I : Filled 16 (sumOf a m) s q) where
+  pub sums-more : {i : ℕ} → q < 16 → i ≡ q / m * m * m + q % m → Filled 16 (sumOf a m) (set s q (at a i)) (q + 1)
+  sums-more h e = filled-more I h (ap (at a) e)
 
-module _ {a : List ℕ} {m : ℕ} {s : List ℕ} {q : ℕ} (I : Summed a m s q) where
-  pub summed-more : {i : ℕ} → q < 16 → i ≡ q / m * m * m + q % m → Summed a m (set s q (at a i)) (q + 1)
-  summed-more h e = record { filled = filled-more (I .filled) h (ap (at a) e) }
-
-  pub summed-all : 16 ≤ q → s ≡ sums m a
+  pub sums-all : 16 ≤ q → s ≡ sums m a
   unfolding sums
-  summed-all h = filled-all (I .filled) h
+  sums-all h = filled-all I h
 
 -- The place of byte q of the sums, at the two widths.
 abbrev SumAt : ℕ → ℕ → ℕ → Type 0

@@ -12,12 +12,13 @@ use lib.Seq.{paste}
 use Rattle.bits.specs.Lists.{at}
 use Rattle.bits.specs.Nibbles.{nibble, setNibble, pack}
 use Rattle.bits.proofs.laws.Lists.{length-tabulate}
-use Rattle.network.specs.Lookups.{Walk, Shape, spreadArea, xorArea, sums, zeroArea, lookupIn}
+use Rattle.network.specs.Lookups.{State, stateAt, Shape, spreadArea, xorArea, sums, zeroArea, lookupIn}
 use Rattle.network.specs.Order.{xors, layerLookups, sumPlace, addedPlace}
-use Rattle.network.specs.Stages.{widthOf}
-use Rattle.network.specs.declared.stage.Stage.{Stage}
-use Rattle.network.specs.declared.stage.Stage.the-variants.{Entry, First, Second, Exit, Beyond}
-use Rattle.network.proofs.laws.Stages.{lookups-16, lookups-4}
+use Rattle.network.proofs.laws.Sizes.{spread-size, xor-size}
+use Rattle.layout.specs.Stages.{widthOf}
+use Rattle.layout.specs.declared.stage.Stage.{Stage}
+use Rattle.layout.specs.declared.stage.Stage.the-variants.{Entry, First, Second, Exit, Beyond}
+use Rattle.layout.proofs.laws.Stages.{lookups-16, lookups-4}
 use Rattle.lookups.specs.InPlace.{Fits, XorIn, LookedUp, xorByte}
 use Rattle.lookups.proofs.laws.Area.{xor-both}
 
@@ -105,10 +106,10 @@ module _ {s : Stage} {j long : ℕ} (f : Fits s j long) where
   kind Beyond h w = absurd (omega (arith, lookups-0))
 
   pub spread-sized : {m : ℕ} → m ≡ widthOf s → j < 16 → long ≡ 256 * m
-  spread-sized e h = rw e (rw (lt-ltb j 16 h) at (f .sized))
+  spread-sized e h = f .sized ∙ rw e (spread-size (widthOf s) j h)
 
   pub xor-sized : 16 ≤ j → long ≡ 128
-  xor-sized h = rw (le-ltb j 16 h) at (f .sized)
+  xor-sized h = f .sized ∙ xor-size (widthOf s) j h
 
   pub xor-within : {m : ℕ} → m ≡ widthOf s → 16 ≤ j → XorIn m (j - 16)
   xor-within e h = rw e (kind s h (f .within))
@@ -124,63 +125,56 @@ unfolding sums
 length-sums m a = length-tabulate 16 _
 
 -- ---- lookup j: a spread lookup, an XOR lookup, the last XOR lookup
-module _ (S : Shape) (j : ℕ) (t : List ℕ) (w : Walk) where
+module _ (S : Shape) (j : ℕ) (t : List ℕ) (w : State) where
   pub at-spread : j < 16
-      → lookupIn S j t w
-      ≡ record { count = suc (w .count); standing = w .standing; area = spreadArea (S .width) (S .source j) j t (w .standing) (w .area) }
+      → lookupIn S j t w ≡ stateAt (suc (w .count)) (w .standing) (spreadArea (S .width) (S .source j) j t (w .standing) (w .area))
   unfolding lookupIn
   at-spread h = rw (lt-ltb j 16 h)
 
   pub at-xor : (x : ℕ) → j - 16 ≡ x → 16 ≤ j → (suc j ≡ layerLookups (S .width) → ⊥)
-      → lookupIn S j t w ≡ record { count = suc (w .count); standing = w .standing; area = xorArea (S .width) x t (w .area) }
+      → lookupIn S j t w ≡ stateAt (suc (w .count)) (w .standing) (xorArea (S .width) x t (w .area))
   unfolding lookupIn
   at-xor x e h l = rw (e, le-ltb j 16 h, ne-eqb (suc j) (layerLookups (S .width)) l)
 
   pub at-last : (x : ℕ) → j - 16 ≡ x → 16 ≤ j → suc j ≡ layerLookups (S .width)
-      → lookupIn S j t w
-      ≡ record { count = suc (w .count); standing = sums (S .width) (xorArea (S .width) x t (w .area)); area = zeroArea }
+      → lookupIn S j t w ≡ stateAt (suc (w .count)) (sums (S .width) (xorArea (S .width) x t (w .area))) zeroArea
   unfolding lookupIn
   at-last x e h l = rw (e, le-ltb j 16 h, eq-eqb (suc j) (layerLookups (S .width)) l)
 
 -- ---- the same, from what the parts of the code left
-next : ℕ → List ℕ → List ℕ → Walk
-next n s a = record { count = suc n; standing = s; area = a }
-
 module _ {S : Shape} {j m : ℕ} {t s a : List ℕ} (e : m ≡ S .width) where
   pub by-spread : {i : ℕ} {a′ : List ℕ} → j < 16 → i ≡ S .source j → a′ ≡ paste a (j * m) (drop (at s i * m) t) m
       → length a′ ≡ length a → LookedUp S j t s a s a′
-  unfolding spreadArea next
+  unfolding spreadArea
   by-spread h f g l =
       record {
         walk =
             λ n.
-            at-spread S j t (record { count = n; standing = s; area = a }) h
-            ∙ ap (next n s) (ap₂ (λ (m i : ℕ). paste a (j * m) (drop (at s i * m) t) m) (sym e) (sym f) ∙ sym g);
+            at-spread S j t (stateAt n s a) h
+            ∙ ap (stateAt (suc n) s) (ap₂ (λ (m i : ℕ). paste a (j * m) (drop (at s i * m) t) m) (sym e) (sym f) ∙ sym g);
         kept = refl;
         long = l;
       }
 
   pub by-xor : {n : ℕ} {a′ : List ℕ} → 16 ≤ j → a′ ≡ xorArea m (j - 16) t a → n ≡ layerLookups m → (j + 1 ≡ n → ⊥) → LookedUp S j t s a s a′
-  unfolding next
   by-xor h g f l =
       record {
         walk =
             λ n.
-            at-xor S j t (record { count = n; standing = s; area = a }) (j - 16) refl h (λ z. l (add-one j ∙ z ∙ ap layerLookups (sym e) ∙ sym f))
-            ∙ ap (next n s) (ap (λ (m : ℕ). xorArea m (j - 16) t a) (sym e) ∙ sym g);
+            at-xor S j t (stateAt n s a) (j - 16) refl h (λ z. l (add-one j ∙ z ∙ ap layerLookups (sym e) ∙ sym f))
+            ∙ ap (stateAt (suc n) s) (ap (λ (m : ℕ). xorArea m (j - 16) t a) (sym e) ∙ sym g);
         kept = refl;
         long = ap length g ∙ length-xor m (j - 16) t a;
       }
 
   pub by-last : {n : ℕ} {x s′ a′ : List ℕ} → 16 ≤ j → x ≡ xorArea m (j - 16) t a → n ≡ layerLookups m → j + 1 ≡ n → s′ ≡ sums m x → a′ ≡ zeroArea
       → length s ≡ 16 → length a ≡ 256 → LookedUp S j t s a s′ a′
-  unfolding next
   by-last {x = x} h g f l p q k b =
       record {
         walk =
             λ n.
-            at-last S j t (record { count = n; standing = s; area = a }) (j - 16) refl h (sym (add-one j) ∙ l ∙ f ∙ ap layerLookups e)
-            ∙ ap₂ (next n) (ap (λ (m : ℕ). sums m (xorArea m (j - 16) t a)) (sym e) ∙ ap (sums m) (sym g) ∙ sym p) (sym q);
+            at-last S j t (stateAt n s a) (j - 16) refl h (sym (add-one j) ∙ l ∙ f ∙ ap layerLookups e)
+            ∙ ap₂ (stateAt (suc n)) (ap (λ (m : ℕ). sums m (xorArea m (j - 16) t a)) (sym e) ∙ ap (sums m) (sym g) ∙ sym p) (sym q);
         kept = ap length p ∙ length-sums m x ∙ sym k;
         long = ap length q ∙ length-replicate {A = ℕ} 256 0 ∙ sym b;
       }

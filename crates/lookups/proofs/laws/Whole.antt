@@ -10,13 +10,14 @@ use borrow.Author.Tests.{lt-ltb, le-ltb}
 use lib.ListN.{length, take, drop}
 use lib.Seq.{paste}
 use Rattle.bits.specs.Lists.{at}
+use Rattle.bits.proofs.laws.Lists.{cut, cut-is, length-cut}
 use Rattle.bits.proofs.laws.Multiples.{row-inside}
 use Rattle.network.specs.Lookups.{Shape, spreadArea, xorArea, sums}
 use Rattle.network.specs.Order.{xors, layerLookups}
 use Rattle.network.specs.Sizes.{layerBytes}
 use Rattle.network.proofs.laws.Order.{layer-lookups}
+use Rattle.layout.specs.Stages.{tenSetBytes}
 use Rattle.lookups.specs.InPlace.{XorIn, tableFrom, spreadsIn, xorsIn, sumsIn}
-use Rattle.lookups.proofs.laws.Cuts.{cut, cut-is, length-cut}
 use Rattle.lookups.proofs.laws.Layers.{length-xor, length-sums}
 
 -- ---- where the tables begin: of spread lookup p, and of XOR lookups 2y and 2y + 1
@@ -40,7 +41,7 @@ module _ (set : List ℕ) (from m k : ℕ) where
       let f : from + (16 * (256 * m) + (16 + k - 16) * 128) ≡ x = omega arith in
       rw (le-ltb (16 + k) 16 (omega arith), e, f)
 
-pub spreads-room : (from m : ℕ) → from + layerBytes m ≤ 770048 → from + 4096 * m ≤ 770048
+pub spreads-room : (from m : ℕ) → from + layerBytes m ≤ tenSetBytes → from + 4096 * m ≤ tenSetBytes
 unfolding layerBytes
 spreads-room from m h = omega arith
 
@@ -48,11 +49,11 @@ spreads-room from m h = omega arith
 pub record Spreads (S : Shape) (set : List ℕ) (from m : ℕ) (s a₀ a : List ℕ) (p : ℕ) : Type 0 where
   pub within : p ≤ 16
   pub width : m ≡ S .width
-  pub room : from + 4096 * m ≤ 770048
+  pub room : from + 4096 * m ≤ tenSetBytes
   pub long : length a ≡ 256
   pub made : a ≡ spreadsIn S set from s p a₀
 
-pub spreads-none : {S : Shape} {set : List ℕ} {from m : ℕ} {s a : List ℕ} → m ≡ S .width → from + layerBytes (S .width) ≤ 770048 → length a ≡ 256
+pub spreads-none : {S : Shape} {set : List ℕ} {from m : ℕ} {s a : List ℕ} → m ≡ S .width → from + layerBytes (S .width) ≤ tenSetBytes → length a ≡ 256
     → Spreads S set from m s a a 0
 unfolding spreadsIn
 spreads-none {S} {from = from} e b l =
@@ -60,10 +61,10 @@ spreads-none {S} {from = from} e b l =
 
 module _ {S : Shape} {set : List ℕ} {from m : ℕ} {s a₀ a : List ℕ} {p : ℕ} (I : Spreads S set from m s a₀ a p) where
   -- The table of the turn, of 256 words, ends within the set.
-  pub table-ends : p < 16 → spreadAt from m p + 256 * m ≤ 770048
+  pub table-ends : p < 16 → spreadAt from m p + 256 * m ≤ tenSetBytes
   table-ends h = omega (arith, I .room, row-inside p (256 * m) 16 h)
 
-  pub table-long : p < 16 → length set ≡ 770048 → length (cut set (spreadAt from m p) (spreadAt from m p + 256 * m)) ≡ 256 * m
+  pub table-long : p < 16 → length set ≡ tenSetBytes → length (cut set (spreadAt from m p) (spreadAt from m p + 256 * m)) ≡ 256 * m
   table-long h l = length-cut set (spreadAt from m p) (256 * m) (omega (arith, table-ends h))
 
   pub spreads-more : (i : ℕ) (a′ : List ℕ) → p < 16 → i ≡ S .source p
@@ -92,7 +93,7 @@ pub record Xors (m : ℕ) (set : List ℕ) (from n : ℕ) (a₀ a : List ℕ) (y
   pub within : y ≤ n
   pub width : (m ≡ 4) ⊎ (m ≡ 16)
   pub twice : 2 * n ≡ xors m
-  pub room : from + 4096 * m + n * 256 ≤ 770048
+  pub room : from + 4096 * m + n * 256 ≤ tenSetBytes
   pub long : length a ≡ 256
   pub made : a ≡ xorsIn m set from (2 * y) a₀
 
@@ -108,7 +109,7 @@ xors-16 = refl
 pub spreads-least : (m all : ℕ) → all ≡ layerLookups m → 16 ≤ all
 spreads-least m all e = omega (arith, layer-lookups m)
 
-pub xors-none : {m : ℕ} {set : List ℕ} {from all : ℕ} {a : List ℕ} → (m ≡ 4) ⊎ (m ≡ 16) → all ≡ layerLookups m → from + layerBytes m ≤ 770048
+pub xors-none : {m : ℕ} {set : List ℕ} {from all : ℕ} {a : List ℕ} → (m ≡ 4) ⊎ (m ≡ 16) → all ≡ layerLookups m → from + layerBytes m ≤ tenSetBytes
     → length a ≡ 256 → Xors m set from ((all - 16) / 2) a a 0
 unfolding xorsIn layerBytes
 xors-none {m = m} {all = all} k e b l =
@@ -131,7 +132,7 @@ module _ {m : ℕ} {set : List ℕ} {from n : ℕ} {a₀ a : List ℕ} {y : ℕ}
   lowTable = cut set (pairAt from m y + 128) (pairAt from m y + 128 + 128)
 
   -- What the two lookups of a turn ask: their tables, one behind the other, have 128 bytes each.
-  pub pair-asked : y < n → length set ≡ 770048
+  pub pair-asked : y < n → length set ≡ tenSetBytes
       → XorIn m (2 * y + 1) × (length highTable ≡ 128) × (length lowTable ≡ 128) × (length a ≡ 256)
   pair-asked h l = (
     xor-inside h,

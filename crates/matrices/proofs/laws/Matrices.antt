@@ -1,12 +1,10 @@
 -- Laws, not definitions: the product of a matrix and a vector. It is linear, which is why tables made from it add up.
 -- Assumes nothing.
 use mathlib.Core.Path.{_≡_, sym, ap, ap₂, _∙_}
-use Prim.Native.Nat.{ℕ, _+_, _*_, _%_, _^_, _<_}
-use native.Mathlib.Numerals.{add-one}
+use Prim.Native.Nat.{ℕ, _+_, _%_, _^_, _<_}
 use lib.Bits.{bitXor, xor-lt}
 use lib.ListN.{length}
 use Rattle.bits.specs.Lists.{at, tabulate}
-use Rattle.bits.specs.Groups.{joined}
 use Rattle.bits.specs.Vectors.{bit, unit, dot}
 use Rattle.bits.proofs.laws.Lists.{at-tabulate, length-tabulate}
 use Rattle.bits.proofs.laws.Groups.{joined-same, joined-zero}
@@ -59,8 +57,3 @@ product-identity n v hv = product-tabulate n (unit n) v ∙ product-unit n v hv
 pub identity-length : (n : ℕ) → length (identity n) ≡ n
 unfolding identity
 identity-length n = length-tabulate n (unit n)
-
--- One row more, as a loop over the rows has it.
-pub product-next : (n : ℕ) (f : ℕ → ℕ) (v : ℕ) → productBy (n + 1) f v ≡ productBy n f v * 2 + dot (f n) v
-unfolding productBy joined
-product-next n f v = ap (λ (x : ℕ). productBy x f v) (add-one n)

@@ -6,7 +6,7 @@ use mathlib.Core.Path.{_≡_, refl, ap, _∙_}
 use Prim.Native.Nat.{ℕ, _+_, _-_, _≤_, _<_}
 use native.Mathlib.Omega.{arith}
 use borrow.Author.Tests.{lt-ltb, le-ltb}
-use Rattle.network.specs.Lookups.{Walk, Shape, lookupIn, lookupAt}
+use Rattle.network.specs.Lookups.{State, Shape, lookupIn, lookupAt}
 use Rattle.network.specs.Numbers.{Numbers, nextNumbers, numbersAfter}
 use Rattle.network.specs.Order.{layerLookups}
 use Rattle.network.specs.Sizes.{sizeOf, offsetOf, layerBytes, lookupsIn, bytesIn, resultsIn, sizeIn, offsetIn}
@@ -19,7 +19,7 @@ widthsIn Ss = map (λ (S : Shape). S .width) Ss
 past : (t n k : ℕ) → t + n + k - t ≡ n + k
 past t n k = omega arith
 
-pub lookup-past : (As Bs : List Shape) (k : ℕ) (t : List ℕ) (w : Walk) → lookupAt (As ++ Bs) (lookupsIn (widthsIn As) + k) t w ≡ lookupAt Bs k t w
+pub lookup-past : (As Bs : List Shape) (k : ℕ) (t : List ℕ) (w : State) → lookupAt (As ++ Bs) (lookupsIn (widthsIn As) + k) t w ≡ lookupAt Bs k t w
 unfolding lookupAt lookupsIn
 lookup-past [] Bs k t w = ap (λ (n : ℕ). lookupAt Bs n t w) (let e : 0 + k ≡ k = omega arith in e)
 lookup-past (S ∷ As) Bs k t w =
@@ -48,7 +48,7 @@ offset-past (m ∷ ms) ns k =
     (ap (λ (x : ℕ). layerBytes m + x) (offset-past ms ns k) ∙ omega arith)
 
 -- ---- in the first layer
-pub lookup-first : (S : Shape) (Bs : List Shape) (k : ℕ) (t : List ℕ) (w : Walk) → k < layerLookups (S .width) → lookupAt (S ∷ Bs) k t w ≡ lookupIn S k t w
+pub lookup-first : (S : Shape) (Bs : List Shape) (k : ℕ) (t : List ℕ) (w : State) → k < layerLookups (S .width) → lookupAt (S ∷ Bs) k t w ≡ lookupIn S k t w
 unfolding lookupAt
 lookup-first S Bs k t w b = rw (lt-ltb k (layerLookups (S .width)) b)
 
@@ -65,7 +65,7 @@ unfolding offsetIn
 offset-first m ns k b = rw (lt-ltb k (layerLookups m) b)
 
 -- ---- past the last layer
-pub lookup-none : (Ss : List Shape) (k : ℕ) (t : List ℕ) (w : Walk) → lookupsIn (widthsIn Ss) ≤ k → lookupAt Ss k t w ≡ w
+pub lookup-none : (Ss : List Shape) (k : ℕ) (t : List ℕ) (w : State) → lookupsIn (widthsIn Ss) ≤ k → lookupAt Ss k t w ≡ w
 unfolding lookupAt lookupsIn
 lookup-none [] k t w b = refl
 lookup-none (S ∷ Ss) k t w b = rw (le-ltb k (layerLookups (S .width)) (omega arith)) (lookup-none Ss (k - layerLookups (S .width)) t w (omega arith))

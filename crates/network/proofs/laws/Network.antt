@@ -14,8 +14,8 @@ use Rattle.bits.specs.Bytes.{Bytes, Block}
 use Rattle.bits.specs.Encodings.{encode}
 use Rattle.bits.specs.Lists.{at}
 use Rattle.bits.specs.Nibbles.{nibble}
-use Rattle.network.specs.Due.{summed, valuesIn, valuesOf, leftBy, standingDue, areaDue, dueWalk, closed, encoded, decoded}
-use Rattle.network.specs.Lookups.{Walk, Shape, zeroArea, lookupIn, lookupAt, lookup, walked}
+use Rattle.network.specs.Due.{summed, valuesIn, valuesOf, leftBy, standingDue, areaDue, dueState, closed, encoded, decoded}
+use Rattle.network.specs.Lookups.{State, stateAt, Shape, zeroArea, lookupIn, lookupAt, lookup, walked}
 use Rattle.network.specs.Numbers.{Numbers, nextNumbers, startNumbers, numbersAfter}
 use Rattle.network.specs.Order.{layerLookups}
 use Rattle.network.specs.Sizes.{lookupsIn}
@@ -23,35 +23,35 @@ use Rattle.network.specs.Tables.{Layer, AllGood, shapeOf, widthsOf, shap
 use Rattle.network.specs.Theorems.{Permutations, FromAnyLayer, AtTheEnd}
 use Rattle.network.proofs.laws.Layers.{lookup-past, table-past}
 use Rattle.network.proofs.laws.Order.{layer-lookups}
-use Rattle.network.proofs.laws.Steps.{walk, zero-area, cell, cells, layerWalk, layer-step, layer-last, layer-start}
+use Rattle.network.proofs.laws.Steps.{same-state, zero-area, cell, cells, layerState, layer-step, layer-last, layer-start}
 use Rattle.network.proofs.laws.Values.{summed-bytes}
 
 -- ---- the closed form inside the first layer, and past it
 closed-past : (E : ℕ → List ℕ) (L : Layer) (Ls : List Layer) (N : Numbers) (l : List ℕ) (from k : ℕ) → layerLookups (L .width) ≤ k
     → closed E (L ∷ Ls) N l from k ≡ closed E Ls (nextNumbers (L .width) N) (summed (valuesIn L l)) (from + layerLookups (L .width)) (k - layerLookups (L .width))
-unfolding dueWalk valuesOf leftBy standingDue areaDue
+unfolding dueState valuesOf leftBy standingDue areaDue
 closed-past E L Ls N l from k b =
     let e : from + k ≡ from + layerLookups (L .width) + (k - layerLookups (L .width)) = omega arith in
-    rw (le-ltb k (layerLookups (L .width)) b) (walk e refl refl)
+    rw (le-ltb k (layerLookups (L .width)) b) (same-state e refl refl)
 
 -- what stands between layers
-abbrev rest : (ℕ → List ℕ) → Numbers → List ℕ → ℕ → Walk
-rest E N l from = record { count = from; standing = encoded E (N .standing) l; area = zeroArea }
+abbrev rest : (ℕ → List ℕ) → Numbers → List ℕ → ℕ → State
+rest E N l from = stateAt from (encoded E (N .standing) l) zeroArea
 
 closed-none : (E : ℕ → List ℕ) (N : Numbers) (l : List ℕ) (from k : ℕ) → closed E [] N l from k ≡ rest E N l (from + k)
-unfolding dueWalk valuesOf leftBy standingDue areaDue encoded
-closed-none E N l from k = walk refl refl zero-area
+unfolding dueState valuesOf leftBy standingDue areaDue encoded
+closed-none E N l from k = same-state refl refl zero-area
 
 module _ (E : ℕ → List ℕ) (perm : Permutations E) where
   closed-in : (L : Layer) (Ls : List Layer) (g : AllGood (L ∷ Ls)) (N : Numbers) (l : List ℕ) (b : Bytes l) (from k : ℕ) → k < layerLookups (L .width)
-      → closed E (L ∷ Ls) N l from k ≡ layerWalk E perm L (g .0) N l b from k
-  unfolding dueWalk valuesOf leftBy standingDue areaDue encoded cells cell
+      → closed E (L ∷ Ls) N l from k ≡ layerState E perm L (g .0) N l b from k
+  unfolding dueState valuesOf leftBy standingDue areaDue encoded cells cell
   closed-in L Ls g N l b from k c = rw (lt-ltb k (layerLookups (L .width)) c)
 
   closed-zero : (Ls : List Layer) → AllGood Ls → (N : Numbers) (l : List ℕ) → Bytes l → (from : ℕ) → closed E Ls N l from 0 ≡ rest E N l from
-  closed-zero [] g N l b from = closed-none E N l from 0 ∙ walk (omega arith) refl refl
+  closed-zero [] g N l b from = closed-none E N l from 0 ∙ same-state (omega arith) refl refl
   closed-zero (L ∷ Ls) g N l b from =
-      closed-in L Ls g N l b from 0 (omega (arith, layer-lookups (L .width))) ∙ walk (omega arith) refl (layer-start E perm L (g .0) N l b)
+      closed-in L Ls g N l b from 0 (omega (arith, layer-lookups (L .width))) ∙ same-state (omega arith) refl (layer-start E perm L (g .0) N l b)
 
   left-bytes : (L : Layer) (Ls : List Layer) → AllGood (L ∷ Ls) → (l : List ℕ) → Bytes (summed (valuesIn L l))
   left-bytes L Ls g l = summed-bytes (valuesIn L l) (λ p. g .0 .bytes p (at l (L .source p)))
@@ -101,7 +101,7 @@ module _ (E : ℕ → List ℕ) (perm : Permutations E) where
     abbrev pub N : Numbers
     N = numbersAfter (widthsOf As) startNumbers
 
-    lookup-here : (k : ℕ) (t : List ℕ) (w : Walk) → lookupAt (shapesOf (As ++ Bs)) (from + k) t w ≡ lookupAt (shapesOf Bs) k t w
+    lookup-here : (k : ℕ) (t : List ℕ) (w : State) → lookupAt (shapesOf (As ++ Bs)) (from + k) t w ≡ lookupAt (shapesOf Bs) k t w
     lookup-here k t w =
         ap₂ (λ (Ss : List Shape) (ms : List ℕ). lookupAt Ss (lookupsIn ms + k) t w) (map-append shapeOf As Bs)
         (sym (map-map (λ (S : Shape). S .width) shapeOf As))
@@ -124,7 +124,7 @@ module _ (E : ℕ → List ℕ) (perm : Permutations E) where
         count-is : lookupAt (shapesOf (As ++ Bs)) (closed E Bs N l from k .count) (tableAt E (As ++ Bs) startNumbers (closed E Bs N l from k .count)) (closed E Bs N l from k)
             ≡ lookupAt (shapesOf (As ++ Bs)) (from + k) (tableAt E (As ++ Bs) startNumbers (from + k)) (closed E Bs N l from k)
         count-is =
-            unfold dueWalk in
+            unfold dueState in
             refl
 
     pub walked-from : (n : ℕ) → n ≤ lookupsIn (widthsOf Bs)
@@ -155,11 +155,11 @@ closed-end E (L ∷ Ls) N l from =
     closed-past E L Ls N l from (T + lookupsIn (widthsOf Ls)) (omega arith)
     ∙ ap (closed E Ls (nextNumbers (L .width) N) (summed (valuesIn L l)) (from + T)) e
     ∙ closed-end E Ls (nextNumbers (L .width) N) (summed (valuesIn L l)) (from + T)
-    ∙ walk (omega arith) refl refl
+    ∙ same-state (omega arith) refl refl
 
 pub from-any-layer : FromAnyLayer
 from-any-layer E perm As Bs g s b n h =
     let M : Numbers = numbersAfter (widthsOf As) startNumbers in
-    ap (λ (x : List ℕ). walked (shapesOf (As ++ Bs)) (tableAt E (As ++ Bs) startNumbers) n (record { count = lookupsIn (widthsOf As); standing = x; area = zeroArea }))
+    ap (λ (x : List ℕ). walked (shapesOf (As ++ Bs)) (tableAt E (As ++ Bs) startNumbers) n (stateAt (lookupsIn (widthsOf As)) x zeroArea))
     (sym (encoded-decoded E perm (M .standing) s b))
     ∙ walked-from E perm As Bs g (decoded E (M .standing) s) (decoded-bytes E perm (M .standing) s (b .bytes)) n h

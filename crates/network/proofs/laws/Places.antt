@@ -11,7 +11,7 @@ use Rattle.bits.proofs.laws.Nibbles.{nibble-packed, nibble-lt}
 use Rattle.bits.specs.Bytes.{Bytes}
 use Rattle.bits.specs.Lists.{at}
 use Rattle.bits.specs.Nibbles.{nibble, packed}
-use Rattle.network.specs.Due.{Values, summed, valuesIn, valuesOf, leftBy, Due, held, blank, shown, dueIn, standingDue, areaDue, dueWalk}
+use Rattle.network.specs.Due.{Values, summed, valuesIn, valuesOf, leftBy, Due, held, blank, shown, dueIn, standingDue, areaDue, dueState}
 use Rattle.network.specs.Numbers.{Numbers, nextNumbers}
 use Rattle.network.specs.Order.{layerLookups}
 use Rattle.network.specs.Tables.{Layer, AllGood}
@@ -61,7 +61,7 @@ module _ (E : ℕ → List ℕ) (perm : Permutations E) where
       subst (λ (y : ℕ). Reads E y (f q)) (sym (nibble-packed n (λ j. shown E (f j)) (λ j. shown-lt (f j)) q b)) (reads-shown (f q) s)
 
 pub place-by-place : PlaceByPlace
-unfolding dueWalk
+unfolding dueState
 place-by-place E perm Ls g N l b from k = (
   λ q h. reads-packed E perm 16 (λ j. standingDue (valuesOf Ls l) (leftBy Ls l) N k j) q h (small-standing Ls g N l b k q),
   λ q h. reads-packed E perm 256 (λ j. areaDue (valuesOf Ls l) N k j) q h (small-area Ls g N l k q),

@@ -4,7 +4,6 @@ use Rattle.network.specs.Theorems.{Network}
 use Rattle.network.proofs.laws.InRange.{in-range}
 use Rattle.network.proofs.laws.Network.{one-lookup, from-any-layer, closed-end}
 use Rattle.network.proofs.laws.Places.{place-by-place}
-use Rattle.network.proofs.laws.Ranges.{by-stage}
 use Rattle.network.proofs.laws.Rule.{rule-labels, rule-tables}
 use Rattle.network.proofs.laws.Sizes.{table-parts}
 
@@ -19,5 +18,4 @@ network =
       rule-tables = rule-tables;
       in-range = in-range;
       table-parts = table-parts;
-      by-stage = by-stage;
     }

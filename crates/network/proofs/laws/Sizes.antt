@@ -1,9 +1,10 @@
--- Laws, not definitions: offsets add up, and each table is the part of the concatenation of all tables at its offset.
+-- Laws, not definitions: the size and kind of a table; offsets add up, and each table is the part of the concatenation of all tables at its
+-- offset.
 -- Assumes nothing.
 use mathlib.Core.Bool.{Bool, true, false, cond}
 use mathlib.Core.List.{List, [], _∷_}
 use mathlib.Core.Path.{_≡_, refl, sym, ap, _∙_}
-use Prim.Native.Nat.{ℕ, suc, _+_, _-_, _*_, _<_, min}
+use Prim.Native.Nat.{ℕ, suc, _+_, _-_, _*_, _≤_, _<_, min}
 use native.Mathlib.Decide.{decLt}
 use native.Mathlib.Nat.{not-suc-le-zero, le-refl}
 use native.Mathlib.Omega.{arith}
@@ -20,6 +21,22 @@ use Rattle.network.specs.Theorems.{TableParts}
 use Rattle.network.proofs.laws.Layers.{offset-none}
 use Rattle.network.proofs.laws.Order.{layer-lookups}
 use Rattle.network.proofs.laws.Parts.{concat-length, concat-part}
+
+-- ---- the two kinds of table: the first 16 of a layer are spread tables, the others XOR tables
+pub spread-size : (m j : ℕ) → j < 16 → sizeOf m j ≡ 256 * m
+spread-size m j h = rw (lt-ltb j 16 h)
+
+pub xor-size : (m j : ℕ) → 16 ≤ j → sizeOf m j ≡ 128
+xor-size m j h = rw (le-ltb j 16 h)
+
+module _ (E : ℕ → List ℕ) (L : Layer) (N : Numbers) (j : ℕ) (table : List ℕ) where
+  pub table-spread : j < 16 → table ≡ spreadTable E L N j → table ≡ tableIn E L N j
+  unfolding tableIn
+  table-spread h e = rw (lt-ltb j 16 h) e
+
+  pub table-xor : (m first : ℕ) → 16 ≤ j → m ≡ L .width → first ≡ N .first → table ≡ xorTable E m first (j - 16) → table ≡ tableIn E L N j
+  unfolding tableIn
+  table-xor m first h width number e = rw (le-ltb j 16 h) (rw (width, number) at e)
 
 -- ---- inside a layer
 offset-next : (m j : ℕ) → offsetOf m (suc j) ≡ offsetOf m j + sizeOf m j

@@ -21,7 +21,7 @@ use Rattle.bits.specs.Encodings.{encode, decode, Permutation}
 use Rattle.bits.specs.Lists.{at}
 use Rattle.bits.specs.Nibbles.{pack, nibble, packed}
 use Rattle.network.specs.Due.{sum, summed, valuesIn, held, blank, shown, dueIn, encoded}
-use Rattle.network.specs.Lookups.{Walk, zeroArea, spreadArea, xorArea, sums, lookupIn}
+use Rattle.network.specs.Lookups.{State, stateAt, zeroArea, spreadArea, xorArea, sums, lookupIn}
 use Rattle.network.specs.Numbers.{Numbers, encodingNumber, nextNumbers}
 use Rattle.network.specs.Order.{xors, layerLookups, nibbleOf, addedOf, sumOf, place, sumPlace, addedPlace, added}
 use Rattle.network.specs.Tables.{Layer, Good, shapeOf, spreadEntry, spreadTable, xorEntry, xorTable, tableIn}
@@ -29,8 +29,8 @@ use Rattle.network.proofs.laws.Order.{at-div, at-mod, layer-lookups, xo
 use Rattle.network.proofs.laws.Order.{added-to-added, added-word-lt, nibble-in, place-lt, word-group, nibble-group, first-word-lt, xors-pos}
 use Rattle.network.proofs.laws.Values.{sum-first, sum-next, sum-lt, nibble-summed}
 
-pub walk : {a b : Walk} → a .count ≡ b .count → a .standing ≡ b .standing → a .area ≡ b .area → a ≡ b
-walk p q r = λ i. record { count = p i; standing = q i; area = r i }
+pub same-state : {a b : State} → a .count ≡ b .count → a .standing ≡ b .standing → a .area ≡ b .area → a ≡ b
+same-state p q r = λ i. stateAt (p i) (q i) (r i)
 
 pub pack-nibbles : (l : List ℕ) (i : ℕ) → pack (nibble l (2 * i)) (nibble l (2 * i + 1)) ≡ at l i
 pack-nibbles l i = ap₂ pack (nibble-even l i) (nibble-odd l i) ∙ omega arith
@@ -313,39 +313,35 @@ module _ (E : ℕ → List ℕ) (perm : (n : ℕ) → Permutation (E n)) where
             omega (arith, good .groups, mul-le-mul-right (L .width) wl, mod-lt q pos)
 
     -- ---- the lookups of a layer
-    abbrev pub layerWalk : ℕ → ℕ → Walk
-    layerWalk from k = record { count = from + k; standing = encoded E (N .standing) l; area = packed 256 (cells k) }
+    abbrev pub layerState : ℕ → ℕ → State
+    layerState from k = stateAt (from + k) (encoded E (N .standing) l) (packed 256 (cells k))
 
-    pub layer-step : (from k : ℕ) → suc k < layerLookups (L .width) → lookupIn (shapeOf L) k (tableIn E L N k) (layerWalk from k) ≡ layerWalk from (suc k)
+    pub layer-step : (from k : ℕ) → suc k < layerLookups (L .width) → lookupIn (shapeOf L) k (tableIn E L N k) (layerState from k) ≡ layerState from (suc k)
     unfolding lookupIn tableIn
     layer-step from k b = go (decLt k 16)
       where
         more : suc (from + k) ≡ from + suc k
         more = omega arith
 
-        go : Dec (k < 16) → lookupIn (shapeOf L) k (tableIn E L N k) (layerWalk from k) ≡ layerWalk from (suc k)
-        go (yes c) = rw (lt-ltb k 16 c) (walk more refl (spread-step k c))
+        go : Dec (k < 16) → lookupIn (shapeOf L) k (tableIn E L N k) (layerState from k) ≡ layerState from (suc k)
+        go (yes c) = rw (lt-ltb k 16 c) (same-state more refl (spread-step k c))
         go (no c) =
             let e : k ≡ 16 + (k - 16) = omega arith in
             rw (le-ltb k 16 (omega arith), ne-eqb (suc k) (layerLookups (L .width)) (λ z. omega arith))
-            (walk more refl
+            (same-state more refl
             (subst (λ (n : ℕ). xorArea (L .width) (k - 16) (xorTable E (L .width) (N .first) (k - 16)) (packed 256 (cells n)) ≡ packed 256 (cells (suc n))) (sym e)
             (xor-step (k - 16) (xor-in (L .width) k (omega arith) (omega arith)))))
 
     pub layer-last : (from k : ℕ) → suc k ≡ layerLookups (L .width)
-        → lookupIn (shapeOf L) k (tableIn E L N k) (layerWalk from k)
-        ≡ record {
-          count = from + layerLookups (L .width);
-          standing = encoded E (nextNumbers (L .width) N .standing) (summed (valuesIn L l));
-          area = zeroArea;
-        }
+        → lookupIn (shapeOf L) k (tableIn E L N k) (layerState from k)
+        ≡ stateAt (from + layerLookups (L .width)) (encoded E (nextNumbers (L .width) N .standing) (summed (valuesIn L l))) zeroArea
     unfolding lookupIn tableIn
     layer-last from k b =
         let g : 16 ≤ k = omega (arith, layer-lookups (L .width), xors-pos (L .width) (good .groups)) in
         let e : k ≡ 16 + (k - 16) = omega arith in
         let f : suc (16 + (k - 16)) ≡ 16 + xors (L .width) = omega (arith, layer-lookups (L .width)) in
         rw (le-ltb k 16 g, eq-eqb (suc k) (layerLookups (L .width)) b)
-        (walk (omega arith)
+        (same-state (omega arith)
         (ap (λ (n : ℕ). sums (L .width) (xorArea (L .width) (k - 16) (xorTable E (L .width) (N .first) (k - 16)) (packed 256 (cells n)))) e
         ∙ ap (sums (L .width)) (xor-step (k - 16) (xor-in (L .width) k g (omega arith)) ∙ ap (λ (n : ℕ). packed 256 (cells n)) f)
         ∙ sums-end)

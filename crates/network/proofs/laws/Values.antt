@@ -18,7 +18,7 @@ use Rattle.bits.specs.Bytes.{Bytes}
 use Rattle.bits.specs.Groups.{xorAll}
 use Rattle.bits.specs.Lists.{at, tabulate}
 use Rattle.bits.specs.Nibbles.{half, nibble}
-use Rattle.network.specs.Due.{Values, sum, summed, valuesIn, valuesOf, leftBy, Due, held, blank, dueIn, standingDue, areaDue, dueWalk, closed}
+use Rattle.network.specs.Due.{Values, sum, summed, valuesIn, valuesOf, leftBy, Due, held, blank, dueIn, standingDue, areaDue, dueState, closed}
 use Rattle.network.specs.Numbers.{Numbers, encodingNumber, nextNumbers}
 use Rattle.network.specs.Order.{GoodWidth, layerLookups, added}
 use Rattle.network.specs.Tables.{Layer, AllGood}
@@ -170,6 +170,6 @@ follows-left (L ∷ Ls) (D ∷ Ds) l left f g =
 
 -- The closed form of layers that follow values is the state in which each place holds what these make due.
 pub closed-follows : (E : ℕ → List ℕ) (Ls : List Layer) (Ds : List Values) (l left : List ℕ) → Follows Ls Ds l left → AllGood Ls
-    → (N : Numbers) (from k : ℕ) → closed E Ls N l from k ≡ dueWalk E Ds left N from k
-unfolding dueWalk
+    → (N : Numbers) (from k : ℕ) → closed E Ls N l from k ≡ dueState E Ds left N from k
+unfolding dueState
 closed-follows E Ls Ds l left f g N from k = simp (follows-standing Ls Ds l left f g N k, follows-area Ls Ds l left f g N k)

@@ -2,37 +2,22 @@
 -- Assumes nothing.
 use mathlib.Core.Path.{_≡_, refl, sym, ap, ap₂, _∙_}
 use mathlib.Core.List.{List, [], _∷_, _++_, append-assoc}
-use Prim.Native.Nat.{ℕ, suc, _+_, _-_, _*_, _≤_, _<_}
+use Prim.Native.Nat.{ℕ, _+_, _-_, _*_, _≤_, _<_}
 use native.Mathlib.Numerals.{add-one}
 use native.Mathlib.Omega.{arith}
 use lib.ListN.{length, take, set, length-set}
-use lib.Seq.{take-suc-set, take-all}
+use lib.Seq.{take-all}
 use Rattle.bits.specs.Lists.{at, tabulate}
-use Rattle.bits.proofs.laws.Lists.{tabulate-at}
-use Rattle.bits.proofs.laws.Filled.{Filled, filled-none, filled-more}
+use Rattle.bits.proofs.laws.Lists.{put-one, tabulate-at}
+use Rattle.bits.proofs.laws.Filled.{Filled, filled-front}
 use Rattle.round.specs.Key.{wordAt, xorWord, temp, nextWord, expand, KeyExpansion}
 use Rattle.round.proofs.laws.Key.{word-take}
 
--- ---- The loop that lays out the key. Its invariant: the first i bytes of the 176 are the key's.
-pub record Laid (key w : List ℕ) (i : ℕ) : Type 0 where
-  pub within : i ≤ 16
-  pub front : Filled 176 (at key) w i
+-- ---- The loop that lays out the key fills 16 of the 176 bytes.
+pub laid : {key w : List ℕ} {i : ℕ} → Filled 176 (at key) w i → 16 ≤ i → length key ≡ 16 → take 16 w ≡ key
+laid {key} F h l = filled-front F h ∙ tabulate-at 16 key l
 
-pub laid-none : (key w : List ℕ) → length w ≡ 176 → Laid key w 0
-laid-none key w l = record { within = omega arith; front = filled-none 176 (at key) w l }
-
-pub laid-more : {key w : List ℕ} {i v : ℕ} → Laid key w i → i < 16 → v ≡ at key i → Laid key (set w i v) (i + 1)
-laid-more L h e = record { within = omega arith; front = filled-more (L .front) (omega arith) e }
-
-pub laid-all : {key w : List ℕ} {i : ℕ} → Laid key w i → 16 ≤ i → length key ≡ 16 → take 16 w ≡ key
-laid-all {key} {w} {i} L h l =
-    let e : i ≡ 16 = omega arith in
-    ap (λ (z : ℕ). take z w) (sym e) ∙ L .front .front ∙ ap (λ (z : ℕ). tabulate z (at key)) e ∙ tabulate-at 16 key l
-
--- ---- A byte, and a word of four, written at a: what then stands up to their end.
-put-one : (w : List ℕ) (a b k : ℕ) → a < length w → k ≡ suc a → take k (set w a b) ≡ take a w ++ (b ∷ [])
-put-one w a b k h e = ap (λ (z : ℕ). take z (set w a b)) e ∙ take-suc-set w a b h
-
+-- ---- A word of four bytes, written at a: what then stands up to its end.
 abbrev put : List ℕ → ℕ → List ℕ → List ℕ
 put w a x = set (set (set (set w a (at x 0)) (a + 1) (at x 1)) (a + 2) (at x 2)) (a + 3) (at x 3)
 

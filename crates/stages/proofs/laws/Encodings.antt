@@ -5,44 +5,43 @@ use mathlib.Core.Path.{_≡_, ap, _∙_}
 use Prim.Native.Nat.{ℕ, _+_, _*_, _/_, _%_, _<_}
 use native.Mathlib.Omega.{arith}
 use lib.ListN.{length}
+use Rattle.answers.specs.declared.Answer.the-variants.{Accepted}
 use Rattle.bits.specs.Bytes.{Bytes}
 use Rattle.bits.specs.Encodings.{decode, Permutation}
 use Rattle.bits.specs.Lists.{tabulate}
 use Rattle.bits.specs.Nibbles.{pack}
 use Rattle.bits.proofs.laws.Lists.{tabulate-ext}
 use Rattle.bundle.specs.Format.{encodings, partSize, sectionOf, partAt, encodingOf}
-use Rattle.bundle.specs.declared.answer.Judgement.the-variants.{Accepted}
 use Rattle.bundle.proofs.laws.Code.{multiple}
 use Rattle.judgement.specs.Judge.{judge}
 use Rattle.judgement.proofs.laws.Judgements.{accepted-sound}
-use Rattle.network.specs.Stages.{shifted, sourceOf, standingNumber}
-use Rattle.network.specs.declared.stage.Stage.{Stage}
+use Rattle.layout.specs.Stages.{sourceOf, standingNumber}
+use Rattle.layout.specs.declared.stage.Stage.{Stage}
 use Rattle.entries.specs.Encodings.{encodingIn}
 use Rattle.layers.specs.Layers.{readByte}
 
-module _ (l s : List ℕ) (e : s ≡ sectionOf 10 l 0) where
+module _ (nr : ℕ) (l s : List ℕ) (e : s ≡ sectionOf nr l 0) where
   pub whole-encodings : length s % 8 ≡ 0
   unfolding partSize
   whole-encodings =
-      let whole : length (sectionOf 10 l 0) / 8 * 8 ≡ length (sectionOf 10 l 0) = multiple 10 l 0 (omega arith) (omega arith) in
+      let whole : length (sectionOf nr l 0) / 8 * 8 ≡ length (sectionOf nr l 0) = multiple nr l 0 (omega arith) (omega arith) in
       omega (arith, ap length e, whole)
 
-  pub encodings-in : _≡_ {A = ℕ → List ℕ} (encodingIn s) (encodingOf 10 l)
+  pub encodings-in : _≡_ {A = ℕ → List ℕ} (encodingIn s) (encodingOf nr l)
   unfolding partAt partSize
   encodings-in = ap {B = ℕ → List ℕ} (λ (t : List ℕ). encodingIn t) e
 
   -- Each of them is a permutation where the bundle is accepted.
-  pub encodings-permute : Bytes l → judge 10 l ≡ Accepted → (n : ℕ) → n < 6048 → Permutation (encodingIn s n)
-  unfolding encodings
+  pub encodings-permute : Bytes l → judge nr l ≡ Accepted → (n : ℕ) → n < encodings nr → Permutation (encodingIn s n)
   encodings-permute bytes accepted n h =
-      let good = accepted-sound 10 l bytes accepted in
+      let good = accepted-sound nr l bytes accepted in
       rw (ap (λ (f : ℕ → List ℕ). f n) encodings-in) (good .lists n h)
 
 -- The bytes that position p of a stage reads, from the byte j that it reads and the numbers of that byte's two encodings.
-pub read-made : (l s dst : List ℕ) (stage : Stage) (p j high low : ℕ) → s ≡ sectionOf 10 l 0
-    → j ≡ sourceOf shifted stage p → high ≡ standingNumber 10 stage (2 * j) → low ≡ standingNumber 10 stage (2 * j + 1)
+pub read-made : (nr : ℕ) (reads : ℕ → ℕ) (l s dst : List ℕ) (stage : Stage) (p j high low : ℕ) → s ≡ sectionOf nr l 0
+    → j ≡ sourceOf reads stage p → high ≡ standingNumber nr stage (2 * j) → low ≡ standingNumber nr stage (2 * j + 1)
     → dst ≡ tabulate 256 (λ x. pack (decode (encodingIn s high) (x / 16)) (decode (encodingIn s low) (x % 16)))
-    → dst ≡ tabulate 256 (readByte l stage p)
+    → dst ≡ tabulate 256 (readByte nr reads l stage p)
 unfolding readByte partAt partSize
-read-made l s dst stage p j high low e source a b d =
+read-made nr reads l s dst stage p j high low e source a b d =
     d ∙ tabulate-ext 256 _ _ (λ x h. rw (e, a, b, source))

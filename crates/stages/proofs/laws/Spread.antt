@@ -7,6 +7,7 @@ use native.Mathlib.Nat.{div-add-mod', div-lt-iff-lt-mul, mod-lt}
 use native.Mathlib.Omega.{arith}
 use lib.ListN.{length, take}
 use lib.Seq.{getD-take}
+use Rattle.answers.specs.declared.Answer.the-variants.{Accepted}
 use Rattle.bits.specs.Bytes.{Bytes, number, byte, bytesOf, placed}
 use Rattle.bits.specs.Encodings.{decode}
 use Rattle.bits.specs.Lists.{at, tabulate, concat}
@@ -18,22 +19,21 @@ use Rattle.bits.proofs.laws.Lists.{at-tabulate, length-tabulate, ext-at, length
 use Rattle.bits.proofs.laws.Nibbles.{length-packed, at-packed, packed-ext, nibble-lt}
 use Rattle.bits.proofs.laws.Images.{images-long}
 use Rattle.matrices.specs.Matrices.{product}
-use Rattle.matrices.proofs.laws.Matrices.{product-lt}
 use Rattle.matrices.specs.Rows.{rowAt, stored}
+use Rattle.matrices.proofs.laws.Matrices.{product-lt}
 use Rattle.matrices.proofs.laws.Rows.{row-stored}
 use Rattle.inversion.specs.Elimination.{inverseOf}
 use Rattle.field.specs.Field.{mul}
 use Rattle.field.proofs.laws.OnBytes.{OnBytes}
 use Rattle.bundle.specs.Format.{encodings, encodingOf, partSize, sectionOf, partAt}
-use Rattle.bundle.specs.declared.answer.Judgement.the-variants.{Accepted}
 use Rattle.judgement.specs.Judge.{judge}
 use Rattle.judgement.proofs.laws.Judgements.{accepted-sound}
 use Rattle.network.specs.Numbers.{encodingNumber}
-use Rattle.network.specs.Stages.{widthOf, shifted, sourceOf, firstNumber, afterRound, standingNumber, numbersOf}
 use Rattle.network.specs.Tables.{spreadEntry, spreadTable}
-use Rattle.network.specs.declared.stage.Stage.{Stage}
-use Rattle.network.specs.declared.stage.Stage.the-variants.{Entry, First, Second, Exit, Beyond}
 use Rattle.network.proofs.laws.Order.{at-div, at-mod}
+use Rattle.layout.specs.Stages.{widthOf, shifted, sourceOf, firstNumber, afterRound, standingNumber, numbersOf}
+use Rattle.layout.specs.declared.stage.Stage.{Stage}
+use Rattle.layout.specs.declared.stage.Stage.the-variants.{Entry, First, Second, Exit, Beyond}
 use Rattle.whitebox.specs.Bundles.{codingsOf}
 use Rattle.whitebox.specs.Codings.{Codings, byteMatrixAt, columnMatrixAt}
 use Rattle.whitebox.specs.Parts.{Parts, Fine, forward}
@@ -71,7 +71,7 @@ module _ (m : ℕ) (f : ℕ → ℕ → ℕ) (pos : 0 < m) where
       ∙ sym (at-concat m (λ x. packed m (f x)) 256 (λ k g. length-packed m (f k)) x j few small)
       ∙ ap (at (concat 256 (λ x. packed m (f x)))) split
 
-  pub packed-words : packed (256 * m) (λ q. f (q / (2 * m)) (q % (2 * m))) ≡ concat 256 (λ x. packed m (f x))
+  packed-words : packed (256 * m) (λ q. f (q / (2 * m)) (q % (2 * m))) ≡ concat 256 (λ x. packed m (f x))
   packed-words =
       let nibbles : ℕ → ℕ = λ q. f (q / (2 * m)) (q % (2 * m)) in
       let words : ℕ → List ℕ = λ x. packed m (f x) in
@@ -102,7 +102,7 @@ on-bytes : (f g : ℕ → ℕ) → ((y : ℕ) → f y ≡ g y) → OnBytes f →
 on-bytes f g e lin x y h k = sym (e _) ∙ lin x y h k ∙ ap₂ lib.Bits.bitXor (e x) (e y)
 
 module _ (P : Parts) (fine : Fine P) (C : Codings) (p : ℕ) where
-  pub word-linear : (s : Stage) → 1 ≤ roundOf s → OnBytes (wordNumber P C s p)
+  word-linear : (s : Stage) → 1 ≤ roundOf s → OnBytes (wordNumber P C s p)
   word-linear Entry h = on-bytes _ _ (λ y. entry-form P C p y) (spread-xor 16 128 p (inverseOf 128 (C .inputMatrix)) (byteMatrixAt C 1))
   word-linear (First r) h =
       on-bytes _ _ (λ y. first-form P C p y r) (mixed-xor (columnMatrixAt C r (p / 4)) (λ t. P .coefficient t (p % 4)) (λ t g. fine .coefficient-lt t (p % 4)))
@@ -111,57 +111,59 @@ module _ (P : Parts) (fine : Fine P) (C : Codings) (p : ℕ) where
   word-linear Exit h = on-bytes _ _ (λ y. exit-form P C p y) (exit-xor (C .outputMatrix) p)
   word-linear Beyond h = absurd (omega arith)
 
-  pub word-bytes : (s : Stage) → 1 ≤ roundOf s → (y : ℕ) → Bytes (linearWord P C s p y) × (bytesOf (widthOf s) (wordNumber P C s p y) ≡ linearWord P C s p y)
+module _ (P : Parts) (fine : Fine P) (C : Codings) (nr p : ℕ) where
+  word-bytes : (s : Stage) → 1 ≤ roundOf s → (y : ℕ) → Bytes (linearWord P C s p y) × (bytesOf (widthOf s) (wordNumber P C s p y) ≡ linearWord P C s p y)
   unfolding wordNumber entryWord mixedWord secondWord placedWord
-  word-bytes Entry h y = let b = entry-bytes P fine C 10 p y in (b, bytesOf-numberOf 16 _ (length-tabulate 16 _) b)
-  word-bytes (First r) h y = let b = mixed-word-bytes P fine C 10 r p y in (b, bytesOf-numberOf 4 _ (length-bytesOf 4 _) b)
-  word-bytes (Second r) h y = let b = second-bytes P fine C 10 r p y in (b, bytesOf-numberOf 4 _ (length-tabulate 4 _) b)
-  word-bytes Exit h y = let b = placed-word-bytes P fine C 10 p y in (b, bytesOf-numberOf 16 _ (length-bytesOf 16 _) b)
+  word-bytes Entry h y = let b = entry-bytes P fine C nr p y in (b, bytesOf-numberOf 16 _ (length-tabulate 16 _) b)
+  word-bytes (First r) h y = let b = mixed-word-bytes P fine C nr r p y in (b, bytesOf-numberOf 4 _ (length-bytesOf 4 _) b)
+  word-bytes (Second r) h y = let b = second-bytes P fine C nr r p y in (b, bytesOf-numberOf 4 _ (length-tabulate 4 _) b)
+  word-bytes Exit h y = let b = placed-word-bytes P fine C nr p y in (b, bytesOf-numberOf 16 _ (length-bytesOf 16 _) b)
   word-bytes Beyond h y = absurd (omega arith)
 
-  acted-lt : (s : Stage) → 1 ≤ roundOf s → (x : ℕ) → x < 256 → acted P C 10 s p x < 256
+  acted-lt : (s : Stage) → 1 ≤ roundOf s → (x : ℕ) → x < 256 → acted P C nr s p x < 256
   unfolding substituted
   acted-lt Entry h x k = k
   acted-lt (First r) h x k = substituted-lt P fine _ r (P .reads p) p (product-lt 8 _ _)
   acted-lt (Second r) h x k = k
-  acted-lt Exit h x k = substituted-lt P fine _ 10 (P .reads p) p (product-lt 8 _ _)
+  acted-lt Exit h x k = substituted-lt P fine _ nr (P .reads p) p (product-lt 8 _ _)
   acted-lt Beyond h x k = k
 
-  word-is : (s : Stage) (x : ℕ) → linearWord P C s p (acted P C 10 s p x) ≡ wordOf P C 10 s p x
+  word-is : (s : Stage) (x : ℕ) → linearWord P C s p (acted P C nr s p x) ≡ wordOf P C nr s p x
   word-is Entry x = refl
   word-is (First r) x = refl
   word-is (Second r) x = refl
   word-is Exit x = refl
   word-is Beyond x = refl
 
--- ---- numbers in range
-after-lt : (r q : ℕ) → r ≤ 9 → q < 32 → afterRound r q < 6048
-unfolding encodingNumber
-after-lt zero q h k = omega arith
-after-lt (suc r) q h k = omega arith
+-- ---- numbers in range, for a stage of nr rounds
+source-lt : (P : Parts) → Fine P → (s : Stage) (p : ℕ) → p < 16 → sourceOf (P .reads) s p < 16
+source-lt P fine Entry p h = h
+source-lt P fine (First r) p h = fine .reads-lt p h
+source-lt P fine (Second r) p h = h
+source-lt P fine Exit p h = fine .reads-lt p h
+source-lt P fine Beyond p h = h
 
-pub standing-lt : (s : Stage) (q : ℕ) → 1 ≤ roundOf s → roundOf s ≤ 9 → q < 32 → standingNumber 10 s q < 6048
-unfolding encodingNumber
-standing-lt Entry q h g k = omega arith
-standing-lt (First r) q h g k = after-lt (r - 1) q (omega arith) k
-standing-lt (Second r) q h g k = omega arith
-standing-lt Exit q h g k = after-lt 9 q (omega arith) k
-standing-lt Beyond q h g k = absurd (omega arith)
+after-lt : (nr r q : ℕ) → r < nr → q < 32 → afterRound r q < encodings nr
+unfolding encodingNumber encodings
+after-lt nr zero q h k = omega arith
+after-lt nr (suc r) q h k = omega arith
 
-pub source-lt : (s : Stage) (p : ℕ) → p < 16 → sourceOf shifted s p < 16
-unfolding shifted
-source-lt Entry p h = h
-source-lt (First r) p h = omega arith
-source-lt (Second r) p h = h
-source-lt Exit p h = omega arith
-source-lt Beyond p h = h
+standing-lt : (nr : ℕ) (s : Stage) (q : ℕ) → 1 ≤ roundOf s → roundOf s < nr → q < 32 → standingNumber nr s q < encodings nr
+unfolding encodingNumber encodings
+standing-lt nr Entry q h g k = omega arith
+standing-lt nr (First r) q h g k = after-lt nr (r - 1) q (omega arith) k
+standing-lt nr (Second r) q h g k = omega arith
+standing-lt nr Exit q h g k = after-lt nr (nr - 1) q (omega arith) k
+standing-lt nr Beyond q h g k = absurd (omega arith)
 
-own-lt : (s : Stage) (p h : ℕ) → 1 ≤ roundOf s → roundOf s ≤ 9 → p < 16 → h < 2 * widthOf s → firstNumber 10 s + p * (2 * widthOf s) + h < 6048
-own-lt Entry p h a b c d = omega arith
-own-lt (First r) p h a b c d = omega arith
-own-lt (Second r) p h a b c d = omega arith
-own-lt Exit p h a b c d = omega arith
-own-lt Beyond p h a b c d = absurd (omega arith)
+own-lt : (nr : ℕ) (s : Stage) (p h : ℕ) → 1 ≤ roundOf s → roundOf s < nr → p < 16 → h < 2 * widthOf s
+    → firstNumber nr s + p * (2 * widthOf s) + h < encodings nr
+unfolding encodings
+own-lt nr Entry p h a b c d = omega arith
+own-lt nr (First r) p h a b c d = omega arith
+own-lt nr (Second r) p h a b c d = omega arith
+own-lt nr Exit p h a b c d = omega arith
+own-lt nr Beyond p h a b c d = absurd (omega arith)
 
 wide : (s : Stage) → 1 ≤ roundOf s → 0 < widthOf s
 wide Entry h = omega arith
@@ -170,83 +172,84 @@ wide (Second r) h = omega arith
 wide Exit h = omega arith
 wide Beyond h = absurd (omega arith)
 
--- ---- the table
-module _ (l w : List ℕ) (bytes : Bytes l) (keys : Bytes w) (accepted : judge 10 l ≡ Accepted) (s : Stage) (low : 1 ≤ roundOf s) (high : roundOf s ≤ 9) (p : ℕ) (hp : p < 16) where
-  abbrev P : Parts
-  P = forward 10 w
-
+-- ---- the table, of a cipher of the parts P and nr rounds
+module _ (P : Parts) (fine : Fine P) (nr : ℕ) (l : List ℕ) (bytes : Bytes l) (accepted : judge nr l ≡ Accepted)
+    (s : Stage) (low : 1 ≤ roundOf s) (high : roundOf s < nr) (p : ℕ) (hp : p < 16) where
   abbrev C : Codings
-  C = codingsOf 10 l
+  C = codingsOf nr l
 
-  own : (n : ℕ) → n < 6048 → C .encoding n ≡ encodingOf 10 l n
-  unfolding encodings
-  own n h = encoding-is 10 l n h
-
-  read-lt : (x : ℕ) → x < 256 → readByte l s p x < 256
-  unfolding readByte encodings
+  read-lt : (x : ℕ) → x < 256 → readByte nr (P .reads) l s p x < 256
+  unfolding readByte
   read-lt x h =
-      let j = sourceOf shifted s p in
-      let small = source-lt s p hp in
-      let S = accepted-sound 10 l bytes accepted in
-      let a = decode-lt _ (S .lists (standingNumber 10 s (2 * j)) (standing-lt s (2 * j) low high (omega arith))) (x / 16) (omega arith) in
-      let b = decode-lt _ (S .lists (standingNumber 10 s (2 * j + 1)) (standing-lt s (2 * j + 1) low high (omega arith))) (x % 16) (omega arith) in
+      let j = sourceOf (P .reads) s p in
+      let small = source-lt P fine s p hp in
+      let S = accepted-sound nr l bytes accepted in
+      let a = decode-lt _ (S .lists (standingNumber nr s (2 * j)) (standing-lt nr s (2 * j) low high (omega arith))) (x / 16) (omega arith) in
+      let b = decode-lt _ (S .lists (standingNumber nr s (2 * j + 1)) (standing-lt nr s (2 * j + 1) low high (omega arith))) (x % 16) (omega arith) in
       omega arith
 
   entry-is : (images : List ℕ) (v x h : ℕ) → x < 256 → h < 2 * widthOf s
-      → take (2 * widthOf s * 16) images ≡ concat (2 * widthOf s) (λ k. encodingOf 10 l (firstNumber 10 s + p * (2 * widthOf s) + k))
-      → v ≡ wordNumber P C s p (acted P C 10 s p (readByte l s p x))
-      → at images (16 * h + nibble (bytesOf (widthOf s) v) h) ≡ spreadEntry (C .encoding) (layerOf P C 10 s) (numbersOf 10 s) p x h
-  unfolding spreadEntry numbersOf encodingNumber forward readByte
+      → take (2 * widthOf s * 16) images ≡ concat (2 * widthOf s) (λ k. encodingOf nr l (firstNumber nr s + p * (2 * widthOf s) + k))
+      → v ≡ wordNumber P C s p (acted P C nr s p (readByte nr (P .reads) l s p x))
+      → at images (16 * h + nibble (bytesOf (widthOf s) v) h) ≡ spreadEntry (C .encoding) (layerOf P C nr s) (numbersOf nr s) p x h
+  unfolding spreadEntry numbersOf encodingNumber readByte
   entry-is images v x h hx hh e f =
       let m = widthOf s in
-      let fine = forward-fine 10 w keys in
-      let B = word-bytes P fine C p s low (acted P C 10 s p (readByte l s p x)) in
+      let B = word-bytes P fine C nr p s low (acted P C nr s p (readByte nr (P .reads) l s p x)) in
       let word = ap (bytesOf m) f ∙ B .1 in
       let u = nibble (bytesOf m v) h in
       let hu : u < 16 = subst (λ (t : List ℕ). nibble t h < 16) (sym word) (nibble-lt _ (B .0) h) in
-      let j = sourceOf shifted s p in
-      let small = source-lt s p hp in
-      let a = own (standingNumber 10 s (2 * j)) (standing-lt s (2 * j) low high (omega arith)) in
-      let b = own (standingNumber 10 s (2 * j + 1)) (standing-lt s (2 * j + 1) low high (omega arith)) in
+      let j = sourceOf (P .reads) s p in
+      let small = source-lt P fine s p hp in
+      let a = encoding-is nr l (standingNumber nr s (2 * j)) (standing-lt nr s (2 * j) low high (omega arith)) in
+      let b = encoding-is nr l (standingNumber nr s (2 * j + 1)) (standing-lt nr s (2 * j + 1) low high (omega arith)) in
       let read = sym (ap₂ (λ (c d : List ℕ). pack (decode c (x / 16)) (decode d (x % 16))) a b) in
       let i : 16 * h + u ≡ h * 16 + u = omega arith in
       ap (at images) i
       ∙ sym (getD-take (2 * m * 16) images (h * 16 + u) 0 (omega arith))
       ∙ ap (λ (t : List ℕ). at t (h * 16 + u)) e
-      ∙ at-concat 16 (λ k. encodingOf 10 l (firstNumber 10 s + p * (2 * m) + k)) (2 * m) (λ k g. images-long _) h u hh hu
-      ∙ ap₂ at (sym (own (firstNumber 10 s + p * (2 * m) + h) (own-lt s p h low high hp hh)))
-      (ap (λ (t : List ℕ). nibble t h) (word ∙ word-is P fine C p s (readByte l s p x) ∙ ap (wordOf P C 10 s p) read))
+      ∙ at-concat 16 (λ k. encodingOf nr l (firstNumber nr s + p * (2 * m) + k)) (2 * m) (λ k g. images-long _) h u hh hu
+      ∙ ap₂ at (sym (encoding-is nr l (firstNumber nr s + p * (2 * m) + h) (own-lt nr s p h low high hp hh)))
+      (ap (λ (t : List ℕ). nibble t h) (word ∙ word-is P fine C nr p s (readByte nr (P .reads) l s p x) ∙ ap (wordOf P C nr s p) read))
 
-  pub spread-is : (values images dst : List ℕ) (f : ℕ → ℕ) → dst ≡ concat 256 (λ x. encodedWord (at images) (widthOf s) (combined f (at values x)))
-      → values ≡ tabulate 256 (λ x. acted P C 10 s p (readByte l s p x))
+  spread-is : (values images dst : List ℕ) (f : ℕ → ℕ) → dst ≡ concat 256 (λ x. encodedWord (at images) (widthOf s) (combined f (at values x)))
+      → values ≡ tabulate 256 (λ x. acted P C nr s p (readByte nr (P .reads) l s p x))
       → ((k : ℕ) → k < 8 → f k ≡ wordNumber P C s p (2 ^ k))
-      → take (2 * widthOf s * 16) images ≡ concat (2 * widthOf s) (λ k. encodingOf 10 l (firstNumber 10 s + p * (2 * widthOf s) + k))
-      → dst ≡ spreadTable (C .encoding) (layerOf P C 10 s) (numbersOf 10 s) p
+      → take (2 * widthOf s * 16) images ≡ concat (2 * widthOf s) (λ k. encodingOf nr l (firstNumber nr s + p * (2 * widthOf s) + k))
+      → dst ≡ spreadTable (C .encoding) (layerOf P C nr s) (numbersOf nr s) p
   unfolding encodedBytes spreadTable
   spread-is values images dst f d v b i =
-      let fine = forward-fine 10 w keys in
       let lin = word-linear P fine C p s low in
       d
       ∙ concat-same 256 _ _ (λ x hx.
       packed-ext (widthOf s) _ _ (λ h hh.
       entry-is images (combined f (at values x)) x h hx hh i
       (ap (combined f) (ap (λ (t : List ℕ). at t x) v ∙ at-tabulate 256 _ x hx)
-      ∙ by-powers (wordNumber P C s p) f lin b _ (acted-lt P fine C p s low _ (read-lt x hx)))))
-      ∙ sym (packed-words (widthOf s) (spreadEntry (C .encoding) (layerOf P C 10 s) (numbersOf 10 s) p) (wide s low))
+      ∙ by-powers (wordNumber P C s p) f lin b _ (acted-lt P fine C nr p s low _ (read-lt x hx)))))
+      ∙ sym (packed-words (widthOf s) (spreadEntry (C .encoding) (layerOf P C nr s) (numbersOf nr s) p) (wide s low))
 
-  -- The same from what the code has: the width m, the first number, the section of encodings, and each list as the call that fills it leaves it.
+-- The same for ten rounds and FIPS 197's cipher, from what the code has: the width m, the first number, the section of encodings, and each list as
+-- the call that fills it leaves it.
+module _ (l w : List ℕ) (bytes : Bytes l) (keys : Bytes w) (accepted : judge 10 l ≡ Accepted)
+    (s : Stage) (low : 1 ≤ roundOf s) (high : roundOf s ≤ 9) (p : ℕ) (hp : p < 16) where
+  abbrev P : Parts
+  P = forward 10 w
+
+  abbrev C10 : Codings
+  C10 = codingsOf 10 l
+
   pub spread-made : (m first : ℕ) (section values basis old images dst : List ℕ)
       → m ≡ widthOf s
       → first ≡ firstNumber 10 s
       → section ≡ sectionOf 10 l 0
       → 16 ≤ length old
-      → values ≡ tabulate 256 (λ x. acted P C 10 s p (readByte l s p x))
-      → basis ≡ stored 8 (λ k. wordNumber P C s p (2 ^ k)) old
+      → values ≡ tabulate 256 (λ x. acted P C10 10 s p (readByte 10 shifted l s p x))
+      → basis ≡ stored 8 (λ k. wordNumber P C10 s p (2 ^ k)) old
       → take (2 * m * 16) images ≡ concat (2 * m) (λ h. encodingIn section (first + p * (2 * m) + h))
       → dst ≡ concat 256 (λ x. encodedWord (at images) m (combined (rowAt basis) (at values x)))
-      → dst ≡ spreadTable (C .encoding) (layerOf P C 10 s) (numbersOf 10 s) p
-  unfolding partAt partSize
+      → dst ≡ spreadTable (C10 .encoding) (layerOf P C10 10 s) (numbersOf 10 s) p
+  unfolding partAt partSize forward
   spread-made m first section values basis old images dst width number sect long val bas img written =
-      spread-is values images dst (rowAt basis) (rw width at written) val
+      spread-is P (forward-fine 10 w keys) 10 l bytes accepted s low (omega arith) p hp values images dst (rowAt basis) (rw width at written) val
       (λ k h. ap (λ (t : List ℕ). rowAt t k) bas ∙ row-stored 8 _ old long k h)
       (rw (width, number, sect) at img)

@@ -13,7 +13,7 @@ use Rattle.bits.specs.Encodings.{encode, decode}
 use Rattle.bits.specs.Nibbles.{packed}
 use Rattle.bits.proofs.laws.Nibbles.{packed-ext}
 use Rattle.bits.proofs.laws.Multiples.{product-le}
-use Rattle.bundle.specs.Format.{encodings, sectionOf}
+use Rattle.bundle.specs.Format.{encodings, tenEncodings, sectionOf}
 use Rattle.network.specs.Numbers.{encodingNumber, layerResults}
 use Rattle.network.specs.Order.{GoodWidth, xors, turnOf, groupOf, nibbleOf, addedOf, sumOf}
 use Rattle.network.specs.Tables.{xorEntry, xorTable}
@@ -59,12 +59,12 @@ module _ (m : ℕ) (good : GoodWidth m) (first x : ℕ) where
       ap (λ (z : ℕ). first + z * (2 * m) + nibbleOf m x) e
 
   -- The table from these numbers and from the section of encodings.
-  pub xor-made : (l section dst : List ℕ) (sum : ℕ) → first + layerResults m ≤ 6048 → x < xors m → section ≡ sectionOf 10 l 0
+  pub xor-made : (nr : ℕ) (l section dst : List ℕ) (sum : ℕ) → first + layerResults m ≤ encodings nr → x < xors m → section ≡ sectionOf nr l 0
       → sum ≡ cond (eqb (addedOf m x) 0) (first + sumOf m x * (2 * m) + nibbleOf m x) (first + 16 * (2 * m) + x - 2 * m)
       → dst ≡ packedBy section sum (first + (sumOf m x + addedOf m x + 1) * (2 * m) + nibbleOf m x) (first + 16 * (2 * m) + x)
-      → dst ≡ xorTable (codingsOf 10 l .encoding) m first x
-  unfolding xorTable xorEntry encodings
-  xor-made l section dst sum room made is a d =
+      → dst ≡ xorTable (codingsOf nr l .encoding) m first x
+  unfolding xorTable xorEntry
+  xor-made nr l section dst sum room made is a d =
       let w = sumOf m x in
       let k = addedOf m x in
       let h = nibbleOf m x in
@@ -73,8 +73,8 @@ module _ (m : ℕ) (good : GoodWidth m) (first x : ℕ) where
       let hh = nibble-in m good x in
       let wide = good .wide in
       let lt = number-lt m good first in
-      let own : (i n : ℕ) → i ≡ n → n < 6048 → encodingIn section i ≡ codingsOf 10 l .encoding n = λ i n e g.
-      ap (encodingIn section) e ∙ ap (λ (f : ℕ → List ℕ). f n) (encodings-in l section is) ∙ sym (encoding-is 10 l n g) in
+      let own : (i n : ℕ) → i ≡ n → n < encodings nr → encodingIn section i ≡ codingsOf nr l .encoding n = λ i n e g.
+      ap (encodingIn section) e ∙ ap (λ (f : ℕ → List ℕ). f n) (encodings-in nr l section is) ∙ sym (encoding-is nr l n g) in
       let A = own sum _ (a ∙ so-far-is) (omega (arith, lt w k h (omega arith) (omega arith) hh)) in
       let B = own _ _ added-is (omega (arith, lt (w + suc k) 0 h within (omega arith) hh)) in
       let R = own _ _ result-is (omega (arith, lt w (suc k) h (omega arith) (omega arith) hh)) in
@@ -82,7 +82,7 @@ module _ (m : ℕ) (good : GoodWidth m) (first x : ℕ) where
 
 -- What the code's sums and products stay below.
 pub record Within (m first x : ℕ) : Type 0 where
-  pub result : first + 16 * (2 * m) + x < 6048
+  pub result : first + 16 * (2 * m) + x < tenEncodings
   pub sum : sumOf m x * (2 * m) ≤ 480
   pub next : (sumOf m x + addedOf m x + 1) * (2 * m) ≤ 480
   pub word : sumOf m x < 16
@@ -91,7 +91,7 @@ pub record Within (m first x : ℕ) : Type 0 where
   pub wide : 2 ≤ m
   pub most : m ≤ 16
 
-pub xor-within : (m first x : ℕ) → GoodWidth m → first + layerResults m ≤ 6048 → x < xors m → Within m first x
+pub xor-within : (m first x : ℕ) → GoodWidth m → first + layerResults m ≤ tenEncodings → x < xors m → Within m first x
 xor-within m first x good room made =
     let within = added-word-lt m good x made in
     let few = added-lt m good x in

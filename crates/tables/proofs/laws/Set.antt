@@ -1,4 +1,4 @@
--- Laws, not definitions: a table by its number, where it stands in the set, and a loop that writes the set table by table.
+-- Laws, not definitions: a table by the place that the code has of it, and a loop that writes the tables of a set one by one.
 -- Assumes nothing.
 use mathlib.Core.List.{List, _++_}
 use mathlib.Core.Path.{_≡_, refl, sym, ap, ap₂, _∙_}
@@ -10,116 +10,92 @@ use lib.ListN.{length, take, drop, length-take, length-drop}
 use lib.Seq.{take-all}
 use Rattle.bits.specs.Lists.{concat}
 use Rattle.bits.proofs.laws.Lists.{concat-next, take-put}
-use Rattle.layers.specs.Layers.{roundOf, InverseFor}
-use Rattle.network.specs.Order.{layerLookups}
-use Rattle.network.specs.Sizes.{sizeOf}
-use Rattle.network.specs.Stages.{stageOf, indexOf, widthOf, firstLookup, lookups, tableSize, tableOffset, numbersOf, placeOf}
 use Rattle.network.specs.Tables.{tableIn}
-use Rattle.network.specs.declared.stage.Place.{Place}
-use Rattle.network.specs.declared.stage.Stage.{Stage}
-use Rattle.network.proofs.laws.Instance.{first-offset, next-offset, offset-within}
-use Rattle.network.proofs.laws.Ranges.{by-range, lookups-are, by-stage}
-use Rattle.network.proofs.laws.Stages.{lookups-16, lookups-4}
+use Rattle.layout.specs.Stages.{stageOf, indexOf, lookups, tablesBytes, tenLookups, tenTablesBytes, tableSize, tableOffset, numbersOf, placeOf}
+use Rattle.layout.specs.declared.stage.Place.{Place}
+use Rattle.layout.specs.declared.stage.Stage.{Stage}
+use Rattle.layout.proofs.laws.Cases.{starred}
+use Rattle.layout.proofs.laws.Instance.{first-offset, next-offset}
+use Rattle.layout.proofs.laws.Lookup.{stands}
+use Rattle.layout.proofs.laws.Ranges.{by-range, by-stage}
 use Rattle.whitebox.specs.Codings.{Codings}
 use Rattle.whitebox.specs.Parts.{Parts}
 use Rattle.whitebox.specs.Tables.{layerOf, layers, tableOf}
+use Rattle.layers.specs.Layers.{roundOf, InverseFor}
+use Rattle.layers.proofs.laws.Numbers.{Round}
 
--- ---- a table's stage
--- The stage of a table has a round of 1 to 9, and the table's number there is one of its layer.
-abbrev In : ℕ → Stage → Type 0
-In k s = (1 ≤ roundOf s) × (roundOf s ≤ 9) × (k - firstLookup 10 s < layerLookups (widthOf s))
+-- ---- a table by the place that the code has of it
+round-of : (n : ℕ) → n < tenLookups → Round (roundOf (stageOf 10 n))
+round-of n h =
+    by-range 10 n h (λ (s : Stage). Round (roundOf s))
+    (λ a. record { low = omega arith; high = omega arith })
+    (λ r lo hi a b. record { low = lo; high = omega arith })
+    (λ r lo hi a b. record { low = lo; high = omega arith })
+    (λ a. record { low = omega arith; high = omega arith })
 
-in-stage : (k : ℕ) → k < 3008 → In k (stageOf 10 k)
-in-stage k h =
-    by-range 10 k h (In k)
-    (λ a. (omega arith, omega arith, omega (arith, lookups-16)))
-    (λ r lo hi a b. (lo, omega arith, omega (arith, lookups-4)))
-    (λ r lo hi a b. (lo, omega arith, omega (arith, lookups-4)))
-    (λ a. (omega arith, omega arith, omega (arith, lookups-16)))
+-- Its stage has a round of 1 to 9.
+pub round-at : (n : ℕ) (q : Place) → q ≡ placeOf 10 n → n < tenLookups → Round (roundOf (q .stage))
+round-at n q e h = rw e (round-of n h)
 
-pub in-set : (k : ℕ) → k < 3008 → k < lookups 10
-in-set k h = omega (arith, lookups-are 10)
-
-ends-within : (k : ℕ) → k < 3008 → tableOffset 10 k + tableSize 10 k ≤ 770048
-ends-within k h = omega (arith, offset-within 10 k (in-set k h), by-stage 10 .all-bytes)
-
--- ---- the place of table n, as the code has it
-pub record Placed (n : ℕ) (q : Place) : Type 0 where
-  pub low : 1 ≤ roundOf (q .stage)
-  pub high : roundOf (q .stage) ≤ 9
-  pub index : q .index < layerLookups (widthOf (q .stage))
-  pub kind : tableSize 10 n ≡ sizeOf (widthOf (q .stage)) (q .index)
-  pub size : q .size ≡ tableSize 10 n
-  pub offset : q .offset ≡ tableOffset 10 n
-  pub end : q .offset + q .size ≤ 770048
-
-module _ (n : ℕ) (q : Place) (e : q ≡ placeOf 10 n) where
-  pub placed : n < 3008 → Placed n q
-  unfolding indexOf
-  placed h =
-      let s = in-stage n h in
-      rw e (record {
-        low = s .0;
-        high = s .1;
-        index = s .2;
-        kind = by-stage 10 .size-is n (in-set n h);
-        size = refl;
-        offset = refl;
-        end = ends-within n h;
-      })
-
+module _ (nr n : ℕ) (q : Place) (e : q ≡ placeOf nr n) where
   -- The inverse that the table needs, by the place and by the number.
   module _ (l m : List ℕ) where
-    pub inverse-by-place : (indexOf 10 n < 16 → InverseFor l (stageOf 10 n) (indexOf 10 n) m) → q .index < 16 → InverseFor l (q .stage) (q .index) m
+    pub inverse-by-place : (indexOf nr n < 16 → InverseFor l (stageOf nr n) (indexOf nr n) m) → q .index < 16 → InverseFor l (q .stage) (q .index) m
     inverse-by-place i = rw e i
 
-    pub inverse-by-number : (q .index < 16 → InverseFor l (q .stage) (q .index) m) → indexOf 10 n < 16 → InverseFor l (stageOf 10 n) (indexOf 10 n) m
+    pub inverse-by-number : (q .index < 16 → InverseFor l (q .stage) (q .index) m) → indexOf nr n < 16 → InverseFor l (stageOf nr n) (indexOf nr n) m
     inverse-by-number i = rw e at i
 
-  pub table-made : (P : Parts) (C : Codings) (dst : List ℕ) → n < 3008
-      → dst ≡ tableIn (C .encoding) (layerOf P C 10 (q .stage)) (numbersOf 10 (q .stage)) (q .index)
-      → dst ≡ tableOf P C 10 n
+  pub table-made : (P : Parts) (C : Codings) (dst : List ℕ) → n < lookups nr
+      → dst ≡ tableIn (C .encoding) (layerOf P C nr (q .stage)) (numbersOf nr (q .stage)) (q .index)
+      → dst ≡ tableOf P C nr n
   unfolding tableOf layers
-  table-made P C dst h d = (rw e at d) ∙ sym (by-stage 10 .table-is (C .encoding) (layerOf P C 10) (λ s. refl) n (in-set n h))
+  table-made P C dst h d = (rw e at d) ∙ sym (by-stage nr .table-is (C .encoding) (layerOf P C nr) (λ s. refl) n h)
 
 -- ---- a loop that writes table after table
--- The loop's invariant: the memory begins with the first n tables.
-pub record Begun (t : ℕ → List ℕ) (memory : List ℕ) (n : ℕ) : Type 0 where
-  pub within : n ≤ 3008
-  pub long : length memory ≡ 770048
-  pub front : take (tableOffset 10 n) memory ≡ concat n t
+-- The loop's invariant: the memory begins with the first n tables. `count` and `bytes` are the sizes as the numbers that the code has.
+pub record Begun (nr count bytes : ℕ) (t : ℕ → List ℕ) (memory : List ℕ) (n : ℕ) : Type 0 where
+  pub within : n ≤ count
+  pub long : length memory ≡ bytes
+  pub front : take (tableOffset nr n) memory ≡ concat n t
 
-pub begun-none : (t : ℕ → List ℕ) (memory : List ℕ) → length memory ≡ 770048 → Begun t memory 0
+pub begun-none : (nr count bytes : ℕ) (t : ℕ → List ℕ) (memory : List ℕ) → length memory ≡ bytes → Begun nr count bytes t memory 0
 unfolding concat
-begun-none t memory l = record { within = omega arith; long = l; front = ap (λ (k : ℕ). take k memory) (first-offset 10) }
+begun-none nr count bytes t memory l = record { within = omega arith; long = l; front = ap (λ (k : ℕ). take k memory) (first-offset nr) }
 
-module _ {t : ℕ → List ℕ} {memory : List ℕ} {n : ℕ} (b : Begun t memory n) where
+module _ {nr count bytes : ℕ} (number : lookups nr ≡ count) (size : tablesBytes nr ≡ bytes)
+    {t : ℕ → List ℕ} {memory : List ℕ} {n : ℕ} (b : Begun nr count bytes t memory n) where
   -- A turn: the part at the place of table n is lent, and comes back with the table.
-  pub begun-next : n < 3008 → (q : Place) → q ≡ placeOf 10 n → (table : List ℕ)
+  pub begun-next : n < count → (q : Place) → q ≡ placeOf nr n → (table : List ℕ)
       → table ≡ t n
       → length table ≡ length (take (q .offset + q .size - q .offset) (drop (q .offset) memory))
       → length (putMid (q .offset) (q .offset + q .size - q .offset) memory table) ≡ length memory
-      → Begun t (putMid (q .offset) (q .offset + q .size - q .offset) memory table) (n + 1)
+      → Begun nr count bytes t (putMid (q .offset) (q .offset + q .size - q .offset) memory table) (n + 1)
   begun-next h q e table made part kept =
-      let at = placed n q e h in
+      let inside : n < lookups nr = omega (arith, number) in
+      let at = stands inside e in
       let a = q .offset in
       let z = q .size in
-      let lent : length (take (a + z - a) (drop a memory)) ≡ z = simp (length-take, length-drop) (omega arith) in
-      let next : tableOffset 10 (n + 1) ≡ tableOffset 10 n + tableSize 10 n = ap (tableOffset 10) (add-one n) ∙ next-offset 10 n (in-set n h) in
+      let lent : length (take (a + z - a) (drop a memory)) ≡ z = simp (length-take, length-drop) (omega (arith, at .end, size, b .long)) in
+      let next : tableOffset nr (n + 1) ≡ tableOffset nr n + tableSize nr n = ap (tableOffset nr) (add-one n) ∙ next-offset nr n inside in
       let before : take a memory ≡ concat n t = ap (λ (k : ℕ). take k memory) (at .offset) ∙ b .front in
       record {
         within = omega arith;
         long = kept ∙ b .long;
-        front = take-put a (a + z - a) (tableOffset 10 (n + 1)) memory table (omega arith) (omega arith)
+        front = take-put a (a + z - a) (tableOffset nr (n + 1)) memory table (omega (arith, at .end, size, b .long)) (omega (arith, at .offset, at .size))
             ∙ ap₂ (λ u v. u ++ v) before made
             ∙ sym (concat-next n t);
       }
 
-  pub begun-all : 3008 ≤ n → memory ≡ concat 3008 t
-  begun-all h =
-      let all : n ≡ 3008 = omega arith in
-      let end : tableOffset 10 n ≡ 770048 = omega (arith, by-stage 10 .offset-none n (omega (arith, lookups-are 10)), by-stage 10 .all-bytes) in
-      sym (take-all 770048 memory (omega arith))
+  begun-end : count ≤ n → memory ≡ concat count t
+  begun-end h =
+      let all : n ≡ count = omega (arith, b .within) in
+      let end : tableOffset nr n ≡ bytes = by-stage nr .offset-none n (omega (arith, number)) ∙ size in
+      sym (take-all bytes memory (omega (arith, b .long)))
       ∙ ap (λ (k : ℕ). take k memory) (sym end)
       ∙ b .front
       ∙ ap (λ (k : ℕ). concat k t) all
+
+-- All tables of a set of ten rounds.
+pub begun-all : {t : ℕ → List ℕ} {memory : List ℕ} {n : ℕ} → Begun 10 tenLookups tenTablesBytes t memory n → tenLookups ≤ n → memory ≡ concat tenLookups t
+begun-all = begun-end (starred .all-lookups) (starred .table-bytes)

@@ -11,9 +11,9 @@ use lib.ListN.{length, take, drop, length-take, length-drop}
 use borrow.Author.Tests.{eq-eqb, ne-eqb, lt-ltb, le-ltb, ltb-false}
 use Rattle.bits.proofs.laws.Multiples.{multiple-of}
 use Rattle.bundle.specs.Format.{partCount, partSize, sectionLength, offset, frame}
-use Rattle.bundle.specs.declared.answer.Judgement.{Judgement}
-use Rattle.bundle.specs.declared.answer.Judgement.the-variants.{Accepted, Refused}
-use Rattle.bundle.specs.declared.answer.Refusal.{Refusal}
+use Rattle.answers.specs.declared.Answer.{Answer}
+use Rattle.answers.specs.declared.Answer.the-variants.{Accepted, Refused}
+use Rattle.answers.specs.declared.Refusal.{Refusal}
 use Rattle.bundle.proofs.laws.Tests.{or-right}
 use Rattle.view.specs.Views.{startOf, startsOf, emptyWhen, sectionFrom, partFrom}
 use Rattle.view.specs.Serving.{noStarts}
@@ -31,7 +31,7 @@ module _ (nr : ℕ) (l : List ℕ) where
   start-none r e s = rw e
 
   -- j is the judgement of the frame; the five numbers are those that the code reads.
-  module _ {j : Judgement} (f : j ≡ frame nr l) where
+  module _ {j : Answer} (f : j ≡ frame nr l) where
     pub starts-are : j ≡ Accepted → {a b c d e : ℕ} → a ≡ offset l 0 → b ≡ offset l 1 → c ≡ offset l 2 → d ≡ offset l 3 → e ≡ offset l 4
         → record { encodings = a; bytes = b; columns = c; input = d; output = e } ≡ startsOf nr l
     unfolding startsOf

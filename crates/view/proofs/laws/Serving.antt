@@ -6,9 +6,9 @@ use Prim.Native.Nat.{ℕ, _<_}
 use native.Mathlib.Omega.{arith}
 use denote.Ref.{now}
 use Rattle.bundle.specs.Format.{partSize, offset, frame, sectionOf, partOf, partAt}
-use Rattle.bundle.specs.declared.answer.Judgement.{Judgement}
-use Rattle.bundle.specs.declared.answer.Judgement.the-variants.{Accepted, Refused}
-use Rattle.bundle.specs.declared.answer.Refusal.{Refusal}
+use Rattle.answers.specs.declared.Answer.{Answer}
+use Rattle.answers.specs.declared.Answer.the-variants.{Accepted, Refused}
+use Rattle.answers.specs.declared.Refusal.{Refusal}
 use Rattle.bundle.proofs.laws.Frame.{framed, section-is, section-none, section-fits, apart}
 use Rattle.bundle.proofs.laws.Parts.{part-refused}
 use Rattle.view.specs.Views.{startOf, startsOf, sectionFrom, numberedFrom, viewOf, partIn}
@@ -19,7 +19,7 @@ use Rattle.view.proofs.laws.Code.{start-is, start-none, starts-none, fr
 
 -- A section from its start is the section.
 module _ (nr : ℕ) (l : List ℕ) (s : ℕ) (h : s < 5) where
-  started-by : (j : Judgement) → frame nr l ≡ j → sectionFrom nr l s (startOf nr l s) ≡ sectionOf nr l s
+  started-by : (j : Answer) → frame nr l ≡ j → sectionFrom nr l s (startOf nr l s) ≡ sectionOf nr l s
   started-by Accepted e =
       ap (sectionFrom nr l s) (start-is nr l e s)
       ∙ sym (from-here nr l s (offset l s) (λ z. omega (arith, apart nr l (framed nr l e) s h .0)) (section-fits nr l e s h))

@@ -1,16 +1,17 @@
--- `walk_cases::every` ensures nothing: what is left is that it ends and that the stop does not wrap. The invariant: the stop is at most 3,009, one
--- behind the last lookup's. The measure is the number of stops left.
+-- `walk_cases::every` ensures nothing: what is left is that it ends and that the stop does not wrap. The invariant: the stop is at most one
+-- behind the last count. The measure is the number of stops left.
 -- Assumes nothing.
-use Prim.Native.Nat.{_≤_, _-_}
+use Prim.Native.Nat.{_+_, _-_, _≤_}
+use Rattle.layout.specs.Stages.{tenLookups}
 use borrow.Author.Needs.{needs}
 use Rattle.walk_cases.proofs.every.Statement.{statement}
 use Rattle.walk_cases.proofs.every.Tie as tie
 
 abbrev Inv-loop : tie.InvT-loop
-Inv-loop mem w₀ stop₀ w stop = stop ≤ 3009
+Inv-loop mem w₀ stop₀ w stop = stop ≤ tenLookups + 1
 
 abbrev μ-loop : tie.MeasureT-loop
-μ-loop mem w₀ stop₀ w stop = 3009 - stop
+μ-loop mem w₀ stop₀ w stop = tenLookups + 1 - stop
 
 -- ---- the needs that the search closes
 loop-holds : tie.Need-loop-holds Inv-loop μ-loop

@@ -1,26 +1,28 @@
--- `walker::over_input` ends and reads within its memory. The loop's invariant, `Reading` of `laws.Sizes`: at most 3,008 lookups are made, and the
--- memory has kept its length. A turn lends the front of the memory, of the size of the lookup's table, which fits (`table-fits`); it comes back
+-- `walker::over_input` ends and reads within its memory. The loop's invariant, `Reading` of `laws.Sizes`: no more lookups are made than there are, and the
+-- memory has kept its length. A turn lends the front of the memory, of the size of the lookup's table, which fits (`placed` of `layout`); it comes back
 -- as long as it was (`long-again`), and `read_full` ensures that no more was read. The measure is the number of lookups left.
 -- Assumes nothing.
 use mathlib.Core.List.{_++_}
 use mathlib.Core.Path.{_≡_, sym, _∙_}
 use Prim.Native.Nat.{_-_, _≤_}
 use lib.ListN.{length, drop, length-take, length-append}
-use Rattle.walker.proofs.laws.Sizes.{table-fits, Reading, long-again}
+use Rattle.layout.specs.Stages.{tenLookups}
+use Rattle.layout.proofs.laws.Ten.{placed}
+use Rattle.walker.proofs.laws.Sizes.{Reading, long-again}
 use borrow.Author.Needs.{needs}
 use native.Mathlib.Omega.{arith}
 use Rattle.walker.proofs.over_input.Statement.{statement}
 use Rattle.walker.proofs.over_input.Tie as tie
 
 abbrev Inv-loop : tie.InvT-loop
-Inv-loop table₀ w₀ k₀ table w k = Reading table k
+Inv-loop table₀ w₀ k₀ table w k = Reading tenLookups table k
 
 abbrev μ-loop : tie.MeasureT-loop
-μ-loop table₀ w₀ k₀ table w k = 3008 - k
+μ-loop table₀ w₀ k₀ table w k = tenLookups - k
 
 -- the table of the turn's lookup
 fits : (c : tie.After-place-of Inv-loop μ-loop) → c .place-of .result .size ≤ 4096
-fits c = table-fits _ _ (omega arith) (c .place-of .ensures)
+fits c = placed (omega arith) (c .place-of .ensures) .most
 
 -- the memory behind the read, whose front has come back
 refilled : (c : tie.After-read-full Inv-loop μ-loop)
@@ -77,6 +79,9 @@ move-one-requires c κs = search needs
 enum-told : tie.Need-enum-told Inv-loop μ-loop
 enum-told c = search needs
 
+enum-told-2 : tie.Need-enum-told-2 Inv-loop μ-loop
+enum-told-2 c = search needs
+
 returns : tie.Need-returns Inv-loop μ-loop
 returns c = search needs
 
@@ -104,6 +109,7 @@ over-input-spec =
     slice-aggregate-move-one
     move-one-requires
     enum-told
+    enum-told-2
     same-length
     returns
     add-k

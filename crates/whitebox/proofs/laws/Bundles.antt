@@ -8,6 +8,7 @@ use native.Mathlib.Decide.{decLt}
 use native.Mathlib.Omega.{arith}
 use borrow.Author.Tests.{lt-ltb, le-ltb}
 use lib.Dec.{ltb}
+use Rattle.answers.specs.declared.Answer.the-variants.{Accepted}
 use Rattle.bits.specs.Bytes.{Bytes}
 use Rattle.bits.specs.Encodings.{decode, Permutation}
 use Rattle.bits.specs.Lists.{tabulate}
@@ -19,12 +20,11 @@ use Rattle.matrices.specs.Matrices.{identity}
 use Rattle.matrices.proofs.laws.Stored.{matrixOf-fits}
 use Rattle.matrices.proofs.laws.Matrices.{product-identity}
 use Rattle.bundle.specs.Format.{encodings, byteMatrices, columnMatrices, encodingOf, byteMatrix, columnMatrix, byteMatrixPart, columnMatrixPart, inputMatrixPart, outputMatrixPart}
-use Rattle.bundle.specs.declared.answer.Judgement.the-variants.{Accepted}
 use Rattle.bundle.proofs.laws.Parts.{at-bytes}
 use Rattle.judgement.specs.Judge.{judge}
 use Rattle.judgement.proofs.laws.Judgements.{accepted-sound}
-use Rattle.network.specs.Stages as stages
-use Rattle.network.proofs.laws.Ranges.{by-stage}
+use Rattle.layout.specs.Stages as stages
+use Rattle.layout.proofs.laws.Ranges.{by-stage}
 use Rattle.whitebox.specs.Bundles.{plainEncoding, codingsOf}
 use Rattle.whitebox.specs.Codings.{GoodMatrix, Sound}
 

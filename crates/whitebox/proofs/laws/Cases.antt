@@ -28,11 +28,11 @@ use Rattle.round.proofs.laws.Key.{key-at}
 use Rattle.bundle.specs.Format.{encodings, byteMatrices, columnMatrices, encodingOf, byteMatrix, columnMatrix}
 use Rattle.judgement.proofs.laws.Cases as bundle
 use Rattle.network.specs.Numbers.{Numbers}
-use Rattle.network.specs.Stages.{shifted, lookups, stageOf, indexOf, numbersOf}
 use Rattle.network.specs.Tables.{spreadEntry, spreadTable, xorEntry, xorTable, tableIn}
-use Rattle.network.specs.declared.stage.Stage.the-variants.{First}
-use Rattle.network.proofs.laws.Cases as network
-use Rattle.network.proofs.laws.Ranges.{by-stage}
+use Rattle.layout.specs.Stages.{shifted, lookups, stageOf, indexOf, numbersOf}
+use Rattle.layout.specs.declared.stage.Stage.the-variants.{First}
+use Rattle.layout.proofs.laws.Cases as network
+use Rattle.layout.proofs.laws.Ranges.{by-stage}
 use Rattle.whitebox.specs.Bundles.{plainEncoding, codingsOf, partsOf, madeTable}
 use Rattle.whitebox.specs.Cases.{PlainBundle, Starred}
 use Rattle.whitebox.specs.Codings.{Codings}

@@ -4,10 +4,10 @@ use mathlib.Core.List.{List, [], map, map-map}
 use mathlib.Core.Path.{_≡_, refl, sym, ap, _∙_, subst}
 use Prim.Native.Nat.{ℕ, suc, _+_, _-_, _≤_, _<_}
 use native.Mathlib.Nat.{le-refl}
-use native.Mathlib.Decide.{ℕ-discrete}
 use native.Mathlib.Omega.{arith}
-use borrow.Author.Tests.{eq-eqb, ne-eqb}
+use borrow.Author.Tests.{eq-eqb}
 use lib.ListN.{length, take, drop, replicate}
+use Rattle.answers.proofs.laws.Tests.{left-new}
 use Rattle.bits.specs.Bytes.{Block}
 use Rattle.bits.specs.Encodings.{encode, decode}
 use Rattle.bits.specs.Nibbles.{nibble}
@@ -22,48 +22,38 @@ use Rattle.external.specs.Coding.{encodeNibbles, decodeNibbles, multiply, encod
 use Rattle.external.specs.Undoing.{Undone}
 use Rattle.external.proofs.laws.Coding.{undoing, multiply-block, multiply-back, accepted-input, accepted-encodings, input-room, decode-nibbles-bytes}
 use Rattle.network.specs.Due.{Values, Due, valuesOf, leftBy, standingDue, areaDue, closed, encoded, decoded}
-use Rattle.network.specs.Lookups.{Walk, zeroArea, walked}
+use Rattle.network.specs.Lookups.{State, stateAt, zeroArea, walked}
 use Rattle.network.specs.Numbers.{startNumbers, numbersAfter}
 use Rattle.network.specs.Rule.{labelOf, under, labels}
 use Rattle.network.specs.Sizes.{lookupsIn}
-use Rattle.network.specs.Stages as stages
-use Rattle.network.specs.Stages.{shifted, widths, lookups, setBytes, tableSize, tableOffset}
 use Rattle.network.specs.Tables.{Layer}
 use Rattle.network.specs.Theorems.{Reads, GoodWidths}
 use Rattle.network.proofs.laws.Network.{from-any-layer}
 use Rattle.network.proofs.laws.Places.{place-by-place}
 use Rattle.network.proofs.laws.Rule.{good-widths, rule-labels}
 use Rattle.network.proofs.laws.Values.{follows-standing, follows-area}
-use Rattle.whitebox.specs.Bundles.{codingsOf, partsOf, madeSet, madeTable, dueAt}
-use Rattle.whitebox.specs.Calls.{Reply, accepted, refused, lowest, ifAccepted, judgeStart, started, Call, toStop, fetch, step, reply, handed, blockLeft, serve, lastWalk}
+use Rattle.layout.specs.Stages as stages
+use Rattle.layout.specs.Stages.{shifted, widths, lookups, setBytes, tableSize, tableOffset}
+use Rattle.whitebox.specs.Bundles.{codingsOf, partsOf, madeSet, madeTable, dueAt, dueHeld}
+use Rattle.whitebox.specs.Calls.{Held, holding, started, Call, toStop, fetch, step, reply, handed, blockLeft, serve, lastWalk}
 use Rattle.whitebox.specs.Codings.{Codings, Sound}
 use Rattle.whitebox.specs.Demand2.{walkedOver, Demand2For, Demand2}
 use Rattle.whitebox.specs.Demand3.{Given, Presented, Answered, Places, TwoSets, Demand3For, Demand3}
 use Rattle.whitebox.specs.Parts.{Parts, Fine, forward}
 use Rattle.whitebox.specs.PlainCount.{argsOf, plain, plainCount, Lent, dueServed, seen}
 use Rattle.whitebox.specs.States.{result}
-use Rattle.whitebox.specs.Values.{valuesAt, values, ended, dueStanding, dueArea, walkDue}
+use Rattle.whitebox.specs.Values.{valuesAt, values, ended, dueStanding, dueArea, stateDue}
 use Rattle.whitebox.proofs.laws.Bundles.{codings-sound, encodings-agree, encoding-is}
 use Rattle.whitebox.proofs.laws.Calls.{count-le, block-is, serve-is, last-is, straight-reply, straight, alike-seen}
+use Rattle.whitebox.proofs.laws.Judged.{presented-right, presented-was}
 use Rattle.whitebox.proofs.laws.Set.{widths-are, set-length, set-part, due-count, due-step, due-end}
 use Rattle.whitebox.proofs.laws.States.{forward-fine, forward-cipher}
 use Rattle.whitebox.specs.Tables.{layers}
 use Rattle.whitebox.proofs.laws.Values.{layers-good, follows, closed-is-due}
 
 -- ---- a presented block that the start accepts has 16 bytes
-presented-long : (x : List ℕ) → judgeStart (length x) ≡ accepted → length x ≡ 16
-unfolding judgeStart lowest
-presented-long x e = elim (ℕ-discrete (length x) 16) [
-  | yes h ↦ h
-  | no h ↦
-      let z : refused 10 0 ≡ accepted = sym (rw (ne-eqb (length x) 16 h)) ∙ e in
-      let y : _≡_ {A = ℕ} 0 1 = cc in
-      absurd (omega arith)
-]
-
 long-presented : (x : List ℕ) → Block x → Presented x
-unfolding judgeStart lowest
-long-presented x h = record { bytes = h .bytes; started = rw (eq-eqb (length x) 16 (h .long)) }
+long-presented x h = record { bytes = h .bytes; started = sym (presented-right (length x) (h .long)) }
 
 some : (nk : ℕ) → 1 ≤ roundsOf nk
 some nk = omega arith
@@ -125,7 +115,7 @@ module _ (nk : ℕ) (key l : List ℕ) (given : Given nk key l) where
 
   module _ (x : List ℕ) (presented : Presented x) where
     block-x : Block x
-    block-x = record { long = presented-long x (presented .started); bytes = presented .bytes }
+    block-x = record { long = presented-was (length x) (presented .started); bytes = presented .bytes }
 
     abbrev b : List ℕ
     b = decodeInput nr l x
@@ -142,42 +132,46 @@ module _ (nk : ℕ) (key l : List ℕ) (given : Given nk key l) where
         (decode-nibbles-bytes (encodingOf nr l) 0 (accepted-encodings nr l (given .bundle-bytes) (given .judged) 0 (input-room nr)) x block-x)
         ∙ packed-ext 16 _ _ (λ q h. ap (λ (e : List ℕ). decode e (nibble x q)) (sym (first-encoding q h)))
 
-    begins : started x ≡ dueAt nk key l b 0
-    unfolding started dueAt numbersAfter startNumbers lookupsIn walkDue walked
+    begins : started x ≡ dueHeld nk key l b 0
+    unfolding started dueAt numbersAfter startNumbers lookupsIn stateDue walked
     begins =
-        let at : List ℕ → Walk = λ y. record { count = 0; standing = y; area = zeroArea } in
-        ap (λ (r : Reply). ifAccepted r (at x) (at (replicate 16 0))) (presented .started)
-        ∙ from-any-layer (C .encoding) (sound .encodings) [] (layers P C nr) (layers-good P fine C nr) x block-x 0 (omega arith)
+        let at : List ℕ → Held = λ y. holding (stateAt 0 y zeroArea) in
+        sym (left-new _ (at x) (at (replicate 16 0)) (presented .started))
+        ∙ ap holding
+        (from-any-layer (C .encoding) (sound .encodings) [] (layers P C nr) (layers-good P fine C nr) x block-x 0 (omega arith)
         ∙ ap (λ (y : List ℕ). closed (C .encoding) (layers P C nr) startNumbers y 0 0) (sym plain-x)
-        ∙ closed-is-due P fine C sound nr b block-b (some nk) 0
+        ∙ closed-is-due P fine C sound nr b block-b (some nk) 0)
 
     abbrev A : List ℕ
     A = encodeOutput nr l (encipherOf nk key b)
 
-    abbrev W : ℕ → Walk
-    W = dueAt nk key l b
+    abbrev S : ℕ → State
+    S = dueAt nk key l b
+
+    abbrev W : ℕ → Held
+    W = dueHeld nk key l b
 
     served : (cs : List Call) → Lent nr (madeTable nk key l) (madeSet nk key l) 0 cs → serve shifted nr (started x) cs ≡ dueServed nr W A 0 cs
     served cs lent =
-        ap (λ (w : Walk). serve shifted nr w cs) begins
-        ∙ serve-is shifted nr (madeTable nk key l) (madeSet nk key l) W A (counts b block-b) (steps b block-b) (ends b block-b) parts long cs 0 (omega arith) lent
+        ap (λ (w : Held). serve shifted nr w cs) begins
+        ∙ serve-is shifted nr (madeTable nk key l) (madeSet nk key l) S A (counts b block-b) (steps b block-b) (ends b block-b) parts long cs 0 (omega arith) lent
 
     answered : (cs : List Call) → Lent nr (madeTable nk key l) (madeSet nk key l) 0 cs → Answered nk key l x cs (plainCount nr 0 (map argsOf cs))
     answered cs lent =
         let n = plainCount nr 0 (map argsOf cs) in
         let most : n ≤ lookups nr = count-le nr (map argsOf cs) 0 (omega arith) in
         let at-end : lastWalk shifted nr (started x) cs ≡ W n =
-        ap (λ (w : Walk). lastWalk shifted nr w cs) begins
-        ∙ last-is shifted nr (madeTable nk key l) (madeSet nk key l) W A (counts b block-b) (steps b block-b) (ends b block-b) parts long cs 0 (omega arith) lent in
+        ap (λ (w : Held). lastWalk shifted nr w cs) begins
+        ∙ last-is shifted nr (madeTable nk key l) (madeSet nk key l) S A (counts b block-b) (steps b block-b) (ends b block-b) parts long cs 0 (omega arith) lent in
         record {
           calls = served cs lent;
           last = at-end;
           straight-reply =
               ap (reply shifted nr (toStop (madeSet nk key l) n)) begins
-              ∙ straight-reply shifted nr (madeTable nk key l) (madeSet nk key l) W A (counts b block-b) (steps b block-b) (ends b block-b) parts long n most;
+              ∙ straight-reply shifted nr (madeTable nk key l) (madeSet nk key l) S A (counts b block-b) (steps b block-b) (ends b block-b) parts long n most;
           straight =
               ap (handed shifted nr (toStop (madeSet nk key l) n)) begins
-              ∙ straight shifted nr (madeTable nk key l) (madeSet nk key l) W A (counts b block-b) (steps b block-b) (ends b block-b) parts long n most
+              ∙ straight shifted nr (madeTable nk key l) (madeSet nk key l) S A (counts b block-b) (steps b block-b) (ends b block-b) parts long n most
               ∙ sym at-end;
         }
 
@@ -186,10 +180,10 @@ module _ (nk : ℕ) (key l : List ℕ) (given : Given nk key l) where
     unfolding plain
     fetched lent room =
         let n = lookups nr in
-        ap (λ (w : Walk). blockLeft shifted nr (fetch lent) (handed shifted nr (toStop (madeSet nk key l) n) w)) begins
+        ap (λ (w : Held). blockLeft shifted nr (fetch lent) (handed shifted nr (toStop (madeSet nk key l) n) w)) begins
         ∙ ap (blockLeft shifted nr (fetch lent))
-        (straight shifted nr (madeTable nk key l) (madeSet nk key l) W A (counts b block-b) (steps b block-b) (ends b block-b) parts long n (le-refl n))
-        ∙ block-is shifted nr (madeTable nk key l) (madeSet nk key l) W A (counts b block-b) (steps b block-b) (ends b block-b) parts long (fetch lent) n
+        (straight shifted nr (madeTable nk key l) (madeSet nk key l) S A (counts b block-b) (steps b block-b) (ends b block-b) parts long n (le-refl n))
+        ∙ block-is shifted nr (madeTable nk key l) (madeSet nk key l) S A (counts b block-b) (steps b block-b) (ends b block-b) parts long (fetch lent) n
         ∙ rw (eq-eqb (length lent) 16 room, eq-eqb n n refl)
 
     -- ---- place by place
@@ -199,9 +193,9 @@ module _ (nk : ℕ) (key l : List ℕ) (given : Given nk key l) where
     abbrev plainBytes : List ℕ
     plainBytes = multiply (C .inputMatrix) b
 
-    same-walk : (k : ℕ) → closed (C .encoding) Ls startNumbers plainBytes 0 k ≡ W k
+    same-state : (k : ℕ) → closed (C .encoding) Ls startNumbers plainBytes 0 k ≡ S k
     unfolding dueAt
-    same-walk k = closed-is-due P fine C sound nr b block-b (some nk) k
+    same-state k = closed-is-due P fine C sound nr b block-b (some nk) k
 
     standing-due : (k q : ℕ) → standingDue (valuesOf Ls plainBytes) (leftBy Ls plainBytes) startNumbers k q ≡ dueStanding P C nr b k q
     unfolding dueStanding
@@ -235,12 +229,12 @@ module _ (nk : ℕ) (key l : List ℕ) (given : Given nk key l) where
         let R = place-by-place (C .encoding) (sound .encodings) Ls (layers-good P fine C nr) startNumbers plainBytes (multiply-block (C .inputMatrix) b .bytes) 0 k in
         record {
           standing = λ q c.
-              subst (λ (d : Due). Reads (C .encoding) (nibble (W k .standing) q) d) (standing-due k q)
-              (subst (λ (w : Walk). Reads (C .encoding) (nibble (w .standing) q) (standingDue (valuesOf Ls plainBytes) (leftBy Ls plainBytes) startNumbers k q))
-              (same-walk k) (R .0 q c));
+              subst (λ (d : Due). Reads (C .encoding) (nibble (S k .standing) q) d) (standing-due k q)
+              (subst (λ (w : State). Reads (C .encoding) (nibble (w .standing) q) (standingDue (valuesOf Ls plainBytes) (leftBy Ls plainBytes) startNumbers k q))
+              (same-state k) (R .0 q c));
           area = λ q c.
-              subst (λ (d : Due). Reads (C .encoding) (nibble (W k .area) q) d) (area-due k q)
-              (subst (λ (w : Walk). Reads (C .encoding) (nibble (w .area) q) (areaDue (valuesOf Ls plainBytes) startNumbers k q)) (same-walk k) (R .1 q c));
+              subst (λ (d : Due). Reads (C .encoding) (nibble (S k .area) q) d) (area-due k q)
+              (subst (λ (w : State). Reads (C .encoding) (nibble (w .area) q) (areaDue (valuesOf Ls plainBytes) startNumbers k q)) (same-state k) (R .1 q c));
           standing-label = λ q c. by-rule k h .0 q c;
           area-label = λ q c. by-rule k h .1 q c;
         }

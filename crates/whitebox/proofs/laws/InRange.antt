@@ -19,11 +19,11 @@ use Rattle.inversion.specs.Elimination.{inverseOf}
 use Rattle.field.specs.Field.{mul}
 use Rattle.network.specs.Numbers.{Numbers, startNumbers, nextNumbers, encodingNumber}
 use Rattle.network.specs.Order.{layerLookups}
-use Rattle.network.specs.Stages.{stages, rounds, widthOf, lookups, encodings}
 use Rattle.network.specs.Tables.{Layer, spreadEntry, spreadTable, tableIn, tableAt}
-use Rattle.network.specs.declared.stage.Stage.{Stage}
-use Rattle.network.specs.declared.stage.Stage.the-variants.{Entry, First, Second, Exit}
 use Rattle.network.proofs.laws.InRange.{in-range}
+use Rattle.layout.specs.Stages.{stages, rounds, widthOf, lookups, encodings}
+use Rattle.layout.specs.declared.stage.Stage.{Stage}
+use Rattle.layout.specs.declared.stage.Stage.the-variants.{Entry, First, Second, Exit}
 use Rattle.whitebox.specs.Codings.{Codings, byteMatrixAt, columnMatrixAt}
 use Rattle.whitebox.specs.InRange.{AgreeInRange, OnlyInRange}
 use Rattle.whitebox.specs.Parts.{Parts, Fine}

@@ -1,4 +1,4 @@
--- Laws, not definitions: the tables are parts of the set; each lookup over its table takes the walk due at its count to the next; and at the
+-- Laws, not definitions: the tables are parts of the set; each lookup over its table takes the state due at its count to the next; and at the
 -- end stand the last encodings.
 -- Assumes nothing.
 use mathlib.Core.List.{List}
@@ -12,21 +12,21 @@ use Rattle.bits.specs.Nibbles.{nibble}
 use Rattle.bits.proofs.laws.Bytes.{bytesOf-bytes}
 use Rattle.bits.proofs.laws.Nibbles.{packed-ext}
 use Rattle.external.specs.Coding.{multiply}
-use Rattle.network.specs.Due.{closed, encoded, dueWalk}
-use Rattle.network.specs.Lookups.{Walk, Shape, lookup, lookupAt}
+use Rattle.network.specs.Due.{closed, encoded, dueState}
+use Rattle.network.specs.Lookups.{State, Shape, lookup, lookupAt}
 use Rattle.network.specs.Numbers.{startNumbers, numbersAfter}
 use Rattle.network.specs.Sizes.{lookupsIn}
-use Rattle.network.specs.Stages.{shapes, widths, lookups, setBytes, encodings, tableSize, tableOffset}
 use Rattle.network.specs.Tables.{Layer, shapesOf, widthsOf, tableAt}
-use Rattle.network.proofs.laws.Instance.{stage-shapes, stage-widths, stage-table-length, set-bytes, set-table}
 use Rattle.network.proofs.laws.Network.{one-lookup, closed-end}
-use Rattle.network.proofs.laws.Ranges.{by-stage}
 use Rattle.network.proofs.laws.Values.{follows-left}
+use Rattle.layout.specs.Stages.{shapes, widths, lookups, setBytes, encodings, tableSize, tableOffset}
+use Rattle.layout.proofs.laws.Instance.{stage-shapes, stage-widths, stage-table-length, tables-length, set-table}
+use Rattle.layout.proofs.laws.Ranges.{by-stage}
 use Rattle.whitebox.specs.Calls.{step}
 use Rattle.whitebox.specs.Codings.{Codings, Sound}
 use Rattle.whitebox.specs.Parts.{Parts, Fine}
 use Rattle.whitebox.specs.Tables.{layerOf, layers, tableOf, setOf}
-use Rattle.whitebox.specs.Values.{values, ended, walkDue}
+use Rattle.whitebox.specs.Values.{values, ended, stateDue}
 use Rattle.whitebox.proofs.laws.Values.{layers-good, follows, closed-is-due}
 
 -- ---- the shapes, the set and its tables
@@ -48,38 +48,38 @@ module _ (P : Parts) (C : Codings) (nr : ℕ) where
   table-length k = stage-table-length (layerOf P C nr) (λ s. refl) (C .encoding) nr k
 
   pub set-length : length (setOf P C nr) ≡ setBytes nr
-  unfolding setOf
-  set-length = set-bytes nr (tableOf P C nr) (λ k h. table-length k)
+  unfolding setOf setBytes
+  set-length = tables-length nr (tableOf P C nr) (λ k h. table-length k)
 
   pub set-part : (k : ℕ) → k < lookups nr → take (tableSize nr k) (drop (tableOffset nr k) (setOf P C nr)) ≡ tableOf P C nr k
   unfolding setOf
   set-part k h = set-table nr (tableOf P C nr) (λ j l. table-length j) k h
 
--- ---- the walk due, from count to count
+-- ---- the state due, from count to count
 module _ (P : Parts) (fine : Fine P) (C : Codings) (sound : Sound C) (nr : ℕ) (some : 1 ≤ nr) (b : List ℕ) (block : Block b) where
-  pub due-count : (n : ℕ) → walkDue P C nr b n .count ≡ n
-  unfolding walkDue dueWalk
+  pub due-count : (n : ℕ) → stateDue P C nr b n .count ≡ n
+  unfolding stateDue dueState
   due-count n = omega arith
 
-  pub due-step : (n : ℕ) → n < lookups nr → step (P .reads) nr (tableOf P C nr n) (walkDue P C nr b n) ≡ walkDue P C nr b (suc n)
+  pub due-step : (n : ℕ) → n < lookups nr → step (P .reads) nr (tableOf P C nr n) (stateDue P C nr b n) ≡ stateDue P C nr b (suc n)
   unfolding lookup tableOf
   due-step n h =
       let Ls : List Layer = layers P C nr in
       let E = C .encoding in
       let l : List ℕ = multiply (C .inputMatrix) b in
       let t : List ℕ = tableAt E Ls startNumbers n in
-      ap (λ (k : ℕ). lookupAt (shapes (P .reads) nr) k t (walkDue P C nr b n)) (due-count n)
-      ∙ ap₂ (λ (Ss : List Shape) (w : Walk). lookupAt Ss n t w) (sym (shapes-are P C nr)) (sym (closed-is-due P fine C sound nr b block some n))
+      ap (λ (k : ℕ). lookupAt (shapes (P .reads) nr) k t (stateDue P C nr b n)) (due-count n)
+      ∙ ap₂ (λ (Ss : List Shape) (w : State). lookupAt Ss n t w) (sym (shapes-are P C nr)) (sym (closed-is-due P fine C sound nr b block some n))
       ∙ one-lookup E (sound .encodings) Ls (layers-good P fine C nr) startNumbers l (unfold multiply in bytesOf-bytes 16 _) 0 n
       (subst (λ (m : ℕ). n < m) (sym (lookups-are P C nr)) h)
       ∙ closed-is-due P fine C sound nr b block some (suc n)
 
-  pub due-end : walkDue P C nr b (lookups nr) .standing ≡ encoded (C .encoding) (λ q. encodings nr - 32 + q) (ended P C nr b)
+  pub due-end : stateDue P C nr b (lookups nr) .standing ≡ encoded (C .encoding) (λ q. encodings nr - 32 + q) (ended P C nr b)
   unfolding encoded
   due-end =
       let Ls : List Layer = layers P C nr in
       let l : List ℕ = multiply (C .inputMatrix) b in
-      ap (λ (w : Walk). w .standing)
+      ap (λ (w : State). w .standing)
       (sym (closed-is-due P fine C sound nr b block some (lookups nr))
       ∙ ap (closed (C .encoding) Ls startNumbers l 0) (sym (lookups-are P C nr))
       ∙ closed-end (C .encoding) Ls startNumbers l 0)

@@ -24,7 +24,8 @@ use Rattle.round.specs.State.{state, entry, mixRows, mixBy, SubBytes, ShiftRows
 use Rattle.round.proofs.laws.Key.{key-bytes}
 use Rattle.round.proofs.laws.State.{place}
 use Rattle.aes.specs.Cipher.{rounds, Cipher}
-use Rattle.network.specs.Stages.{shifted}
+use Rattle.layout.specs.Stages.{shifted}
+use Rattle.layout.proofs.laws.Place.{shifted-lt}
 use Rattle.whitebox.specs.Ciphers.{ForwardCipher, ForwardRounds, ForwardFine}
 use Rattle.whitebox.specs.Parts.{Parts, Fine, forward}
 use Rattle.whitebox.specs.States.{keyed, mixed, stateAfter, result}
@@ -86,10 +87,6 @@ sub-at s k j h =
 shift-at : (s : List ℕ) (p : ℕ) → p < 16 → at (ShiftRows s) p ≡ at s (shifted p)
 unfolding ShiftRows shifted
 shift-at s p h = at-state _ p h ∙ ap (at s) (let e : p % 4 + 4 * ((p / 4 + p % 4) % 4) ≡ 4 * ((p / 4 + p % 4) % 4) + p % 4 = omega arith in e)
-
-shifted-lt : (p : ℕ) → p < 16 → shifted p < 16
-unfolding shifted
-shifted-lt p h = omega arith
 
 tabulated : (f : ℕ → ℕ) (s : List ℕ) → length s ≡ 16 → ((p : ℕ) → p < 16 → f p ≡ at s p) → tabulate 16 f ≡ s
 tabulated f s l e = tabulate-ext 16 f (at s) e ∙ Rattle.bits.proofs.laws.Lists.tabulate-at 16 s l

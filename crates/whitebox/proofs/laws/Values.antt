@@ -1,5 +1,5 @@
 -- Laws, not definitions: AES's layers are good, and they follow the values due, from the input matrix times the block to the output matrix
--- times the cipher block. So the network's closed form is the walk of values due.
+-- times the cipher block. So the network's closed form is the state of values due.
 -- Assumes nothing.
 use mathlib.Core.List.{List, [], _∷_, _++_, map}
 use mathlib.Core.Path.{_≡_, refl, sym, ap, ap₂, _∙_, subst}
@@ -14,17 +14,17 @@ use Rattle.matrices.proofs.laws.Matrices.{product-lt}
 use Rattle.external.specs.Coding.{multiply}
 use Rattle.network.specs.Due.{summed, closed}
 use Rattle.network.specs.Numbers.{startNumbers}
-use Rattle.network.specs.Stages.{stages, rounds}
 use Rattle.network.specs.Tables.{AllGood}
-use Rattle.network.proofs.laws.Instance.{good-stages}
-use Rattle.network.proofs.laws.Stages.{good-16, good-4}
-use Rattle.network.specs.declared.stage.Stage.the-variants.{First, Exit}
 use Rattle.network.proofs.laws.Values.{Follows, closed-follows}
+use Rattle.layout.specs.Stages.{stages, rounds}
+use Rattle.layout.proofs.laws.Instance.{good-stages}
+use Rattle.layout.proofs.laws.Stages.{good-16, good-4}
+use Rattle.layout.specs.declared.stage.Stage.the-variants.{First, Exit}
 use Rattle.whitebox.specs.Codings.{Codings, Sound, byteMatrixAt}
 use Rattle.whitebox.specs.Parts.{Parts, Fine}
 use Rattle.whitebox.specs.States.{keyed, mixed, stateAfter, result}
 use Rattle.whitebox.specs.Tables.{layerOf, layers}
-use Rattle.whitebox.specs.Values.{underBytes, underColumns, standingAt, valuesAt, values, ended, walkDue}
+use Rattle.whitebox.specs.Values.{underBytes, underColumns, standingAt, valuesAt, values, ended, stateDue}
 use Rattle.whitebox.specs.Words.{entryWord, mixedWord, secondWord, placedWord}
 use Rattle.whitebox.proofs.laws.States.{state-bytes, keyed-bytes}
 use Rattle.whitebox.proofs.laws.Words.{substituted-is, entry-next, first-next, second-next, exit-next}
@@ -124,9 +124,9 @@ module _ (P : Parts) (fine : Fine P) (C : Codings) (sound : Sound C) (nr : ℕ) 
         (sym (entry-next P fine C sound nr b block ∙ start-is)) (from-round (nr - 1) 0 (omega arith)),
   )
 
-  -- The closed form of the network is the walk of values due.
-  pub closed-is-due : 1 ≤ nr → (k : ℕ) → closed (C .encoding) (layers P C nr) startNumbers (multiply (C .inputMatrix) b) 0 k ≡ walkDue P C nr b k
-  unfolding walkDue
+  -- The closed form of the network is the state of values due.
+  pub closed-is-due : 1 ≤ nr → (k : ℕ) → closed (C .encoding) (layers P C nr) startNumbers (multiply (C .inputMatrix) b) 0 k ≡ stateDue P C nr b k
+  unfolding stateDue
   closed-is-due h k =
       closed-follows (C .encoding) (layers P C nr) (values P C nr b) (multiply (C .inputMatrix) b) (ended P C nr b) (follows h)
       (layers-good P fine C nr) startNumbers 0 k

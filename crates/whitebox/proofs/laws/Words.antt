@@ -23,7 +23,7 @@ use Rattle.field.specs.Field.{mul}
 use Rattle.field.proofs.laws.Field.{mul-lt}
 use Rattle.external.specs.Coding.{multiply}
 use Rattle.network.specs.Due.{summed}
-use Rattle.network.specs.declared.stage.Stage.the-variants.{Entry}
+use Rattle.layout.specs.declared.stage.Stage.the-variants.{Entry}
 use Rattle.whitebox.specs.Codings.{Codings, GoodMatrix, Sound, byteMatrixAt, columnMatrixAt}
 use Rattle.whitebox.specs.Parts.{Parts, Fine}
 use Rattle.whitebox.specs.States.{keyed, mixed}

@@ -31,6 +31,9 @@ returns-2 c = search searched-all
 pair-bad-requires : tie.Need-pair-bad-requires Inv-loop μ-loop
 pair-bad-requires c κs = omega arith
 
+cast-t5 : tie.Need-cast-t5 Inv-loop μ-loop
+cast-t5 c = omega arith
+
 add-i : tie.Need-add-i Inv-loop μ-loop
 add-i c = omega arith
 
@@ -45,6 +48,7 @@ first-bad-pair-spec =
     μ-loop
     loop-holds
     pair-bad-requires
+    cast-t5
     returns
     add-i
     loop-less

@@ -1,25 +1,23 @@
--- `entries::lists::all_images` writes the images of `count` encodings one behind the other. The loop's invariant, `Laid` of `laws.Laid`: the
+-- `entries::lists::all_images` writes the images of `count` encodings one behind the other. The loop's invariant, `Parts` of bits: the
 -- first h lists stand in the front of dst. A turn lends the part of list h and gets the images back that `images` gives of the encoding's 8
--- bytes (`laid-more`). Behind the last the front has all (`laid-front`).
+-- bytes (`parts-more`). Behind the last the front has all (`parts-front`).
 -- Assumes nothing.
-use mathlib.Core.Path.{ap, _∙_}
+use mathlib.Core.Path.{_∙_}
 use Prim.Native.Nat.{_+_, _-_}
-use lib.ListN.{length}
-use Rattle.bits.specs.Encodings.{imagesOf}
+use Rattle.bits.proofs.laws.Parts.{Parts, parts-none, part-lent, parts-more, parts-front}
 use Rattle.entries.specs.Encodings.{encodingIn}
-use Rattle.entries.proofs.laws.Laid.{Laid, laid-none, part-lent, laid-more, laid-front}
 use native.Mathlib.Omega.{arith}
 use Rattle.entries.proofs.lists.all_images.Statement.{statement}
 use Rattle.entries.proofs.lists.all_images.Tie as tie
 
 abbrev Inv-loop : tie.InvT-loop
-Inv-loop section n count dst₀ h₀ dst h = Laid (length dst₀) count 16 (λ k. encodingIn section (n + k)) dst h
+Inv-loop section n count dst₀ h₀ dst h = Parts count 16 (λ k. encodingIn section (n + k)) dst₀ dst h
 
 abbrev μ-loop : tie.MeasureT-loop
 μ-loop section n count dst₀ h₀ dst h = count - h
 
 loop-holds : tie.Need-loop-holds Inv-loop μ-loop
-loop-holds c = laid-none _ 16 _ _ (omega arith)
+loop-holds c = parts-none (omega arith)
 
 images-requires : tie.Need-images-requires Inv-loop μ-loop
 images-requires c κs =
@@ -29,13 +27,11 @@ images-requires c κs =
 loop-again : tie.Need-loop-again Inv-loop μ-loop
 loop-again c =
     let written : tie.After-images Inv-loop μ-loop = search in
-    let bytes : tie.After-part Inv-loop μ-loop = search in
     let turn : tie.In-loop Inv-loop μ-loop = search in
-    laid-more (turn .before .loop .inv) (turn .loop-test .taken) (written .images .kept .1 .0)
-    (written .images .ensures ∙ ap imagesOf (bytes .part .ensures))
+    parts-more (turn .before .loop .inv) (turn .loop-test .taken) (written .images .kept .1 .0) (written .images .ensures ∙ cc)
 
 returns : tie.Need-returns Inv-loop μ-loop
-returns c = search laid-front
+returns c = search parts-front
 
 -- ---- the needs that the search closes
 mul-a : tie.Need-mul-a Inv-loop μ-loop

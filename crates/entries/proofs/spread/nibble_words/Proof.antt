@@ -1,27 +1,26 @@
--- `entries::spread::nibble_words` writes the words of the 32 bytes with one nibble one behind the other. The loop's invariant, `Laid` of
--- `laws.Laid`: the first r words stand in the front of dst. A turn lends the part of word r and gets its m bytes back (`laid-more`): they are
--- those of the word of byte r by what the three calls ensure (`nibble-word` of `laws.Combined`). Behind the last word the front has all
--- (`laid-front`). No sum wraps: the part lies within dst (`part-lent`).
+-- `entries::spread::nibble_words` writes the words of the 32 bytes with one nibble one behind the other. The loop's invariant, `Parts` of bits: the
+-- first r words stand in the front of dst. A turn lends the part of word r and gets its m bytes back (`parts-more`): they are those of the
+-- word of byte r by what the three calls ensure. Behind the last word the front has all (`parts-front`). No sum wraps: the part lies within
+-- dst (`part-lent`).
 -- Assumes nothing.
+use mathlib.Core.Path.{_∙_}
 use Prim.Native.Nat.{_-_}
-use lib.ListN.{length}
 use Rattle.bits.specs.Bytes.{bytesOf}
+use Rattle.bits.proofs.laws.Parts.{Parts, Part, parts-none, part-lent, parts-more, parts-front}
 use Rattle.matrices.specs.Rows.{rowAt}
 use Rattle.entries.specs.Spread.{combined, nibbleByte}
-use Rattle.entries.proofs.laws.Combined.{nibble-word}
-use Rattle.entries.proofs.laws.Laid.{Laid, Part, laid-none, part-lent, laid-more, laid-front}
 use native.Mathlib.Omega.{arith}
 use Rattle.entries.proofs.spread.nibble_words.Statement.{statement}
 use Rattle.entries.proofs.spread.nibble_words.Tie as tie
 
 abbrev Inv-loop : tie.InvT-loop
-Inv-loop basis m dst₀ r₀ dst r = Laid (length dst₀) 32 m (λ k. bytesOf m (combined (rowAt basis) (nibbleByte k))) dst r
+Inv-loop basis m dst₀ r₀ dst r = Parts 32 m (λ k. bytesOf m (combined (rowAt basis) (nibbleByte k))) dst₀ dst r
 
 abbrev μ-loop : tie.MeasureT-loop
 μ-loop basis m dst₀ r₀ dst r = 32 - r
 
 loop-holds : tie.Need-loop-holds Inv-loop μ-loop
-loop-holds c = laid-none 32 _ _ _ (omega arith)
+loop-holds c = parts-none (omega arith)
 
 -- the part that a turn lends
 part : (turn : tie.In-loop Inv-loop μ-loop) → Part (turn .before .loop .inv)
@@ -42,14 +41,12 @@ write-requires c κs = omega (arith, part (search))
 loop-again : tie.Need-loop-again Inv-loop μ-loop
 loop-again c =
     let written : tie.After-write Inv-loop μ-loop = search in
-    let word : tie.After-word Inv-loop μ-loop = search in
-    let byte : tie.After-nibble-byte Inv-loop μ-loop = search in
     let turn : tie.In-loop Inv-loop μ-loop = search in
-    laid-more (turn .before .loop .inv) (turn .loop-test .taken) (written .write .kept .1 .0)
-    (nibble-word _ _ _ _ _ _ _ (part turn .long) (byte .nibble-byte .ensures) (word .word .ensures) (written .write .ensures))
+    let long = part turn .long in
+    parts-more (turn .before .loop .inv) (turn .loop-test .taken) (written .write .kept .1 .0) (written .write .ensures ∙ cc)
 
 returns : tie.Need-returns Inv-loop μ-loop
-returns c = search laid-front
+returns c = search parts-front
 
 -- ---- the needs that the search closes
 nibble-byte-requires : tie.Need-nibble-byte-requires Inv-loop μ-loop

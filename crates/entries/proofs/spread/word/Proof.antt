@@ -1,39 +1,35 @@
--- `entries::spread::word` adds up the rows at the bits that y has. The loop's invariant, `Added` of `laws.Combined`: v is the sum of the first i
--- products of a bit and its row. A turn adds the next by what the three calls ensure (`added-more`); behind the last v is the word (`added-all`).
+-- `entries::spread::word` adds up the rows at the bits that y has. The loop's invariant, `Summed` of bits: v is the sum of the first i
+-- products of a bit and its row. A turn adds the next by what the three calls ensure (`summed-more`); behind the last v is the word (`summed-all`).
 -- Assumes nothing.
-use mathlib.Core.Path.{refl, ap₂, _∙_}
-use Prim.Native.Nat.{ℕ, _-_, _*_, _/_, _%_, _^_}
-use lib.Bits.{bitXor}
+use mathlib.Core.Path.{refl}
+use Prim.Native.Nat.{_-_, _*_, _/_, _%_, _^_}
 use Rattle.bits.specs.Words.{wide, value}
+use Rattle.bits.proofs.laws.Summed.{Summed, summed-none, summed-more, summed-all}
 use Rattle.matrices.specs.Rows.{rowAt}
 use Rattle.entries.specs.Spread.{combined}
-use Rattle.entries.proofs.laws.Combined.{Added, added-none, added-more, added-all}
 use native.Mathlib.Omega.{arith}
 use borrow.Author.Needs.{needs}
 use Rattle.entries.proofs.spread.word.Statement.{statement}
 use Rattle.entries.proofs.spread.word.Tie as tie
 
 abbrev Inv-loop : tie.InvT-loop
-Inv-loop basis y v₀ i₀ v i = Added 8 (λ k. (y / 2 ^ k % 2) * rowAt basis k) (value v) i
+Inv-loop basis y v₀ i₀ v i = Summed 8 (λ k. (y / 2 ^ k % 2) * rowAt basis k) (value v) i
 
 abbrev μ-loop : tie.MeasureT-loop
 μ-loop basis y v₀ i₀ v i = 8 - i
 
 loop-holds : tie.Need-loop-holds Inv-loop μ-loop
 unfolding wide
-loop-holds c = added-none 8 _ _ refl
+loop-holds c = summed-none refl
 
 loop-again : tie.Need-loop-again Inv-loop μ-loop
 loop-again c =
-    let row : tie.After-row Inv-loop μ-loop = search in
-    let bit : tie.After-bit-of Inv-loop μ-loop = search in
     let turn : tie.In-loop Inv-loop μ-loop = search in
-    added-more (turn .before .loop .inv) (turn .loop-test .taken)
-    (c .add .ensures ∙ ap₂ (λ (b x : ℕ). bitXor (value (turn .before .loop .v)) (b * x)) (bit .bit-of .ensures .0) (row .row .ensures))
+    summed-more (turn .before .loop .inv) (turn .loop-test .taken) (c .add .ensures) (cc)
 
 returns : tie.Need-returns Inv-loop μ-loop
 unfolding combined
-returns c = search added-all
+returns c = search summed-all
 
 -- ---- the needs that the search closes
 bit-of-requires : tie.Need-bit-of-requires Inv-loop μ-loop

@@ -1,9 +1,9 @@
 -- `entries::spread::word_part` returns part r of m bytes. It lies within the 32 parts (`row-inside` of bits), so no sum wraps; its m bytes are
--- those that the slice has from r * m on, by `part-taken` of `laws.Laid`.
+-- those that the slice has from r * m on (`cut-is`, `length-cut` of bits).
 -- Assumes nothing.
 use Prim.Native.Nat.{_+_, _*_, _≤_}
+use Rattle.bits.proofs.laws.Lists.{cut-is, length-cut}
 use Rattle.bits.proofs.laws.Multiples.{row-inside}
-use Rattle.entries.proofs.laws.Laid.{part-taken}
 use native.Mathlib.Omega.{arith}
 use Rattle.entries.proofs.spread.word_part.Statement.{statement}
 use Rattle.entries.proofs.spread.word_part.Tie as tie
@@ -31,7 +31,7 @@ returns : tie.Need-returns
 returns c =
     let entry : tie.Start = search in
     let a = entry .args in
-    part-taken (a .r * a .m) (a .m) (a .words .now) (omega (arith, inside entry))
+    (cut-is (a .words .now) (a .r * a .m) (a .m), length-cut (a .words .now) (a .r * a .m) (a .m) (omega (arith, inside entry)))
 
 pub word-part-spec : {M : Type 1} → statement M
 word-part-spec =

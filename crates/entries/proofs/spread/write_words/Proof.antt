@@ -1,26 +1,25 @@
--- `entries::spread::write_words` writes the encoded words of 256 bytes one behind the other. The loop's invariant, `Laid` of `laws.Laid`: the
+-- `entries::spread::write_words` writes the encoded words of 256 bytes one behind the other. The loop's invariant, `Parts` of bits: the
 -- first x words stand in the front of dst. A turn reads the parts of the two nibbles of byte x, lends the part of word x and gets their sum back,
--- encoded (`laid-more`), which is the word's by `word-encoded` of `laws.Combined`. Behind the last word dst is the words, for it has no
--- more room (`laid-all`). No sum wraps: the part lies within dst (`part-lent`).
+-- encoded (`parts-more`), which is the word's by `word-encoded` of `laws.Combined`. Behind the last word dst is the words, for it has no
+-- more room (`parts-all`). No sum wraps: the part lies within dst (`part-lent`).
 -- Assumes nothing.
 use Prim.Native.Nat.{_-_}
-use lib.ListN.{length}
 use Rattle.bits.specs.Lists.{at}
+use Rattle.bits.proofs.laws.Parts.{Parts, Part, parts-none, part-lent, parts-more, parts-all}
 use Rattle.entries.specs.Spread.{encodedBytes, summed}
 use Rattle.entries.proofs.laws.Combined.{word-encoded}
-use Rattle.entries.proofs.laws.Laid.{Laid, Part, laid-none, part-lent, laid-more, laid-all}
 use native.Mathlib.Omega.{arith}
 use Rattle.entries.proofs.spread.write_words.Statement.{statement}
 use Rattle.entries.proofs.spread.write_words.Tie as tie
 
 abbrev Inv-loop : tie.InvT-loop
-Inv-loop values words images m dst₀ x₀ dst x = Laid (length dst₀) 256 m (λ k. encodedBytes (at images) m (summed m words (at values k))) dst x
+Inv-loop values words images m dst₀ x₀ dst x = Parts 256 m (λ k. encodedBytes (at images) m (summed m words (at values k))) dst₀ dst x
 
 abbrev μ-loop : tie.MeasureT-loop
 μ-loop values words images m dst₀ x₀ dst x = 256 - x
 
 loop-holds : tie.Need-loop-holds Inv-loop μ-loop
-loop-holds c = laid-none 256 _ _ _ (omega arith)
+loop-holds c = parts-none (omega arith)
 
 -- the part that a turn lends
 part : (turn : tie.In-loop Inv-loop μ-loop) → Part (turn .before .loop .inv)
@@ -55,13 +54,13 @@ loop-again c =
     let low : tie.After-word-part Inv-loop μ-loop = search in
     let low-nibble : tie.After-widened Inv-loop μ-loop = search in
     let turn : tie.In-loop Inv-loop μ-loop = search in
-    laid-more (turn .before .loop .inv) (turn .loop-test .taken) (written .write-word .kept .1 .1 .1 .0)
+    parts-more (turn .before .loop .inv) (turn .loop-test .taken) (written .write-word .kept .1 .1 .1 .0)
     (word-encoded _ _ _ _ _ _ _ _ _ _ (part turn .long)
     (low-nibble .widened .ensures .0) (low .word-part .ensures .0) (high-nibble .widened2 .ensures .0) (high .word-part2 .ensures .0)
     (written .write-word .ensures))
 
 returns : tie.Need-returns Inv-loop μ-loop
-returns c = search laid-all
+returns c = search parts-all
 
 -- ---- the needs that the search closes
 shared-slice-read-widened : tie.Need-shared-slice-read-widened Inv-loop μ-loop

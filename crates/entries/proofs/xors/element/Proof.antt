@@ -1,7 +1,6 @@
 -- `entries::xors::element` reads element x by a test of its place: past the end `at` is 0 (`at-past` of bits).
 -- Assumes nothing.
-use mathlib.Core.Path.{sym, ap}
-use Rattle.bits.specs.Lists.{at}
+use mathlib.Core.Path.{sym}
 use Rattle.bits.proofs.laws.Lists.{at-past}
 use native.Mathlib.Omega.{arith}
 use borrow.Author.Needs.{needs}
@@ -9,10 +8,7 @@ use Rattle.entries.proofs.xors.element.Statement.{statement}
 use Rattle.entries.proofs.xors.element.Tie as tie
 
 returns : tie.Need-returns
-returns c =
-    let place : tie.After-widened = search in
-    let entry : tie.Start = search in
-    ap (at (entry .args .s .now)) (place .widened .ensures .0)
+returns c = cc
 
 returns-2 : tie.Need-returns-2
 returns-2 c =

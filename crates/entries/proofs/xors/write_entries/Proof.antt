@@ -1,27 +1,26 @@
--- `entries::xors::write_entries` writes the 16 rows of 8 bytes one behind the other. The loop's invariant, `Laid` of `laws.Laid`: the first i
--- rows stand in the front of dst. A turn lends the part of row i and gets the row back (`laid-more`). Behind the last dst is the rows
--- (`laid-all`), and the rows are the table, packed (`rows-packed` of `laws.Entries`).
+-- `entries::xors::write_entries` writes the 16 rows of 8 bytes one behind the other. The loop's invariant, `Parts` of bits: the first i
+-- rows stand in the front of dst. A turn lends the part of row i and gets the row back (`parts-more`). Behind the last dst is the rows
+-- (`parts-all`), and the rows are the table, packed (`rows-packed` of `laws.Entries`).
 -- Assumes nothing.
 use mathlib.Core.Path.{_∙_}
 use Prim.Native.Nat.{_-_}
 use lib.Bits.{bitXor}
-use lib.ListN.{length}
 use Rattle.bits.specs.Lists.{at}
 use Rattle.bits.specs.Nibbles.{packed}
+use Rattle.bits.proofs.laws.Parts.{Parts, parts-none, part-lent, parts-more, parts-all}
 use Rattle.entries.proofs.laws.Entries.{rows-packed}
-use Rattle.entries.proofs.laws.Laid.{Laid, laid-none, part-lent, laid-more, laid-all}
 use native.Mathlib.Omega.{arith}
 use Rattle.entries.proofs.xors.write_entries.Statement.{statement}
 use Rattle.entries.proofs.xors.write_entries.Tie as tie
 
 abbrev Inv-loop : tie.InvT-loop
-Inv-loop sum added result dst₀ i₀ dst i = Laid (length dst₀) 16 8 (λ k. packed 8 (λ j. at result (bitXor (at sum k) (at added j)))) dst i
+Inv-loop sum added result dst₀ i₀ dst i = Parts 16 8 (λ k. packed 8 (λ j. at result (bitXor (at sum k) (at added j)))) dst₀ dst i
 
 abbrev μ-loop : tie.MeasureT-loop
 μ-loop sum added result dst₀ i₀ dst i = 16 - i
 
 loop-holds : tie.Need-loop-holds Inv-loop μ-loop
-loop-holds c = laid-none 16 8 _ _ (omega arith)
+loop-holds c = parts-none (omega arith)
 
 write-row-requires : tie.Need-write-row-requires Inv-loop μ-loop
 write-row-requires c κs =
@@ -33,12 +32,12 @@ loop-again : tie.Need-loop-again Inv-loop μ-loop
 loop-again c =
     let written : tie.After-write-row Inv-loop μ-loop = search in
     let turn : tie.In-loop Inv-loop μ-loop = search in
-    laid-more (turn .before .loop .inv) (turn .loop-test .taken) (written .write-row .kept .1 .1 .1 .0) (written .write-row .ensures)
+    parts-more (turn .before .loop .inv) (turn .loop-test .taken) (written .write-row .kept .1 .1 .1 .0) (written .write-row .ensures)
 
 returns : tie.Need-returns Inv-loop μ-loop
 returns c =
     let done : tie.After-loop Inv-loop μ-loop = search in
-    laid-all (done .before .loop .inv) (done .loop-test .left) (search) ∙ rows-packed _
+    parts-all (done .before .loop .inv) (done .loop-test .left) (search) ∙ rows-packed _
 
 -- ---- the needs that the search closes
 mul-a : tie.Need-mul-a Inv-loop μ-loop

@@ -2,7 +2,11 @@
 -- give what all of them give from the walk held, and the lists have kept their lengths. A turn goes on by what `step` ensures, one lookup or
 -- more (`going-more`); at the stop none is left (`going-all`). The measure is the number of lookups left.
 -- Assumes nothing.
+use mathlib.Core.Path.{ap}
 use Prim.Native.Nat.{_-_}
+use Rattle.network.specs.Lookups.{stateAt}
+use Rattle.whitebox.specs.Calls.{holding}
+use Rattle.layout.specs.Stages.{shifted}
 use Rattle.evaluate.proofs.laws.Calls.{Going, going-none, going-more, going-all}
 use borrow.Author.Needs.{needs}
 use native.Mathlib.Omega.{arith}
@@ -10,7 +14,7 @@ use Rattle.evaluate.proofs.walk.advance.Statement.{statement}
 use Rattle.evaluate.proofs.walk.advance.Tie as tie
 
 abbrev Inv-loop : tie.InvT-loop
-Inv-loop set stop standing₀ area₀ n₀ standing area n = Going set stop (record { count = n₀; standing = standing₀; area = area₀ }) standing area n
+Inv-loop set stop standing₀ area₀ n₀ standing area n = Going shifted 10 set stop (stateAt n₀ standing₀ area₀) standing area n
 
 abbrev μ-loop : tie.MeasureT-loop
 μ-loop set stop standing₀ area₀ n₀ standing area n = stop - n
@@ -27,7 +31,7 @@ loop-again c = search going-more
 returns : tie.Need-returns Inv-loop μ-loop
 returns c =
     let turn : tie.At-loop Inv-loop μ-loop = search in
-    going-all (turn .loop .inv) (search)
+    ap holding (going-all (turn .loop .inv) (search))
 
 -- ---- the needs that the search closes
 step-requires : tie.Need-step-requires Inv-loop μ-loop

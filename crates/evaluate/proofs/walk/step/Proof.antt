@@ -1,9 +1,12 @@
 -- `evaluate::walk::step` meets its contract. `place_of` ensures the stage or half and the table of lookup n. Where n is the first lookup and the last
 -- is not behind the stop, `layer_in` makes them all (`all-advanced` of `laws.Calls`); else `lookup_in` makes one over its table, a part of the
--- set (`one-advanced`). What the two ask is laws of the place: its width, and that its tables lie within the set.
+-- set (`one-advanced`). What the two ask is laws of the place: its width, and that its tables lie within the set. They are over the sizes of a
+-- set; `ten` are those of the code.
 -- Assumes nothing.
 use mathlib.Core.Path.{refl}
 use Prim.Native.Nat.{_+_, _≤_}
+use Rattle.layout.specs.Stages.{tenSetBytes}
+use Rattle.layout.proofs.laws.Ten.{ten}
 use Rattle.evaluate.proofs.laws.Calls.{place-width, place-room, part-within, part-fits, one-advanced, all-advanced}
 use native.Mathlib.Omega.{arith}
 use borrow.Author.Needs.{needs}
@@ -11,13 +14,13 @@ use Rattle.evaluate.proofs.walk.step.Statement.{statement}
 use Rattle.evaluate.proofs.walk.step.Tie as tie
 
 -- the table of lookup n lies within the set
-within : (c : tie.After-place-of) → c .place-of .result .offset + c .place-of .result .size ≤ 770048
-within c = part-within _ _ (omega arith) (c .place-of .ensures)
+within : (c : tie.After-place-of) → c .place-of .result .offset + c .place-of .result .size ≤ tenSetBytes
+within c = part-within ten _ _ (omega arith) (c .place-of .ensures)
 
 lookups-of-requires : tie.Need-lookups-of-requires
 lookups-of-requires c κs =
     let place : tie.After-place-of = search in
-    place-width _ _ (omega arith) (place .place-of .ensures) _ (search)
+    place-width ten _ _ (omega arith) (place .place-of .ensures) _ (search)
 
 layer-in-requires : tie.Need-layer-in-requires
 layer-in-requires c κs =
@@ -25,14 +28,14 @@ layer-in-requires c κs =
     let place : tie.After-place-of = search in
     let entry : tie.Start = search in (
       entry .pre .0,
-      place-room _ _ (omega arith) (place .place-of .ensures) (first .if1 .taken),
-      place-width _ _ (omega arith) (place .place-of .ensures) _ refl,
+      place-room ten _ _ (omega arith) (place .place-of .ensures) (first .if1 .taken),
+      place-width ten _ _ (omega arith) (place .place-of .ensures) _ refl,
       entry .pre .4,
       entry .pre .3,
     )
 
 returns : tie.Need-returns
-returns c = search all-advanced
+returns c = search (all-advanced, ten)
 
 add-to : tie.Need-add-to
 add-to c = omega (arith, within (search))
@@ -44,10 +47,10 @@ lookup-in-requires : tie.Need-lookup-in-requires
 lookup-in-requires c κs =
     let place : tie.After-place-of = search in
     let entry : tie.Start = search in
-    (part-fits _ _ (omega arith) (place .place-of .ensures) _ (entry .pre .0), entry .pre .4, entry .pre .3)
+    (part-fits ten _ _ (omega arith) (place .place-of .ensures) _ (entry .pre .0), entry .pre .4, entry .pre .3)
 
 returns-2 : tie.Need-returns-2
-returns-2 c = search one-advanced
+returns-2 c = search (one-advanced, ten)
 
 -- ---- the needs that the search closes
 place-of-requires : tie.Need-place-of-requires

@@ -1,20 +1,23 @@
 -- `external::coding::decode_by`: where `ready` finds nothing against the call, the encodings are taken off and the block is multiplied by the
--- matrix's inverse (`decoded-by` of `laws.Code`); else its refusal is the answer and the lent block is left as it was (`bundle-refused`,
--- `block-refused`). What the two steps ask is what the answer `Done` says (`done-ready`): blocks of 16 bytes, and an accepted bundle, whose
--- encodings are permutations (`called-encodings`).
+-- matrix's inverse (`decoded-by` of `laws.Code`); else its refusal is the answer and the lent block is left as it was (`refused`). What the two
+-- steps ask holds of what an accepted call is lent (`accepted-ready`): blocks of 16 bytes, and an accepted bundle, whose encodings are permutations
+-- (`called-encodings`).
 -- Assumes nothing.
 use mathlib.Core.Path.{refl}
-use Rattle.external.proofs.laws.Code.{done-ready, called-encodings, nibbles-long, decoded-by, bundle-refused, block-refused}
+use Rattle.external.proofs.laws.Code.{accepted-ready, called-encodings, nibbles-long, decoded-by, refused}
 use borrow.Author.Needs.{needs}
 use Rattle.external.proofs.coding.decode_by.Statement.{statement}
 use Rattle.external.proofs.coding.decode_by.Tie as tie
+
+returns : tie.Need-returns
+returns c = search refused
 
 decode-nibbles-requires : tie.Need-decode-nibbles-requires
 decode-nibbles-requires c κs =
     let answer : tie.After-ready = search in
     let bytes : tie.After-shared-slice-known = search in
     let entry : tie.Start = search in
-    let ready = done-ready (answer .ready .ensures) (search) in
+    let ready = accepted-ready (answer .ready .ensures) (search) in
     let permutations = called-encodings _ (λ i. bytes .shared-slice-known .given i .fits) (ready .judged) _ (entry .pre .0) in
     ((entry .pre .0, ready .long, refl), permutations)
 
@@ -23,26 +26,17 @@ unmultiply-requires c κs =
     let decoded : tie.After-decode-nibbles = search in
     let answer : tie.After-ready = search in
     let entry : tie.Start = search in
-    let ready = done-ready (answer .ready .ensures) (search) in
+    let ready = accepted-ready (answer .ready .ensures) (search) in
     let matrix = entry .pre .1 (ready .judged) in
     ((matrix .0, nibbles-long _ _ _ _ (decoded .decode-nibbles .ensures), ready .room), matrix .1)
 
-returns : tie.Need-returns
-returns c =
+returns-2 : tie.Need-returns-2
+returns-2 c =
     let product : tie.After-unmultiply = search in
     let decoded : tie.After-decode-nibbles = search in
     let answer : tie.After-ready = search in
-    decoded-by (answer .ready .ensures) (search) _ _ _ _ _ _ _ (decoded .decode-nibbles .ensures) (product .unmultiply .ensures)
-
-returns-2 : tie.Need-returns-2
-returns-2 c =
-    let answer : tie.After-ready = search in
-    bundle-refused (answer .ready .ensures) _ _ (search)
-
-returns-3 : tie.Need-returns-3
-returns-3 c =
-    let answer : tie.After-ready = search in
-    block-refused (answer .ready .ensures) _ _ (search)
+    let out = decoded-by (answer .ready .ensures) (search) _ _ _ _ _ _ _ (decoded .decode-nibbles .ensures) (product .unmultiply .ensures) in
+    (answer .ready .ensures, out)
 
 -- ---- the needs that the search closes
 ready-requires : tie.Need-ready-requires
@@ -51,17 +45,14 @@ ready-requires c κs = search needs
 enum-told : tie.Need-enum-told
 enum-told c = search needs
 
+enum-told-2 : tie.Need-enum-told-2
+enum-told-2 c = search needs
+
 slice-aggregate-decode-nibbles : tie.Need-slice-aggregate-decode-nibbles
 slice-aggregate-decode-nibbles c = search needs
 
 slice-aggregate-unmultiply : tie.Need-slice-aggregate-unmultiply
 slice-aggregate-unmultiply c = search needs
-
-enum-known-r : tie.Need-enum-known-r
-enum-known-r c = search needs
-
-enum-told-2 : tie.Need-enum-told-2
-enum-told-2 c = search needs
 
 same-length : tie.Need-same-length
 same-length c = search needs
@@ -72,13 +63,11 @@ decode-by-spec =
     (tie.spec
     ready-requires
     enum-told
+    enum-told-2
+    returns
     slice-aggregate-decode-nibbles
     decode-nibbles-requires
     slice-aggregate-unmultiply
     unmultiply-requires
-    enum-known-r
-    enum-told-2
     same-length
-    returns
-    returns-2
-    returns-3)
+    returns-2)

@@ -11,7 +11,7 @@ first-singular-requires c κs =
     let size : tie.After-part-size = search in
     let section : tie.After-section = search in
     let entry : tie.Start = search in
-    matrices-asked 10 _ _ (section .section .ensures) (size .part-size .ensures .0) (c .part-count .ensures .0) _ (entry .pre)
+    matrices-asked 10 _ _ (section .section .ensures) (size .part-size .ensures .0) (c .part-count .ensures) _ (entry .pre)
 
 returns : tie.Need-returns
 returns c = matrices-searched 10 _ _ (search) (search) (search) _ (c .first-singular .ensures)

@@ -1,8 +1,9 @@
--- `judgement::judge::judge_bundle` meets its contract. Frame, encodings and matrices are judged one after the other; the first refusal is the answer:
--- the frame's (`judge-frame` of `laws.Judging`), behind it the encodings' (`judge-encodings`), and behind both what the matrices are judged
--- (`judge-matrices`). Encodings and matrices are judged only where the frame is accepted (`frame-accepted`), as their judgements ask.
+-- `judgement::judge::judge_bundle` meets its contract. Frame, encodings, byte matrices, column matrices and block matrices are judged one after the
+-- other, and the first refusal is the answer. Each way out has a law of `laws.Judging`, whose premises are what the judgements before it are:
+-- `judge-frame`, `judge-encodings`, `judge-bytes` and `judge-columns` where one refuses, `judge-blocks` where none did. What follows the frame is
+-- judged only where the frame is accepted (`frame-accepted`), as those judgements ask.
 -- Assumes nothing.
-use Rattle.judgement.proofs.laws.Judging.{judge-frame, frame-accepted, judge-encodings, judge-matrices}
+use Rattle.judgement.proofs.laws.Judging.{judge-frame, frame-accepted, judge-encodings, judge-bytes, judge-columns, judge-blocks}
 use borrow.Author.Needs.{needs}
 use Rattle.judgement.proofs.judge.judge_bundle.Statement.{statement}
 use Rattle.judgement.proofs.judge.judge_bundle.Tie as tie
@@ -20,19 +21,48 @@ judge-encodings-requires c κs =
 returns-2 : tie.Need-returns-2
 returns-2 c =
     let refused : tie.After-r2 = search in
-    let framed : tie.After-enum-told = search in
-    judge-encodings 10 _ (search) (framed .enum-told .given .1) (search) (refused .r2 .given .1)
+    let frame : tie.After-enum-told = search in
+    judge-encodings 10 _ (search) (frame .enum-told .given .1) (search) (refused .r2 .given .1)
 
-judge-matrices-requires : tie.Need-judge-matrices-requires
-judge-matrices-requires c κs =
+judge-byte-matrices-requires : tie.Need-judge-byte-matrices-requires
+judge-byte-matrices-requires c κs =
     let framed : tie.After-enum-told = search in
     frame-accepted 10 _ (search) (framed .enum-told .given .1)
 
 returns-3 : tie.Need-returns-3
 returns-3 c =
-    let encoded : tie.After-enum-told2 = search in
+    let refused : tie.After-r3 = search in
+    let encodings : tie.After-enum-told2 = search in
+    let frame : tie.After-enum-told = search in
+    judge-bytes 10 _ (search) (frame .enum-told .given .1) (search) (encodings .enum-told2 .given .1) (search) (refused .r3 .given .1)
+
+judge-column-matrices-requires : tie.Need-judge-column-matrices-requires
+judge-column-matrices-requires c κs =
     let framed : tie.After-enum-told = search in
-    judge-matrices 10 _ (search) (framed .enum-told .given .1) (search) (encoded .enum-told2 .given .1) (c .judge-matrices .ensures)
+    frame-accepted 10 _ (search) (framed .enum-told .given .1)
+
+returns-4 : tie.Need-returns-4
+returns-4 c =
+    let refused : tie.After-r4 = search in
+    let bytes : tie.After-enum-told3 = search in
+    let encodings : tie.After-enum-told2 = search in
+    let frame : tie.After-enum-told = search in
+    judge-columns 10 _ (search) (frame .enum-told .given .1) (search) (encodings .enum-told2 .given .1) (search) (bytes .enum-told3 .given .1)
+    (search) (refused .r4 .given .1)
+
+judge-block-matrices-requires : tie.Need-judge-block-matrices-requires
+judge-block-matrices-requires c κs =
+    let framed : tie.After-enum-told = search in
+    frame-accepted 10 _ (search) (framed .enum-told .given .1)
+
+returns-5 : tie.Need-returns-5
+returns-5 c =
+    let columns : tie.After-enum-told4 = search in
+    let bytes : tie.After-enum-told3 = search in
+    let encodings : tie.After-enum-told2 = search in
+    let frame : tie.After-enum-told = search in
+    judge-blocks 10 _ (search) (frame .enum-told .given .1) (search) (encodings .enum-told2 .given .1) (search) (bytes .enum-told3 .given .1)
+    (search) (columns .enum-told4 .given .1) (c .judge-block-matrices .ensures)
 
 -- ---- the needs that the search closes
 judge-frame-requires : tie.Need-judge-frame-requires
@@ -50,6 +80,18 @@ enum-known-r-2 c = search needs
 enum-told-2 : tie.Need-enum-told-2
 enum-told-2 c = search needs
 
+enum-known-r-3 : tie.Need-enum-known-r-3
+enum-known-r-3 c = search needs
+
+enum-told-3 : tie.Need-enum-told-3
+enum-told-3 c = search needs
+
+enum-known-r-4 : tie.Need-enum-known-r-4
+enum-known-r-4 c = search needs
+
+enum-told-4 : tie.Need-enum-told-4
+enum-told-4 c = search needs
+
 pub judge-bundle-spec : {M : Type 1} → statement M
 judge-bundle-spec =
     tie.close
@@ -62,5 +104,13 @@ judge-bundle-spec =
     enum-known-r-2
     returns-2
     enum-told-2
-    judge-matrices-requires
-    returns-3)
+    judge-byte-matrices-requires
+    enum-known-r-3
+    returns-3
+    enum-told-3
+    judge-column-matrices-requires
+    enum-known-r-4
+    returns-4
+    enum-told-4
+    judge-block-matrices-requires
+    returns-5)

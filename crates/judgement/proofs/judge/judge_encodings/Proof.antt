@@ -1,8 +1,11 @@
--- `judgement::judge::judge_encodings` meets its contract. The section of the encodings is searched for one that is no permutation: the first is
--- refused (`encodings-bad` of `laws.Judging`), and without one the encodings are accepted (`encodings-good`). The section has room for all of them,
--- as the frame is accepted (`encodings-asked`).
+-- `judgement::judge::judge_encodings` meets its contract. The section of the encodings is searched for one that is no permutation, and the judgement
+-- is the refusal for what is found (`encodings-judged` of `laws.Judging`): the first is refused (`found-refuses` of bundle's `laws.Tests`), and without
+-- one the encodings are accepted (`found-passes`). The section has room for all of them, as the frame is accepted (`encodings-asked`).
 -- Assumes nothing.
-use Rattle.judgement.proofs.laws.Judging.{encodings-asked, encodings-bad, encodings-good}
+use mathlib.Core.Path.{_∙_}
+use Rattle.answers.specs.declared.Refusal.the-variants.{Encoding}
+use Rattle.bundle.proofs.laws.Tests.{found-refuses, found-passes}
+use Rattle.judgement.proofs.laws.Judging.{encodings-asked, encodings-judged}
 use borrow.Author.Needs.{needs}
 use Rattle.judgement.proofs.judge.judge_encodings.Statement.{statement}
 use Rattle.judgement.proofs.judge.judge_encodings.Tie as tie
@@ -16,13 +19,13 @@ returns : tie.Need-returns
 returns c =
     let bad : tie.After-n = search in
     let found : tie.After-first-bad-encoding = search in
-    encodings-bad _ (search) (search) (found .first-bad-encoding .ensures) (bad .n .given .1)
+    found-refuses _ Encoding _ (bad .n .given .1) ∙ encodings-judged _ (search) (search) (found .first-bad-encoding .ensures)
 
 returns-2 : tie.Need-returns-2
 returns-2 c =
     let none : tie.After-enum-told = search in
     let found : tie.After-first-bad-encoding = search in
-    encodings-good _ (search) (search) (found .first-bad-encoding .ensures) (none .enum-told .given .1)
+    found-passes _ Encoding (none .enum-told .given .1) ∙ encodings-judged _ (search) (search) (found .first-bad-encoding .ensures)
 
 -- ---- the needs that the search closes
 section-requires : tie.Need-section-requires

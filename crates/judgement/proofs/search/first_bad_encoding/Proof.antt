@@ -97,6 +97,9 @@ repeated-requires c κs = omega arith
 turned-requires-2 : tie.Need-turned-requires-2 Inv-images μ-images Inv-lists μ-lists
 turned-requires-2 c κs = omega arith
 
+cast-t15 : tie.Need-cast-t15 Inv-images μ-images Inv-lists μ-lists
+cast-t15 c = omega arith
+
 add-i : tie.Need-add-i Inv-images μ-images Inv-lists μ-lists
 add-i c = omega arith
 
@@ -123,6 +126,7 @@ first-bad-encoding-spec =
     add-b
     shared-slice-read-b
     repeated-requires
+    cast-t15
     turned-requires
     turned-requires-2
     add-i

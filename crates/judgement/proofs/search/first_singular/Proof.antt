@@ -1,26 +1,26 @@
--- `judgement::search::first_singular` meets its contract. The loop's invariant, `Searched` of bundle's `laws.Search`: each of the first k matrices
--- has an inverse, and the search from k on has the answer of the search of all. What the code cuts out is matrix k (`singular-cut` of `laws.Judging`):
--- one without an inverse is the first (`searched-here`), another is passed (`searched-next`), and behind the last there is none (`searched-all`).
--- Matrix k ends within the section (`fits`), so no product and no sum wraps. The measure is the number of matrices left.
+-- `judgement::search::first_singular` meets its contract. The loop's invariant, `Searched` of bundle's `laws.Search`: none of the first k matrices
+-- is bad, and the search from k on has the answer of the search of all. What the code cuts out is matrix k (`mixing-cut` of `laws.Judging`):
+-- a bad one is the first (`searched-here`), another is passed (`searched-next`), and behind the last there is none (`searched-all`).
+-- Matrix k ends within the section (`fits`), so no product and no sum wraps; and the number of a matrix has 32 bits. The measure is the number of matrices left.
 -- Assumes nothing.
 use Prim.Native.Nat.{ℕ, _+_, _-_, _*_, _≤_, _<_}
 use lib.ListN.{length, length-take, length-drop}
 use Rattle.bits.proofs.laws.Multiples.{parts-within}
 use Rattle.bundle.proofs.laws.Search.{Searched, searched-none, searched-here, searched-next, searched-all}
-use Rattle.judgement.proofs.laws.Judging.{singularIn, singular-cut}
+use Rattle.judgement.proofs.laws.Judging.{badMixingIn, mixing-cut}
 use native.Mathlib.Omega.{arith}
 use Rattle.judgement.proofs.search.first_singular.Statement.{statement}
 use Rattle.judgement.proofs.search.first_singular.Tie as tie
 
 abbrev Inv-loop : tie.InvT-loop
-Inv-loop s w size count k₀ k = Searched count (singularIn w size s) k
+Inv-loop s w size count k₀ k = Searched count (badMixingIn w size s) k
 
 abbrev μ-loop : tie.MeasureT-loop
 μ-loop s w size count k₀ k = count - k
 
 -- matrix k ends within the section
 fits : (entry : tie.Start Inv-loop μ-loop) {k : ℕ} → k < entry .args .count → k * entry .args .size + entry .args .size ≤ length (entry .args .s .now)
-fits entry h = parts-within _ _ _ _ h (entry .pre .2)
+fits entry h = parts-within _ _ _ _ h (entry .pre .3)
 
 loop-holds : tie.Need-loop-holds Inv-loop μ-loop
 loop-holds c = search searched-none
@@ -31,36 +31,39 @@ mul-a c = omega (arith, fits (search) (c .loop-test .taken))
 add-e : tie.Need-add-e Inv-loop μ-loop
 add-e c = omega (arith, fits (search) (c .loop-test .taken))
 
-part-no-inverse-end : tie.Need-part-no-inverse-end Inv-loop μ-loop
-part-no-inverse-end c = fits (search) (c .loop-test .taken)
+part-mixing-bad-end : tie.Need-part-mixing-bad-end Inv-loop μ-loop
+part-mixing-bad-end c = fits (search) (c .loop-test .taken)
 
-no-inverse-requires : tie.Need-no-inverse-requires Inv-loop μ-loop
-no-inverse-requires c κs =
+mixing-bad-requires : tie.Need-mixing-bad-requires Inv-loop μ-loop
+mixing-bad-requires c κs =
     let entry : tie.Start Inv-loop μ-loop = search in
     let inside = fits entry (c .before .loop-test .taken) in
     (entry .pre .0, rw (← entry .pre .1) (simp (length-take, length-drop) (omega arith)))
 
 returns : tie.Need-returns Inv-loop μ-loop
 returns c =
-    let tested : tie.After-no-inverse Inv-loop μ-loop = search in
+    let tested : tie.After-mixing-bad Inv-loop μ-loop = search in
     let turn : tie.In-loop Inv-loop μ-loop = search in
-    searched-here (turn .before .loop .inv) (turn .loop-test .taken) (singular-cut _ _ _ _ (tested .no-inverse .ensures)) (c .if1 .taken)
+    searched-here (turn .before .loop .inv) (turn .loop-test .taken) (mixing-cut _ _ _ _ (tested .mixing-bad .ensures)) (c .if1 .taken)
 
 loop-again : tie.Need-loop-again Inv-loop μ-loop
 loop-again c =
-    let tested : tie.After-no-inverse Inv-loop μ-loop = search in
+    let tested : tie.After-mixing-bad Inv-loop μ-loop = search in
     let turn : tie.In-loop Inv-loop μ-loop = search in
-    searched-next (turn .before .loop .inv) (turn .loop-test .taken) (singular-cut _ _ _ _ (tested .no-inverse .ensures)) (c .if1 .left)
+    searched-next (turn .before .loop .inv) (turn .loop-test .taken) (mixing-cut _ _ _ _ (tested .mixing-bad .ensures)) (c .if1 .left)
 
 returns-2 : tie.Need-returns-2 Inv-loop μ-loop
 returns-2 c = search searched-all
 
 -- ---- the needs that the search closes
-sub-no-inverse : tie.Need-sub-no-inverse Inv-loop μ-loop
-sub-no-inverse c = omega arith
+sub-mixing-bad : tie.Need-sub-mixing-bad Inv-loop μ-loop
+sub-mixing-bad c = omega arith
 
-part-no-inverse-start : tie.Need-part-no-inverse-start Inv-loop μ-loop
-part-no-inverse-start c = omega arith
+part-mixing-bad-start : tie.Need-part-mixing-bad-start Inv-loop μ-loop
+part-mixing-bad-start c = omega arith
+
+cast-t14 : tie.Need-cast-t14 Inv-loop μ-loop
+cast-t14 c = omega arith
 
 add-k : tie.Need-add-k Inv-loop μ-loop
 add-k c = omega arith
@@ -77,10 +80,11 @@ first-singular-spec =
     loop-holds
     mul-a
     add-e
-    sub-no-inverse
-    part-no-inverse-start
-    part-no-inverse-end
-    no-inverse-requires
+    sub-mixing-bad
+    part-mixing-bad-start
+    part-mixing-bad-end
+    mixing-bad-requires
+    cast-t14
     returns
     add-k
     loop-less

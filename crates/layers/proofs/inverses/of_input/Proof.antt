@@ -12,7 +12,7 @@ inverse-requires c κs =
     let part : tie.After-input-matrix-part = search in
     let bytes : tie.After-shared-slice-known = search in
     let entry : tie.Start = search in
-    let known = input-part _ _ (λ i. bytes .shared-slice-known .given i .fits) (entry .pre .0) (part .input-matrix-part .ensures) in
+    let known = input-part 10 _ _ (λ i. bytes .shared-slice-known .given i .fits) (entry .pre .0) (part .input-matrix-part .ensures) in
     (omega arith, known .0, omega arith, known .1)
 
 returns : tie.Need-returns

@@ -23,7 +23,7 @@ returns c =
     let part : tie.After-byte-matrix-part = search in
     let position : tie.After-shifted = search in
     let entry : tie.Start = search in
-    behind-is _ _ _ _ (entry .pre .2) (entry .pre .3) (position .shifted .ensures .1) (part .byte-matrix-part .ensures)
+    behind-is 10 _ _ _ _ (entry .pre .2) (entry .pre .3) (position .shifted .ensures .1) (part .byte-matrix-part .ensures)
     _ (entry .args .read .now) _ _ _ _ (position .shifted .ensures .0) (inverse .inverse .ensures) (key .key-behind .ensures)
     (filled .substitute .ensures)
 

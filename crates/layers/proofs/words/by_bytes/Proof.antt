@@ -1,12 +1,13 @@
--- `layers::words::by_bytes` fills the first n of 16 places, then reads them as a vector. The loop's invariant is `Filled` of `bits`, with `byteTimes` of
+-- `layers::words::by_bytes` fills the first n of 16 places, then reads them as a vector. The loop's invariant is `Filled` of bits, with `byteTimes` of
 -- `laws.Words`: place k has byte k of v times its byte matrix. A turn takes the part of the section and the byte, counted from the other end,
 -- and stores the product (`times-more`); the number of the first n places is what is asked (`filled-number`). The parts have 8 bytes, since
 -- the section has 160 of them (`part-room`).
 -- Assumes nothing.
 use Prim.Native.Nat.{_-_}
 use Rattle.bits.specs.Words.{value}
+use Rattle.bits.proofs.laws.Bytes.{filled-number}
 use Rattle.bits.proofs.laws.Filled.{Filled, filled-none}
-use Rattle.layers.proofs.laws.Words.{byteTimes, times-more, filled-number, part-room}
+use Rattle.layers.proofs.laws.Words.{byteTimes, times-more, part-room}
 use native.Mathlib.Omega.{arith}
 use Rattle.layers.proofs.words.by_bytes.Statement.{statement}
 use Rattle.layers.proofs.words.by_bytes.Tie as tie

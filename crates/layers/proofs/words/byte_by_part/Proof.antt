@@ -1,32 +1,40 @@
--- `layers::words::byte_by_part` pushes the parities of the 8 bytes of p with x, one a turn. The loop's invariant, `Pushed` of `laws.Words`: r is
--- the product of the first i of these rows and x. A turn pushes one more bit (`pushed-more`), for which a vector of 128 bits has room
--- (`pushed-room`, `parity-bit`); behind the eighth the lowest byte of r is the product with the matrix that the bytes write (`pushed-byte`).
+-- `layers::words::byte_by_part` pushes the parities of the 8 bytes of p with x, one a turn. The loop's invariant, `Joined` of bits: r is made of
+-- the first i of these parities. A turn pushes one more (`joined-more`), for which a vector of 128 bits has room (`joined-room`, `parity-bit`);
+-- behind the eighth the lowest byte of r is the product with the matrix that the bytes write (`joined-byte` of `laws.Words`).
 -- Assumes nothing.
 use Prim.Native.Nat.{_-_}
 use Rattle.bits.specs.Lists.{at}
+use Rattle.bits.specs.Vectors.{dot}
 use Rattle.bits.specs.Words.{value}
-use Rattle.layers.proofs.laws.Words.{Pushed, pushed-none, pushed-room, parity-bit, pushed-more, pushed-byte}
+use Rattle.bits.proofs.laws.Joined.{Joined, joined-none, joined-more, joined-room}
+use Rattle.bits.proofs.laws.Vectors.{dot-lt, parity-bit}
+use Rattle.bits.proofs.laws.Words.{wide-zero}
+use Rattle.layers.proofs.laws.Words.{joined-byte}
 use native.Mathlib.Omega.{arith}
 use Rattle.layers.proofs.words.byte_by_part.Statement.{statement}
 use Rattle.layers.proofs.words.byte_by_part.Tie as tie
 
 abbrev Inv-loop : tie.InvT-loop
-Inv-loop p x v r₀ i₀ r i = Pushed 8 (at p) x (value r) i
+Inv-loop p x v r₀ i₀ r i = Joined 1 8 (λ j. dot (at p j) x) (value r) i
 
 abbrev μ-loop : tie.MeasureT-loop
 μ-loop p x v r₀ i₀ r i = 8 - i
 
 loop-holds : tie.Need-loop-holds Inv-loop μ-loop
-loop-holds c = pushed-none _ _ _ (omega arith)
+loop-holds c = joined-none wide-zero
 
 push-bit-requires : tie.Need-push-bit-requires Inv-loop μ-loop
-push-bit-requires c κs = search (pushed-room, parity-bit)
+push-bit-requires c κs =
+    let turn : tie.At-loop Inv-loop μ-loop = search in
+    (joined-room (turn .loop .inv) 127 (omega arith) (λ j. dot-lt _ _), parity-bit _ _ _ (c .parity .ensures))
 
 loop-again : tie.Need-loop-again Inv-loop μ-loop
-loop-again c = search pushed-more
+loop-again c =
+    let turn : tie.In-loop Inv-loop μ-loop = search in
+    joined-more (turn .before .loop .inv) (turn .loop-test .taken) (cc)
 
 returns : tie.Need-returns Inv-loop μ-loop
-returns c = search pushed-byte
+returns c = search joined-byte
 
 -- ---- the needs that the search closes
 vector-of-requires : tie.Need-vector-of-requires Inv-loop μ-loop

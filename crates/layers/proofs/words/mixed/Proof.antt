@@ -1,10 +1,11 @@
--- `layers::words::mixed` fills the first four of 16 places, then reads them as a vector. The loop's invariant is `Filled` of `bits`, with `mixedBy` of
+-- `layers::words::mixed` fills the first four of 16 places, then reads them as a vector. The loop's invariant is `Filled` of bits, with `mixedBy` of
 -- `laws.Words`: place t has row t of column q of MixColumns times y. A turn stores one more such product (`mixed-more`); the number of the
 -- first four places is what is asked (`filled-number`).
 -- Assumes nothing.
 use Prim.Native.Nat.{_-_}
+use Rattle.bits.proofs.laws.Bytes.{filled-number}
 use Rattle.bits.proofs.laws.Filled.{Filled, filled-none}
-use Rattle.layers.proofs.laws.Words.{mixedBy, mixed-more, filled-number}
+use Rattle.layers.proofs.laws.Words.{mixedBy, mixed-more}
 use native.Mathlib.Omega.{arith}
 use Rattle.layers.proofs.words.mixed.Statement.{statement}
 use Rattle.layers.proofs.words.mixed.Tie as tie

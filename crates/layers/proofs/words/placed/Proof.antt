@@ -1,8 +1,8 @@
--- `layers::words::placed` stores y at place i of 16 zero bytes and reads the first n of them as a vector: `placed-number` of `laws.Words` says
--- that its value is the number with y at i. The array keeps its 16 places under the store, so n of them can be read.
+-- `layers::words::placed` stores y at place i of 16 zero bytes and reads the first n of them as a vector: `placed-number` of bits says that its
+-- value is the number with y at i. The array keeps its 16 places under the store, so n of them can be read.
 -- Assumes nothing.
 use lib.ListN.{length-set, length-replicate}
-use Rattle.layers.proofs.laws.Words.{placed-number}
+use Rattle.bits.proofs.laws.Bytes.{placed-number}
 use native.Mathlib.Omega.{arith}
 use borrow.Author.Needs.{needs}
 use Rattle.layers.proofs.words.placed.Statement.{statement}

@@ -1,32 +1,33 @@
--- `layers::words::placed_basis` writes eight rows, for the bytes 2^0 to 2^7. The loop's invariant, `Basis` of `laws.Bases`: the rows below k
+-- `layers::words::placed_basis` writes eight rows, for the bytes 2^0 to 2^7. The loop's invariant, `Stored` of matrices: the rows below k
 -- are the words of their bytes (`readWord`). A turn places 2^k at i of a block and multiplies it by the matrix that was read,
--- which makes the word (`read-row`), and stores it as row k (`basis-more`); behind row 7 the basis is whole (`basis-all`).
+-- which makes the word (`read-row`), and stores it as row k (`stored-more`); behind row 7 the basis is whole (`stored-all`).
 -- Assumes nothing.
-use Prim.Native.Nat.{_-_}
+use Prim.Native.Nat.{_-_, _^_}
 use Rattle.bits.specs.Bytes.{placed}
-use Rattle.layers.proofs.laws.Bases.{Basis, basis-none, basis-more, basis-all, readWord, read-row}
+use Rattle.matrices.proofs.laws.Rows.{Stored, stored-none, stored-more, stored-all}
+use Rattle.layers.proofs.laws.Bases.{readWord, read-row}
 use native.Mathlib.Omega.{arith}
 use borrow.Author.Needs.{needs}
 use Rattle.layers.proofs.words.placed_basis.Statement.{statement}
 use Rattle.layers.proofs.words.placed_basis.Tie as tie
 
 abbrev Inv-loop : tie.InvT-loop
-Inv-loop p i basis₀ m k₀ basis k = Basis (readWord 16 p (placed 16 i)) basis₀ basis k
+Inv-loop p i basis₀ m k₀ basis k = Stored 8 (λ j. readWord 16 p (placed 16 i) (2 ^ j)) basis₀ basis k
 
 abbrev μ-loop : tie.MeasureT-loop
 μ-loop p i basis₀ m k₀ basis k = 8 - k
 
 loop-holds : tie.Need-loop-holds Inv-loop μ-loop
-loop-holds c = search basis-none
+loop-holds c = stored-none
 
 loop-again : tie.Need-loop-again Inv-loop μ-loop
-loop-again c = search (basis-more, read-row, needs)
+loop-again c = search (stored-more, read-row, needs)
 
 returns : tie.Need-returns Inv-loop μ-loop
 returns c =
     let all : tie.After-loop Inv-loop μ-loop = search in
     let rows : tie.At-loop Inv-loop μ-loop = search in
-    basis-all (rows .loop .inv) (all .loop-test .left)
+    stored-all (rows .loop .inv) (all .loop-test .left)
 
 -- ---- the needs that the search closes
 slice-aggregate-read : tie.Need-slice-aggregate-read Inv-loop μ-loop

@@ -1,35 +1,36 @@
--- `layers::words::spread_basis` writes eight rows, for the bytes 2^0 to 2^7. The loop's invariant, `Basis` of `laws.Bases`: the rows below k
+-- `layers::words::spread_basis` writes eight rows, for the bytes 2^0 to 2^7. The loop's invariant, `Stored` of matrices: the rows below k
 -- are the words of their bytes (`spreadWord`). A turn places 2^k at i of n bytes, multiplies it by the matrix m and each byte by its byte
--- matrix, which makes the word (`spread-row`), and stores it as row k (`basis-more`); behind row 7 the basis is whole (`basis-all`). The section
+-- matrix, which makes the word (`spread-row`), and stores it as row k (`stored-more`); behind row 7 the basis is whole (`stored-all`). The section
 -- that `by_bytes` asks for has 160 byte matrices, since the bundle's frame is right (`byte-section-long`).
 -- Assumes nothing.
-use Prim.Native.Nat.{_-_}
-use Rattle.layers.proofs.laws.Bases.{Basis, basis-none, basis-more, basis-all, spreadWord, byte-section-long, spread-row}
+use Prim.Native.Nat.{_-_, _^_}
+use Rattle.matrices.proofs.laws.Rows.{Stored, stored-none, stored-more, stored-all}
+use Rattle.layers.proofs.laws.Bases.{spreadWord, byte-section-long, spread-row}
 use native.Mathlib.Omega.{arith}
 use borrow.Author.Needs.{needs}
 use Rattle.layers.proofs.words.spread_basis.Statement.{statement}
 use Rattle.layers.proofs.words.spread_basis.Tie as tie
 
 abbrev Inv-loop : tie.InvT-loop
-Inv-loop bundle m n i first basis₀ section k₀ basis k = Basis (spreadWord bundle m n i first) basis₀ basis k
+Inv-loop bundle m n i first basis₀ section k₀ basis k = Stored 8 (λ j. spreadWord 10 bundle m n i first (2 ^ j)) basis₀ basis k
 
 abbrev μ-loop : tie.MeasureT-loop
 μ-loop bundle m n i first basis₀ section k₀ basis k = 8 - k
 
 loop-holds : tie.Need-loop-holds Inv-loop μ-loop
-loop-holds c = search basis-none
+loop-holds c = stored-none
 
 by-bytes-requires : tie.Need-by-bytes-requires Inv-loop μ-loop
 by-bytes-requires c κs = search (byte-section-long, needs)
 
 loop-again : tie.Need-loop-again Inv-loop μ-loop
-loop-again c = search (basis-more, spread-row)
+loop-again c = search (stored-more, spread-row)
 
 returns : tie.Need-returns Inv-loop μ-loop
 returns c =
     let all : tie.After-loop Inv-loop μ-loop = search in
     let rows : tie.At-loop Inv-loop μ-loop = search in
-    basis-all (rows .loop .inv) (all .loop-test .left)
+    stored-all (rows .loop .inv) (all .loop-test .left)
 
 -- ---- the needs that the search closes
 section-requires : tie.Need-section-requires Inv-loop μ-loop

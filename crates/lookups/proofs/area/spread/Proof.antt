@@ -1,10 +1,11 @@
--- `lookups::area::spread` meets its contract. The loop copies a word of the table into the area, byte by byte: the invariant is `Pasted` of
--- `laws.Area`, which also holds that word p ends within the area and the word of byte s within the table (`pasted-none`, `pasted-more`). Behind
+-- `lookups::area::spread` meets its contract. The loop copies a word of the table into the area, byte by byte: the invariant is `Pasted` of bits,
+-- which also holds that word p ends within the area and the word of byte s within the table (`word-none` of `laws.Area`, `pasted-more`). Behind
 -- the last byte the word is copied (`pasted-all`, `length-pasted`). No product wraps: a word has at most 16 bytes, and there are 256 of them.
 -- Assumes nothing.
 use Prim.Native.Nat.{_-_}
 use Rattle.bits.proofs.laws.Multiples.{product-le}
-use Rattle.lookups.proofs.laws.Area.{Pasted, pasted-none, pasted-more, pasted-all, length-pasted}
+use Rattle.bits.proofs.laws.Pasted.{Pasted, pasted-more, pasted-all, length-pasted}
+use Rattle.lookups.proofs.laws.Area.{word-none}
 use native.Mathlib.Omega.{arith}
 use borrow.Author.Needs.{needs}
 use Rattle.lookups.proofs.area.spread.Statement.{statement}
@@ -27,7 +28,7 @@ mul-from c =
     omega (arith, product-le (c .widened .result) (entry .args .width) 255 16 (omega arith) (omega arith))
 
 loop-holds : tie.Need-loop-holds Inv-loop μ-loop
-loop-holds c = pasted-none _ _ _ _ _ (search) (search) (search) (search) (search)
+loop-holds c = word-none _ _ _ _ _ (search) (search) (search) (search) (search)
 
 loop-again : tie.Need-loop-again Inv-loop μ-loop
 loop-again c = search pasted-more

@@ -1,27 +1,28 @@
--- `lookups::area::take_sums` meets its contract. The loop's invariant, `Summed` of `laws.Area`: the standing bytes before q are those of the sums. A
--- turn reads byte q from the place that `sum_at` ensures (`summed-more`); behind byte 15 the standing bytes are the sums (`summed-all`).
+-- `lookups::area::take_sums` meets its contract. The loop's invariant, `Filled` of bits: the standing bytes before q are those of the sums. A turn
+-- reads byte q from the place that `sum_at` ensures (`sums-more` of `laws.Area`); behind byte 15 the standing bytes are the sums (`sums-all`).
 -- Assumes nothing.
 use Prim.Native.Nat.{_-_}
-use Rattle.lookups.proofs.laws.Area.{Summed, summed-none, summed-more, summed-all}
+use Rattle.bits.proofs.laws.Filled.{Filled, filled-none}
+use Rattle.lookups.proofs.laws.Area.{sumOf, sums-more, sums-all}
 use native.Mathlib.Omega.{arith}
 use borrow.Author.Needs.{needs}
 use Rattle.lookups.proofs.area.take_sums.Statement.{statement}
 use Rattle.lookups.proofs.area.take_sums.Tie as tie
 
 abbrev Inv-loop : tie.InvT-loop
-Inv-loop standing₀ area width q₀ standing q = Summed area width standing q
+Inv-loop standing₀ area width q₀ standing q = Filled 16 (sumOf area width) standing q
 
 abbrev μ-loop : tie.MeasureT-loop
 μ-loop standing₀ area width q₀ standing q = 16 - q
 
 loop-holds : tie.Need-loop-holds Inv-loop μ-loop
-loop-holds c = search summed-none
+loop-holds c = search filled-none
 
 loop-again : tie.Need-loop-again Inv-loop μ-loop
-loop-again c = search summed-more
+loop-again c = search sums-more
 
 returns : tie.Need-returns Inv-loop μ-loop
-returns c = search summed-all
+returns c = search sums-all
 
 -- ---- the needs that the search closes
 sum-at-requires : tie.Need-sum-at-requires Inv-loop μ-loop

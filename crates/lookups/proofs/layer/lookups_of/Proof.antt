@@ -1,10 +1,10 @@
--- `lookups::layer::lookups_of` meets its contract. The numbers are those of the two widths, by `lookups-16` and `lookups-4` of `network`; by the
+-- `lookups::layer::lookups_of` meets its contract. The numbers are those of the two widths, by `lookups-16` and `lookups-4` of `layout`; by the
 -- `requires` a width other than 16 is 4.
 -- Assumes nothing.
 use mathlib.Core.Logic.{⊎-elim}
 use mathlib.Core.Path.{sym, ap, _∙_}
 use Rattle.network.specs.Order.{layerLookups}
-use Rattle.network.proofs.laws.Stages.{lookups-16, lookups-4}
+use Rattle.layout.proofs.laws.Stages.{lookups-16, lookups-4}
 use Rattle.lookups.proofs.layer.lookups_of.Statement.{statement}
 use Rattle.lookups.proofs.layer.lookups_of.Tie as tie
 

@@ -3,7 +3,7 @@
 -- all are made (`spreads-all`). No sum wraps: the table of a turn ends within the set (`table-ends`).
 -- Assumes nothing.
 use Prim.Native.Nat.{_+_, _-_, _*_, _≤_}
-use Rattle.network.specs.Stages.{shapeAt, shifted}
+use Rattle.layout.specs.Stages.{shapeAt, shifted, tenSetBytes}
 use Rattle.lookups.proofs.laws.Whole.{Spreads, spreads-none, table-ends, table-long, spreads-more, spreads-all}
 use native.Mathlib.Omega.{arith}
 use borrow.Author.Needs.{needs}
@@ -21,7 +21,7 @@ ends : (c : tie.In-loop Inv-loop μ-loop)
     → let turn : tie.At-loop Inv-loop μ-loop = search in
     let width : tie.After-width-of Inv-loop μ-loop = search in
     let entry : tie.Start Inv-loop μ-loop = search in
-    entry .args .from + turn .loop .p * (256 * width .width-of .result) + 256 * width .width-of .result ≤ 770048
+    entry .args .from + turn .loop .p * (256 * width .width-of .result) + 256 * width .width-of .result ≤ tenSetBytes
 ends c =
     let turn : tie.At-loop Inv-loop μ-loop = search in
     table-ends (turn .loop .inv) (c .loop-test .taken)

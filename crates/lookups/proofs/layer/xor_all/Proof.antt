@@ -4,6 +4,7 @@
 -- wraps: the tables end within the set.
 -- Assumes nothing.
 use Prim.Native.Nat.{_+_, _-_, _*_, _≤_}
+use Rattle.layout.specs.Stages.{tenSetBytes}
 use Rattle.lookups.proofs.laws.Whole.{Xors, spreads-room, spreads-least, xors-none, pair-asked, xors-more, xors-all}
 use native.Mathlib.Omega.{arith}
 use borrow.Author.Needs.{needs}
@@ -17,7 +18,7 @@ abbrev μ-loop : tie.MeasureT-loop
 μ-loop area₀ set from width start bytes y₀ area y = bytes - y
 
 -- the tables of the spread lookups end within the set
-room : (s : tie.Start Inv-loop μ-loop) → s .args .from + 4096 * s .args .width ≤ 770048
+room : (s : tie.Start Inv-loop μ-loop) → s .args .from + 4096 * s .args .width ≤ tenSetBytes
 room s = spreads-room _ _ (s .pre .1)
 
 mul-start : tie.Need-mul-start Inv-loop μ-loop

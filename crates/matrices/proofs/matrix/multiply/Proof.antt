@@ -1,12 +1,12 @@
 -- `matrices::matrix::multiply` meets its contract. The loop's invariant, `Joined` of bits: the vector p is made of the parities of the first i
 -- rows and v. A turn pushes the parity of row i (`joined-more`), and behind the last row p is the product (`multiplied` of `laws.Rows`).
--- Before a push p has at most 127 bits (`joined-room`), and a parity is 0 or 1 (`dot-lt`). The measure is the number of rows left.
+-- Before a push p has at most 127 bits (`joined-room`), and a parity is 0 or 1 (`parity-bit`). The measure is the number of rows left.
 -- Assumes nothing.
 use Prim.Native.Nat.{_-_}
 use Rattle.bits.specs.Vectors.{dot}
 use Rattle.bits.specs.Words.{value}
 use Rattle.bits.proofs.laws.Joined.{Joined, joined-none, joined-more, joined-room}
-use Rattle.bits.proofs.laws.Vectors.{dot-lt}
+use Rattle.bits.proofs.laws.Vectors.{dot-lt, parity-bit}
 use Rattle.bits.proofs.laws.Words.{wide-zero}
 use Rattle.matrices.specs.Rows.{rowAt}
 use Rattle.matrices.proofs.laws.Rows.{multiplied}
@@ -26,7 +26,7 @@ loop-holds c = joined-none wide-zero
 push-bit-requires : tie.Need-push-bit-requires Inv-loop μ-loop
 push-bit-requires c κs =
     let turn : tie.At-loop Inv-loop μ-loop = search in
-    (joined-room (turn .loop .inv) 127 (omega arith) (λ j. dot-lt _ _), rw (c .parity .ensures) (dot-lt _ _))
+    (joined-room (turn .loop .inv) 127 (omega arith) (λ j. dot-lt _ _), parity-bit _ _ _ (c .parity .ensures))
 
 loop-again : tie.Need-loop-again Inv-loop μ-loop
 loop-again c =

@@ -1,11 +1,11 @@
 -- `matrices::matrix::write` meets its contract. The loop's invariant, `Parts` of bits: the first i parts of w bytes hold the bytes of the first
 -- i rows. A turn lends part i, into which `vector::write` writes row i (`row-written` of `laws.Stored`, with `parts-more`); behind the last
--- part the bytes are those of the matrix (`matrix-written`). A part lies within the bytes (`part-inside`), at most 2048 of them, so no index
--- wraps, and is w bytes long (`part-long`). The measure is the number of rows left.
+-- part the bytes are those of the matrix (`matrix-written`). A part lies within the bytes, at most 2048 of them, so no index wraps, and is w
+-- bytes long (`part-lent`). The measure is the number of rows left.
 -- Assumes nothing.
 use Prim.Native.Nat.{_-_}
 use Rattle.bits.specs.Bytes.{bytesOf}
-use Rattle.bits.proofs.laws.Parts.{Parts, parts-none, part-inside, part-long, parts-more}
+use Rattle.bits.proofs.laws.Parts.{Parts, Part, parts-none, part-lent, parts-more}
 use Rattle.matrices.specs.Rows.{rowAt}
 use Rattle.matrices.proofs.laws.Stored.{row-written, matrix-written}
 use native.Mathlib.Omega.{arith}
@@ -21,35 +21,29 @@ abbrev μ-loop : tie.MeasureT-loop
 loop-holds : tie.Need-loop-holds Inv-loop μ-loop
 loop-holds c = parts-none (omega arith)
 
+-- the part that a turn lends
+part : (turn : tie.In-loop Inv-loop μ-loop) → Part (turn .before .loop .inv)
+part turn = part-lent (turn .before .loop .inv) (turn .loop-test .taken)
+
 mul-a : tie.Need-mul-a Inv-loop μ-loop
-mul-a c =
-    let turn : tie.In-loop Inv-loop μ-loop = search in
-    omega (arith, part-inside (turn .before .loop .inv) (turn .loop-test .taken))
+mul-a c = omega (arith, part (search))
 
 add-e : tie.Need-add-e Inv-loop μ-loop
-add-e c =
-    let turn : tie.In-loop Inv-loop μ-loop = search in
-    omega (arith, part-inside (turn .before .loop .inv) (turn .loop-test .taken))
+add-e c = omega (arith, part (search))
 
 part-write-end : tie.Need-part-write-end Inv-loop μ-loop
-part-write-end c =
-    let turn : tie.In-loop Inv-loop μ-loop = search in
-    omega (arith, part-inside (turn .before .loop .inv) (turn .loop-test .taken))
+part-write-end c = omega (arith, part (search))
 
 write-requires : tie.Need-write-requires Inv-loop μ-loop
-write-requires c κs =
-    let turn : tie.In-loop Inv-loop μ-loop = search in
-    omega (arith, part-long (turn .before .loop .inv) (turn .loop-test .taken))
+write-requires c κs = omega (arith, part (search))
 
 loop-again : tie.Need-loop-again Inv-loop μ-loop
 loop-again c =
     let written : tie.After-write Inv-loop μ-loop = search in
     let row : tie.After-row Inv-loop μ-loop = search in
     let turn : tie.In-loop Inv-loop μ-loop = search in
-    let inv = turn .before .loop .inv in
-    let here = turn .loop-test .taken in
-    parts-more inv here (written .write .kept .1 .0)
-    (row-written _ _ _ _ _ _ (row .row .ensures) (part-long inv here) (written .write .ensures))
+    parts-more (turn .before .loop .inv) (turn .loop-test .taken) (written .write .kept .1 .0)
+    (row-written _ _ _ _ _ _ (row .row .ensures) (part turn .long) (written .write .ensures))
 
 returns : tie.Need-returns Inv-loop μ-loop
 returns c = search matrix-written

@@ -1,26 +1,31 @@
--- `round::key::key_words` meets its contract. The invariant, `Laid` of `laws.Expansion`: the first i bytes are the key's. It holds at the start
--- (`laid-none`), a turn copies byte i (`laid-more`), and behind the last the key stands in front of the room for the other words (`laid-all`).
+-- `round::key::key_words` copies the key into the front of the 176 bytes. The invariant, `Filled` of bits: the first i bytes are the key's. A turn
+-- copies byte i; behind the last the key stands in front of the room for the other words (`laid` of `laws.Expansion`).
 -- Assumes nothing.
+use mathlib.Core.Path.{refl}
 use Prim.Native.Nat.{_-_}
-use Rattle.round.proofs.laws.Expansion.{Laid, laid-none, laid-more, laid-all}
+use Rattle.bits.specs.Lists.{at}
+use Rattle.bits.proofs.laws.Filled.{Filled, filled-none, filled-more}
+use Rattle.round.proofs.laws.Expansion.{laid}
 use native.Mathlib.Omega.{arith}
 use Rattle.round.proofs.key.key_words.Statement.{statement}
 use Rattle.round.proofs.key.key_words.Tie as tie
 
 abbrev Inv-loop : tie.InvT-loop
-Inv-loop key w₀ i₀ w i = Laid key w i
+Inv-loop key w₀ i₀ w i = Filled 176 (at key) w i
 
 abbrev μ-loop : tie.MeasureT-loop
 μ-loop key w₀ i₀ w i = 16 - i
 
 loop-holds : tie.Need-loop-holds Inv-loop μ-loop
-loop-holds c = search laid-none
+loop-holds c = search filled-none
 
 loop-again : tie.Need-loop-again Inv-loop μ-loop
-loop-again c = search laid-more
+loop-again c =
+    let turn : tie.In-loop Inv-loop μ-loop = search in
+    filled-more (turn .before .loop .inv) (omega arith) refl
 
 returns : tie.Need-returns Inv-loop μ-loop
-returns c = search laid-all
+returns c = search laid
 
 -- ---- the needs that the search closes
 array-read-w : tie.Need-array-read-w Inv-loop μ-loop

@@ -1,10 +1,11 @@
--- `round::state::row_by_column` meets its contract. The invariant, `Summed` of `laws.Sum`: the sum of the first q products of row r and column c. A
--- turn adds one product more, as the call ensures (`summed-more`); behind the last the sum is whole (`summed-all`). Every index is below 16.
+-- `round::state::row_by_column` meets its contract. The invariant, `Summed` of bits: the sum of the first q products of row r and column c. A turn
+-- adds one product more, as the call ensures (`summed-more`); behind the last the sum is whole (`summed-all`). Every index is below 16.
 -- Assumes nothing.
+use mathlib.Core.Path.{refl}
 use Prim.Native.Nat.{_-_}
+use Rattle.bits.proofs.laws.Summed.{Summed, summed-none, summed-more, summed-all}
 use Rattle.field.specs.Field.{mul}
 use Rattle.round.specs.State.{cell, entry}
-use Rattle.round.proofs.laws.Sum.{Summed, summed-none, summed-more, summed-all}
 use borrow.Author.Needs.{needs}
 use native.Mathlib.Omega.{arith}
 use Rattle.round.proofs.state.row_by_column.Statement.{statement}
@@ -17,7 +18,7 @@ abbrev μ-loop : tie.MeasureT-loop
 μ-loop r c m s sum₀ q₀ sum q = 4 - q
 
 loop-holds : tie.Need-loop-holds Inv-loop μ-loop
-loop-holds c = search summed-none
+loop-holds c = summed-none refl
 
 loop-again : tie.Need-loop-again Inv-loop μ-loop
 loop-again c = search summed-more

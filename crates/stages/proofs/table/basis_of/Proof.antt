@@ -4,6 +4,7 @@
 -- from 1 to 9, as the `requires` asks. In a half the round is r, so the numbers of its matrices neither wrap nor are out of range.
 -- Assumes nothing.
 use mathlib.Core.Path.{ap}
+use Rattle.bundle.specs.Format.{columnMatrices}
 use Rattle.layers.specs.Layers.{roundOf}
 use Rattle.layers.proofs.laws.Code.{frame-of, column-part-long, output-part-long}
 use Rattle.stages.proofs.laws.Words.{entry-inverse, second-inverse, based-entry, based-first, based-second, based-exit}
@@ -17,7 +18,7 @@ spread-basis-requires c κs =
     let stage : tie.After-enum-told = search in
     let start : tie.Start = search in
     let p = start .pre in
-    (frame-of _ (p .0), omega arith, p .4, omega arith, entry-inverse _ _ _ _ (p .1) (stage .enum-told .given .1), p .5)
+    (frame-of 10 _ (p .0), omega arith, p .4, omega arith, entry-inverse _ _ _ _ (p .1) (stage .enum-told .given .1), p .5)
 
 returns : tie.Need-returns
 returns c =
@@ -32,11 +33,12 @@ column-number-requires c κs =
     search needs
 
 mixed-basis-requires : tie.Need-mixed-basis-requires
+unfolding columnMatrices
 mixed-basis-requires c κs =
     let part : tie.After-column-matrix-part = search in
     let number : tie.After-column-number = search in
     let start : tie.Start = search in
-    let long = column-part-long _ _ (frame-of _ (start .pre .0)) _ (number .column-number .ensures .1) (part .column-matrix-part .ensures) in
+    let long = column-part-long 10 _ _ (frame-of 10 _ (start .pre .0)) _ (number .column-number .ensures .1) (part .column-matrix-part .ensures) in
     (omega arith, omega arith, start .pre .5)
 
 returns-2 : tie.Need-returns-2
@@ -65,7 +67,7 @@ spread-basis-requires-2 c κs =
     let start : tie.Start = search in
     let p = start .pre in
     let round = ap roundOf (stage .s2 .given .1) in
-    (frame-of _ (p .0), omega arith, omega arith, omega arith, second-inverse _ _ _ _ (p .1) _ (stage .s2 .given .1), p .5)
+    (frame-of 10 _ (p .0), omega arith, omega arith, omega arith, second-inverse _ _ _ _ (p .1) _ (stage .s2 .given .1), p .5)
 
 returns-3 : tie.Need-returns-3
 returns-3 c =
@@ -78,7 +80,7 @@ placed-basis-requires : tie.Need-placed-basis-requires
 placed-basis-requires c κs =
     let part : tie.After-output-matrix-part = search in
     let start : tie.Start = search in
-    let long = output-part-long _ _ (frame-of _ (start .pre .0)) (part .output-matrix-part .ensures) in
+    let long = output-part-long 10 _ _ (frame-of 10 _ (start .pre .0)) (part .output-matrix-part .ensures) in
     (omega arith, start .pre .4, start .pre .5)
 
 returns-4 : tie.Need-returns-4

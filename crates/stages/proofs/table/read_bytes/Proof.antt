@@ -2,20 +2,23 @@
 -- `laws.Encodings` the bytes decoded with them are the bytes read. Decoding asks for permutations: an accepted bundle's encodings are, by
 -- `encodings-permute`.
 -- Assumes nothing.
+use Rattle.bundle.specs.Format.{encodings}
+use Rattle.layout.specs.Stages.{shifted}
 use Rattle.stages.proofs.laws.Encodings.{whole-encodings, encodings-permute, read-made}
 use borrow.Author.Needs.{needs}
 use Rattle.stages.proofs.table.read_bytes.Statement.{statement}
 use Rattle.stages.proofs.table.read_bytes.Tie as tie
 
 decoded-bytes-requires : tie.Need-decoded-bytes-requires
+unfolding encodings
 decoded-bytes-requires c κs =
     let section : tie.After-section = search in
     let low : tie.After-standing-number2 = search in
     let high : tie.After-standing-number = search in
     let bytes : tie.After-shared-slice-known = search in
     let start : tie.Start = search in
-    let permutes = encodings-permute _ _ (section .section .ensures) (λ i. bytes .shared-slice-known .given i .fits) (start .pre .0) in (
-      whole-encodings _ _ (section .section .ensures),
+    let permutes = encodings-permute 10 _ _ (section .section .ensures) (λ i. bytes .shared-slice-known .given i .fits) (start .pre .0) in (
+      whole-encodings 10 _ _ (section .section .ensures),
       start .pre .4,
       permutes _ (high .standing-number .ensures .1),
       permutes _ (low .standing-number2 .ensures .1),
@@ -28,7 +31,7 @@ returns c =
     let low : tie.After-standing-number2 = search in
     let high : tie.After-standing-number = search in
     let source : tie.After-source-of = search in
-    read-made _ _ _ _ _ _ _ _ (section .section .ensures) (source .source-of .ensures .0)
+    read-made 10 shifted _ _ _ _ _ _ _ _ (section .section .ensures) (source .source-of .ensures .0)
     (high .standing-number .ensures .0) (low .standing-number2 .ensures .0) (decoded .decoded-bytes .ensures)
 
 -- ---- the needs that the search closes

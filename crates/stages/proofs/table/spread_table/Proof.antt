@@ -26,7 +26,7 @@ all-images-requires : tie.Need-all-images-requires
 all-images-requires c κs =
     let section : tie.After-section = search in
     let rows = rows-fit (search) (search) in
-    (whole-encodings _ _ (section .section .ensures), omega arith, omega arith, omega arith)
+    (whole-encodings 10 _ _ (section .section .ensures), omega arith, omega arith, omega arith)
 
 write-requires : tie.Need-write-requires
 write-requires c κs =
@@ -37,7 +37,7 @@ write-requires c κs =
     let width : tie.After-width-of = search in
     let bytes : tie.After-shared-slice-known = search in
     let start : tie.Start = search in
-    let nibbles = images-lt _ _ _ _ _ (λ i. bytes .shared-slice-known .given i .fits) (section .section .ensures) (images .all-images .ensures) in (
+    let nibbles = images-lt 10 _ _ _ _ _ (λ i. bytes .shared-slice-known .given i .fits) (section .section .ensures) (images .all-images .ensures) in (
       values .values-of .kept .1 .1 .1 .1 .0,
       omega (arith, basis .basis-of),
       width .width-of .ensures .1,

@@ -3,12 +3,19 @@
 -- `acted-second`). Behind the last stage there is none: its round is not one from 1 to 9, as the `requires` asks.
 -- Assumes nothing.
 use mathlib.Core.Path.{ap}
-use Rattle.layers.specs.Layers.{roundOf}
+use Prim.Native.Nat.{ℕ}
+use Rattle.layout.specs.Stages.{shifted}
+use Rattle.layout.specs.declared.stage.Stage.{Stage}
+use Rattle.layers.specs.Layers.{roundOf, readByte}
 use Rattle.stages.proofs.laws.Acted.{acted-first, acted-exit, acted-entry, acted-second}
 use native.Mathlib.Omega.{arith}
 use borrow.Author.Needs.{needs}
 use Rattle.stages.proofs.table.values_of.Statement.{statement}
 use Rattle.stages.proofs.table.values_of.Tie as tie
+
+-- what the bytes that position p reads decode to, by the stage
+abbrev read-at : tie.Start → Stage → ℕ → ℕ
+read-at start t = readByte 10 shifted (start .args .bundle .now) t (start .args .p)
 
 read-bytes-requires : tie.Need-read-bytes-requires
 read-bytes-requires c κs =
@@ -26,23 +33,23 @@ returns : tie.Need-returns
 returns c =
     let stage : tie.After-s = search in
     let read : tie.After-read-bytes = search in
-    acted-first _ _ _ _ _ _ _ (stage .s .given .1) (read .read-bytes .ensures) (search)
+    acted-first _ _ 10 (read-at (search)) _ _ _ _ _ (stage .s .given .1) (read .read-bytes .ensures) (search)
 
 returns-2 : tie.Need-returns-2
 returns-2 c =
     let stage : tie.After-enum-told = search in
     let read : tie.After-read-bytes2 = search in
-    acted-exit _ _ _ _ _ _ (stage .enum-told .given .1) (read .read-bytes2 .ensures) (search)
+    acted-exit _ _ 10 (read-at (search)) _ _ _ _ (stage .enum-told .given .1) (read .read-bytes2 .ensures) (search)
 
 returns-3 : tie.Need-returns-3
 returns-3 c =
     let stage : tie.After-enum-told2 = search in
-    acted-entry _ _ _ _ _ (stage .enum-told2 .given .1) (search)
+    acted-entry _ _ 10 (read-at (search)) _ _ _ (stage .enum-told2 .given .1) (search)
 
 returns-4 : tie.Need-returns-4
 returns-4 c =
     let stage : tie.After-enum-told3 = search in
-    acted-second _ _ _ _ _ _ (stage .enum-told3 .given .1) (search)
+    acted-second _ _ 10 (read-at (search)) _ _ _ _ (stage .enum-told3 .given .1) (search)
 
 returns-5 : tie.Need-returns-5
 returns-5 c =

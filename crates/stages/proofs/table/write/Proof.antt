@@ -1,10 +1,11 @@
--- `stages::table::write` makes the spread table below 16 (`table-spread` of `laws.Tables`), and from 16 on the XOR table of the stage's width and
+-- `stages::table::write` makes the spread table below 16 (`table-spread` of crate network), and from 16 on the XOR table of the stage's width and
 -- first number (`table-xor`). The memory has the size that a table of that kind has: `spread-size` for the first call. `xor-asked` has all that
 -- the second asks: this, a width that XORs are made for, and numbers in range.
 -- Assumes nothing.
 use mathlib.Core.Path.{_∙_}
-use Rattle.network.specs.Stages.{numbersOf}
-use Rattle.stages.proofs.laws.Tables.{spread-size, xor-asked, table-spread, table-xor}
+use Rattle.layout.specs.Stages.{numbersOf}
+use Rattle.network.proofs.laws.Sizes.{spread-size, table-spread, table-xor}
+use Rattle.stages.proofs.laws.Tables.{xor-asked}
 use borrow.Author.Needs.{needs}
 use Rattle.stages.proofs.table.write.Statement.{statement}
 use Rattle.stages.proofs.table.write.Tie as tie

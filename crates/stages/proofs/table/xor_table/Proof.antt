@@ -2,6 +2,7 @@
 -- makes the table of them; `xor-made` of `laws.Xors` says that these are the numbers of XOR x, and that it is the XOR table. Nothing wraps, as
 -- every number is below the bundle's 6,048 encodings: `xor-within`.
 -- Assumes nothing.
+use Rattle.bundle.specs.Format.{encodings}
 use Rattle.stages.proofs.laws.Encodings.{whole-encodings}
 use Rattle.stages.proofs.laws.Xors.{Within, xor-within, xor-made}
 use native.Mathlib.Omega.{arith}
@@ -12,16 +13,17 @@ use Rattle.stages.proofs.table.xor_table.Tie as tie
 write-requires : tie.Need-write-requires
 write-requires c κs =
     let section : tie.After-section = search in
-    (whole-encodings _ _ (section .section .ensures), search)
+    (whole-encodings 10 _ _ (section .section .ensures), search)
 
 returns : tie.Need-returns
+unfolding encodings
 returns c =
     let written : tie.After-write = search in
     let section : tie.After-section = search in
     let sum : tie.After-sum-so-far = search in
     let start : tie.Start = search in
     let p = start .pre in
-    xor-made _ (p .0) _ _ _ _ _ _ (p .1) (p .2) (section .section .ensures) (sum .sum-so-far .ensures) (written .write .ensures)
+    xor-made _ (p .0) _ _ 10 _ _ _ _ (p .1) (p .2) (section .section .ensures) (sum .sum-so-far .ensures) (written .write .ensures)
 
 -- ---- no sum and no product wraps
 fits : (s : tie.Start) → Within (s .args .m) (s .args .first) (s .args .x)

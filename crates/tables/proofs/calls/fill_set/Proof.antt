@@ -10,12 +10,12 @@ returns : tie.Need-returns
 returns c =
     let written : tie.After-write-all = search in
     let expanded : tie.After-expand-key = search in
-    let copied : tie.After-key-of = search in
-    set-made _ _ _ _ _ (copied .key-of .ensures) (expanded .expand-key .ensures) (written .write-all .ensures)
+    let loaded : tie.After-load = search in
+    set-made _ _ _ _ _ (loaded .load .ensures) (expanded .expand-key .ensures) (written .write-all .ensures)
 
 -- ---- the needs that the search closes
-key-of-requires : tie.Need-key-of-requires
-key-of-requires c κs = search needs
+load-requires : tie.Need-load-requires
+load-requires c κs = search needs
 
 expand-key-requires : tie.Need-expand-key-requires
 expand-key-requires c κs = search needs
@@ -51,7 +51,7 @@ pub fill-set-spec : {M : Type 1} → statement M
 fill-set-spec =
     tie.close
     (tie.spec
-    key-of-requires
+    load-requires
     expand-key-requires
     slice-aggregate-of-columns
     of-columns-requires

@@ -1,9 +1,9 @@
 -- `tables::calls::fill_table` copies the key and expands it, works out the inverse that table n needs by its place, and has `write_one` write
--- the table; by `one-made` of `laws.Calls` that is table n of the set of the key and the bundle. The place has a stage by `placed` of `laws.Set`;
--- `inverse-by-number` says the inverse by n, as `write_one` asks.
+-- the table; by `one-made` of `laws.Calls` that is table n of the set of the key and the bundle. The place has a stage of a round by `round-at` of
+-- `laws.Set`; `inverse-by-number` says the inverse by n, as `write_one` asks.
 -- Assumes nothing.
 use Rattle.tables.proofs.laws.Calls.{one-made}
-use Rattle.tables.proofs.laws.Set.{placed, inverse-by-number}
+use Rattle.tables.proofs.laws.Set.{round-at, inverse-by-number}
 use native.Mathlib.Omega.{arith}
 use borrow.Author.Needs.{needs}
 use Rattle.tables.proofs.calls.fill_table.Statement.{statement}
@@ -13,7 +13,7 @@ of-table-requires : tie.Need-of-table-requires
 of-table-requires c κs =
     let place : tie.After-place-of = search in
     let start : tie.Start = search in
-    let at = placed _ _ (place .place-of .ensures) (start .pre .2) in
+    let at = round-at _ _ (place .place-of .ensures) (start .pre .2) in
     (start .pre .1, at .low, at .high, omega arith)
 
 write-one-requires : tie.Need-write-one-requires
@@ -22,18 +22,18 @@ write-one-requires c κs =
     let place : tie.After-place-of = search in
     let start : tie.Start = search in
     let p = start .pre in
-    (p .1, inverse-by-number _ _ (place .place-of .ensures) _ _ (inverse .of-table .ensures), omega arith, p .2, p .3)
+    (p .1, inverse-by-number 10 _ _ (place .place-of .ensures) _ _ (inverse .of-table .ensures), omega arith, p .2, p .3)
 
 returns : tie.Need-returns
 returns c =
     let written : tie.After-write-one = search in
     let expanded : tie.After-expand-key = search in
-    let copied : tie.After-key-of = search in
-    one-made _ _ _ _ _ (copied .key-of .ensures) (expanded .expand-key .ensures) _ (written .write-one .ensures)
+    let loaded : tie.After-load = search in
+    one-made _ _ _ _ _ (loaded .load .ensures) (expanded .expand-key .ensures) _ (written .write-one .ensures)
 
 -- ---- the needs that the search closes
-key-of-requires : tie.Need-key-of-requires
-key-of-requires c κs = search needs
+load-requires : tie.Need-load-requires
+load-requires c κs = search needs
 
 expand-key-requires : tie.Need-expand-key-requires
 expand-key-requires c κs = search needs
@@ -57,7 +57,7 @@ pub fill-table-spec : {M : Type 1} → statement M
 fill-table-spec =
     tie.close
     (tie.spec
-    key-of-requires
+    load-requires
     expand-key-requires
     place-of-requires
     slice-aggregate-of-table

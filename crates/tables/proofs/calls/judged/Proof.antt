@@ -1,5 +1,5 @@
--- `tables::calls::judged` turns down a key of another length (`judged-key` of `laws.Calls`); else its answer is that of the bundle's judgement,
--- accepted or refused (`judged-by`).
+-- `tables::calls::judged` turns down a key of another length (`judged-key` of `laws.Calls`); else its answer is that of the bundle's judgement
+-- (`judged-by`).
 -- Assumes nothing.
 use Rattle.tables.proofs.laws.Calls.{judged-key, judged-by}
 use borrow.Author.Needs.{needs}
@@ -10,25 +10,11 @@ returns : tie.Need-returns
 returns c = judged-key _ _ (search)
 
 returns-2 : tie.Need-returns-2
-returns-2 c =
-    let told : tie.After-enum-told = search in
-    judged-by _ _ (search) _ _ (search) (told .enum-told .given .1)
-
-returns-3 : tie.Need-returns-3
-returns-3 c =
-    let told : tie.After-r = search in
-    judged-by _ _ (search) _ _ (search) (told .r .given .1)
+returns-2 c = judged-by _ _ (search) (search)
 
 -- ---- the needs that the search closes
 judge-bundle-requires : tie.Need-judge-bundle-requires
 judge-bundle-requires c κs = search needs
 
-enum-told : tie.Need-enum-told
-enum-told c = search needs
-
-enum-known-r : tie.Need-enum-known-r
-enum-known-r c = search needs
-
 pub judged-spec : {M : Type 1} → statement M
-judged-spec =
-    tie.close (tie.spec returns judge-bundle-requires enum-told enum-known-r returns-2 returns-3)
+judged-spec = tie.close (tie.spec returns judge-bundle-requires returns-2)

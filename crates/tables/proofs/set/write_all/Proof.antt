@@ -1,11 +1,14 @@
 -- `tables::set::write_all` writes table after table. The loop's invariant, `Begun` of `laws.Set`: the memory begins with the first n tables.
 -- Before the loop that is none (`begun-none`); a turn lends the part at the place of table n, which comes back with the table (`begun-next`);
--- behind the last turn the memory is the set (`begun-all`). The part lies within the memory by `placed`, so no sum wraps. The measure is the
--- number of tables left.
+-- behind the last turn the memory is all tables (`begun-all`). The part lies within the memory by `placed` of crate layout, so no sum wraps. The
+-- measure is the number of tables left.
 -- Assumes nothing.
 use Prim.Native.Nat.{_-_}
 use lib.ListN.{length-take, length-drop}
-use Rattle.tables.proofs.laws.Set.{Placed, placed, inverse-by-number, Begun, begun-none, begun-next, begun-all}
+use Rattle.layout.specs.Stages.{tenLookups, tenTablesBytes}
+use Rattle.layout.proofs.laws.Cases.{starred}
+use Rattle.layout.proofs.laws.Ten.{Placed, placed}
+use Rattle.tables.proofs.laws.Set.{round-at, inverse-by-number, Begun, begun-none, begun-next, begun-all}
 use Rattle.whitebox.specs.Bundles.{codingsOf}
 use Rattle.whitebox.specs.Parts.{forward}
 use Rattle.whitebox.specs.Tables.{tableOf}
@@ -14,19 +17,19 @@ use Rattle.tables.proofs.set.write_all.Statement.{statement}
 use Rattle.tables.proofs.set.write_all.Tie as tie
 
 abbrev Inv-loop : tie.InvT-loop
-Inv-loop bundle keys columns input memory₀ n₀ memory n = Begun (tableOf (forward 10 keys) (codingsOf 10 bundle) 10) memory n
+Inv-loop bundle keys columns input memory₀ n₀ memory n = Begun 10 tenLookups tenTablesBytes (tableOf (forward 10 keys) (codingsOf 10 bundle) 10) memory n
 
 abbrev μ-loop : tie.MeasureT-loop
-μ-loop bundle keys columns input memory₀ n₀ memory n = 3008 - n
+μ-loop bundle keys columns input memory₀ n₀ memory n = tenLookups - n
 
 loop-holds : tie.Need-loop-holds Inv-loop μ-loop
 loop-holds c =
     let start : tie.Start Inv-loop μ-loop = search in
-    begun-none _ _ (start .pre .2)
+    begun-none _ _ _ _ _ (start .pre .2)
 
 -- the place of table n in a turn
 here : (c : tie.After-place-of Inv-loop μ-loop) → Placed (c .before .before .loop .n) (c .place-of .result)
-here c = placed _ _ (c .place-of .ensures) (omega arith)
+here c = placed (omega arith) (c .place-of .ensures)
 
 add-e : tie.Need-add-e Inv-loop μ-loop
 add-e c = omega (arith, here c)
@@ -34,7 +37,8 @@ add-e c = omega (arith, here c)
 chosen-requires : tie.Need-chosen-requires Inv-loop μ-loop
 chosen-requires c κs =
     let start : tie.Start Inv-loop μ-loop = search in
-    (start .pre .0 .inverses .long, here c .low, here c .high)
+    let round = round-at _ _ (c .place-of .ensures) (omega arith) in
+    (start .pre .0 .inverses .long, round .low, round .high)
 
 write-one-requires : tie.Need-write-one-requires Inv-loop μ-loop
 write-one-requires c κs =
@@ -43,7 +47,7 @@ write-one-requires c κs =
     let start : tie.Start Inv-loop μ-loop = search in
     let ready = start .pre .0 in
     let at = here place in
-    let chosen = inverse-by-number _ _ (place .place-of .ensures) _ _ (inverse .chosen .ensures _ ready) in
+    let chosen = inverse-by-number 10 _ _ (place .place-of .ensures) _ _ (inverse .chosen .ensures _ ready) in
     (ready .judged, chosen, start .pre .1, omega arith, simp (length-take, length-drop) (omega arith))
 
 loop-again : tie.Need-loop-again Inv-loop μ-loop
@@ -52,7 +56,7 @@ loop-again c =
     let written : tie.After-write-one Inv-loop μ-loop = search in
     let place : tie.After-place-of Inv-loop μ-loop = search in
     let turn : tie.In-loop Inv-loop μ-loop = search in
-    begun-next (turn .before .loop .inv) (turn .loop-test .taken) _ (place .place-of .ensures) _ (written .write-one .ensures)
+    begun-next (starred .all-lookups) (starred .table-bytes) (turn .before .loop .inv) (turn .loop-test .taken) _ (place .place-of .ensures) _ (written .write-one .ensures)
     (written .write-one .kept .1 .1 .1 .1 .0) (memory .memory .given .1)
 
 returns : tie.Need-returns Inv-loop μ-loop

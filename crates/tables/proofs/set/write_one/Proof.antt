@@ -1,8 +1,10 @@
 -- `tables::set::write_one` has the stage or half of table n, and its number there, from `place_of`. What `write` asks of them is `placed` of
--- `laws.Set`, and `inverse-by-place` says the inverse by them; the table that it makes there is table n by `table-made`.
+-- crate layout and `round-at` of `laws.Set`, and `inverse-by-place` says the inverse by them; the table that it makes there is table n by
+-- `table-made`.
 -- Assumes nothing.
-use mathlib.Core.Path.{_∙_}
-use Rattle.tables.proofs.laws.Set.{placed, inverse-by-place, table-made}
+use mathlib.Core.Path.{sym, _∙_}
+use Rattle.layout.proofs.laws.Ten.{in-set, placed}
+use Rattle.tables.proofs.laws.Set.{round-at, inverse-by-place, table-made}
 use borrow.Author.Needs.{needs}
 use Rattle.tables.proofs.set.write_one.Statement.{statement}
 use Rattle.tables.proofs.set.write_one.Tie as tie
@@ -13,15 +15,16 @@ write-requires c κs =
     let start : tie.Start = search in
     let p = start .pre in
     let e = place .place-of .ensures in
-    let at = placed _ _ e (p .3) in
-    (p .0, inverse-by-place _ _ e _ _ (p .1), p .2, at .low, at .high, at .index, p .4 ∙ at .kind)
+    let at = placed (p .3) e in
+    let round = round-at _ _ e (p .3) in
+    (p .0, inverse-by-place 10 _ _ e _ _ (p .1), p .2, round .low, round .high, at .index, p .4 ∙ sym (at .size) ∙ at .kind)
 
 returns : tie.Need-returns
 returns c =
     let written : tie.After-write = search in
     let place : tie.After-place-of = search in
     let start : tie.Start = search in
-    table-made _ _ (place .place-of .ensures) _ _ _ (start .pre .3) (written .write .ensures)
+    table-made 10 _ _ (place .place-of .ensures) _ _ _ (in-set _ (start .pre .3)) (written .write .ensures)
 
 -- ---- the needs that the search closes
 place-of-requires : tie.Need-place-of-requires

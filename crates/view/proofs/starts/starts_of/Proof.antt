@@ -4,7 +4,7 @@
 use mathlib.Core.Path.{_≡_}
 use Prim.Native.Nat.{_≤_}
 use lib.ListN.{length}
-use Rattle.bundle.specs.declared.answer.Judgement.the-variants.{Accepted}
+use Rattle.answers.specs.declared.Answer.the-variants.{Accepted}
 use Rattle.bundle.proofs.laws.Code.{pairs-there}
 use Rattle.view.proofs.laws.Code.{starts-are, starts-none}
 use native.Mathlib.Omega.{arith}

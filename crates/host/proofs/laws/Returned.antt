@@ -1,0 +1,112 @@
+-- Laws, not definitions: the numbers that the calls for C return, and that both of document 01's numbers can be read off them.
+-- Assumes nothing.
+use mathlib.Core.Bool.{Bool, false, not}
+use mathlib.Core.List.{List}
+use mathlib.Core.Path.{_≡_, refl, ap, _∙_}
+use Prim.Native.Nat.{ℕ, _≤_}
+use native.Mathlib.Omega.{arith}
+use lib.Dec.{ltb}
+use lib.ListN.{length}
+use Rattle.answers.specs.Answers.{wantsLength, andThen, ifAccepted}
+use Rattle.answers.specs.Numbers.{secondOf, numberOf}
+use Rattle.answers.specs.declared.Answer.{Answer}
+use Rattle.answers.specs.declared.Refusal.{Refusal}
+use Rattle.answers.specs.declared.Refusal.the-variants.{KeyLength, BundleLength, Pair, Encoding, ByteMatrix, ColumnMatrix, InputMatrix, OutputMatrix}
+use Rattle.answers.specs.declared.Refusal.the-variants.{TableNumber, SetLength, BlockLength}
+use Rattle.answers.proofs.laws.Numbers.{readable, Small, small-andThen, small-test, small-length}
+use Rattle.aes.specs.Answers.{answerOf}
+use Rattle.bundle.specs.Format.{encodings, byteMatrices, columnMatrices, inputMatrixPart, outputMatrixPart, lengthBad, pairBad, frame}
+use Rattle.bundle.specs.Search.{first, refusedAt}
+use Rattle.bundle.proofs.laws.Search.{at-bad}
+use Rattle.bundle.proofs.laws.Tests.{by-refusedAt}
+use Rattle.judgement.specs.Judge.{noInverse, encodingBad, byteMatrixBad, columnMatrixBad}
+use Rattle.judgement.specs.Judge.{judgeEncodings, judgeByteMatrices, judgeColumnMatrices, judgeBlockMatrices, judge}
+use Rattle.external.specs.Calls.{answer}
+use Rattle.layout.specs.Stages.{lookups, setBytes, tableSize}
+use Rattle.tables.specs.Calls.{judged, setAnswer, tableAnswer}
+use Rattle.host.specs.Returned.{Returned}
+use Rattle.host.specs.Walks.{walkAnswer}
+
+-- ---- What a call returns and leaves, where it answers a and the definition b.
+pub made-returned : {a b : Answer} {r : ℕ} (new old out : List ℕ) → a ≡ b → r ≡ numberOf a → out ≡ ifAccepted a new old
+    → (r ≡ numberOf b) × (out ≡ ifAccepted b new old)
+made-returned new old out e p q = (p ∙ ap numberOf e, q ∙ ap (λ (x : Answer). ifAccepted x new old) e)
+
+-- ---- The number returned with a cause has 32 bits.
+-- What a search among no more than 65,536 numbers finds.
+found-small : (count : ℕ) (p : ℕ → Bool) (r : ℕ → Refusal) → count ≤ 65536 → ((n : ℕ) → secondOf (r n) ≡ n) → Small (refusedAt (first count p) r)
+found-small count p r le s =
+    by-refusedAt Small (first count p) r
+    (λ n e. let lt = at-bad count p (λ i. p i ≡ false) (λ i f. f) (λ i f. f) n e .below in record { below = omega (arith, s n) })
+    (λ _. record { below = omega arith })
+
+module _ (l : List ℕ) where
+  frame-small : Small (frame 10 l)
+  unfolding frame
+  frame-small =
+      small-andThen _ _ (small-test (lengthBad 10 l) BundleLength (omega arith)) (found-small 5 (pairBad 10 l) Pair (omega arith) (λ n. refl))
+
+  encodings-small : Small (judgeEncodings 10 l)
+  unfolding judgeEncodings encodings
+  encodings-small = found-small (encodings 10) (encodingBad 10 l) Encoding (omega arith) (λ n. refl)
+
+  byte-matrices-small : Small (judgeByteMatrices 10 l)
+  unfolding judgeByteMatrices byteMatrices
+  byte-matrices-small = found-small (byteMatrices 10) (byteMatrixBad 10 l) ByteMatrix (omega arith) (λ n. refl)
+
+  column-matrices-small : Small (judgeColumnMatrices 10 l)
+  unfolding judgeColumnMatrices columnMatrices
+  column-matrices-small = found-small (columnMatrices 10) (columnMatrixBad 10 l) ColumnMatrix (omega arith) (λ n. refl)
+
+  block-matrices-small : Small (judgeBlockMatrices 10 l)
+  unfolding judgeBlockMatrices
+  block-matrices-small =
+      small-andThen _ _
+      (small-test (noInverse 16 (inputMatrixPart 10 l)) InputMatrix (omega arith))
+      (small-test (noInverse 16 (outputMatrixPart 10 l)) OutputMatrix (omega arith))
+
+  judge-small : Small (judge 10 l)
+  unfolding judge
+  judge-small =
+      let matrices = small-andThen _ _ byte-matrices-small (small-andThen _ _ column-matrices-small block-matrices-small) in
+      small-andThen _ _ frame-small (small-andThen _ _ encodings-small matrices)
+
+-- Two blocks of 16 bytes, in and out.
+blocks-small : (from to : ℕ) → Small (andThen (wantsLength 16 from BlockLength) (wantsLength 16 to BlockLength))
+blocks-small from to = small-andThen _ _ (small-length 16 from BlockLength (omega arith)) (small-length 16 to BlockLength (omega arith))
+
+answer-small : (l : List ℕ) (from to : ℕ) → Small (answer 10 l from to)
+unfolding answer
+answer-small l from to = small-andThen _ _ (judge-small l) (blocks-small from to)
+
+cipher-small : (key from into : List ℕ) → Small (answerOf key from into)
+unfolding answerOf
+cipher-small key from into = small-andThen _ _ (small-length 16 (length key) KeyLength (omega arith)) (blocks-small (length from) (length into))
+
+judged-small : (key : ℕ) (l : List ℕ) → Small (judged key l)
+unfolding judged
+judged-small key l = small-andThen _ _ (small-length 16 key KeyLength (omega arith)) (judge-small l)
+
+set-small : (key : ℕ) (l : List ℕ) (memory : ℕ) → Small (setAnswer key l memory)
+unfolding setAnswer
+set-small key l memory = small-andThen _ _ (judged-small key l) (small-length (setBytes 10) memory SetLength (omega arith))
+
+table-small : (key : ℕ) (l : List ℕ) (number memory : ℕ) → Small (tableAnswer key l number memory)
+unfolding tableAnswer
+table-small key l number memory =
+    let table = small-length (tableSize 10 number) memory SetLength (omega arith) in
+    small-andThen _ _ (judged-small key l) (small-andThen _ _ (small-test (not (ltb number (lookups 10))) TableNumber (omega arith)) table)
+
+walk-small : (set block answer : ℕ) → Small (walkAnswer set block answer)
+unfolding walkAnswer
+walk-small set block answer = small-andThen _ _ (small-length (setBytes 10) set SetLength (omega arith)) (blocks-small block answer)
+
+pub returned : Returned
+returned = record {
+  judgements = λ l. readable _ (judge-small l .below);
+  codings = λ l from to. readable _ (answer-small l from to .below);
+  ciphers = λ key from into. readable _ (cipher-small key from into .below);
+  sets = λ key l memory. readable _ (set-small key l memory .below);
+  singles = λ key l number memory. readable _ (table-small key l number memory .below);
+  walks = λ set block answer. readable _ (walk-small set block answer .below);
+}

@@ -1,0 +1,7 @@
+pub mod Stages
+pub mod Ranges
+pub mod Instance
+pub mod Place
+pub mod Cases
+pub mod Lookup
+pub mod Ten

@@ -1,0 +1,113 @@
+// Where a lookup stands: document 01's table of stages.
+ghost use mathlib.Core.Path.{_≡_};
+ghost use Prim.Native.Nat.{_<_, _≤_};
+ghost use Rattle.layout.specs.Stages.{tenTablesBytes, placeOf, placeFrom, placeInRound, widthOf, shifted, sourceOf};
+
+// The entry, the first and the second half of a round, the exit; or beyond the last lookup.
+pub enum Stage {
+    Entry,
+    First(usize),
+    Second(usize),
+    Exit,
+    Beyond,
+}
+
+// The lookups of a set of ten rounds, the bytes of its tables, and its bytes.
+pub const LOOKUPS: usize = 3008;
+
+pub const TABLES_BYTES: usize = 770048;
+
+pub const SET_BYTES: usize = TABLES_BYTES;
+
+// A lookup's stage or half, its number there, and the size and the offset of its table.
+pub struct Place {
+    pub stage: Stage,
+    pub index: usize,
+    pub size: usize,
+    pub offset: usize,
+}
+
+// Lookup j of a stage or half whose tables begin at `start` and whose words have `width` bytes.
+fn placed(stage: Stage, width: usize, start: usize, j: usize) -> Place
+    requires { ⌜ (width ≤ 16) × (start ≤ tenTablesBytes) × (j < 496) ⌝ }
+    ensures { λ r. ⌜ r ≡ placeFrom stage width start j ⌝ }
+{
+    match j {
+        0..=15 => Place {
+            stage: stage,
+            index: j,
+            size: 256 * width,
+            offset: start + j * (256 * width),
+        },
+        _ => Place {
+            stage: stage,
+            index: j,
+            size: 128,
+            offset: start + 16 * (256 * width) + (j - 16) * 128,
+        },
+    }
+}
+
+// Lookup j of a round.
+fn in_round(round: usize, j: usize) -> Place
+    requires { ⌜ (1 ≤ round) × (round ≤ 9) × (j < 224) ⌝ }
+    ensures { λ r. ⌜ r ≡ placeInRound round j ⌝ }
+{
+    let before = 57344 * (round - 1);
+    match j {
+        0..=111 => placed(Stage::First(round), 4, 126976 + before, j),
+        _ => placed(Stage::Second(round), 4, 155648 + before, j - 112),
+    }
+}
+
+// The place of lookup n of a set of ten rounds, for any n.
+pub fn place_of(n: usize) -> Place
+    ensures { λ r. ⌜ r ≡ placeOf 10 n ⌝ }
+{
+    match n {
+        0..=495 => placed(Stage::Entry, 16, 0, n),
+        496..=2511 => in_round((n - 496) / 224 + 1, (n - 496) % 224),
+        2512..=3007 => placed(Stage::Exit, 16, 643072, n - 2512),
+        _ => Place {
+            stage: Stage::Beyond,
+            index: n - LOOKUPS,
+            size: 0,
+            offset: TABLES_BYTES,
+        },
+    }
+}
+
+// The bytes of a word.
+pub fn width_of(stage: Stage) -> usize
+    ensures { λ r. ⌜ (r ≡ widthOf stage) × (r ≤ 16) ⌝ }
+{
+    match stage {
+        Stage::Entry => 16,
+        Stage::First(_) => 4,
+        Stage::Second(_) => 4,
+        Stage::Exit => 16,
+        Stage::Beyond => 0,
+    }
+}
+
+// The row shift of FIPS 197: "position p = 4c+q: read byte j = 4((c+q) mod 4)+q".
+pub fn shifted(p: usize) -> usize
+    requires { ⌜ p < 16 ⌝ }
+    ensures { λ r. ⌜ (r ≡ shifted p) × (r < 16) ⌝ }
+{
+    4 * ((p / 4 + p % 4) % 4) + p % 4
+}
+
+// The standing byte that spread lookup p reads.
+pub fn source_of(stage: Stage, p: usize) -> usize
+    requires { ⌜ p < 16 ⌝ }
+    ensures { λ r. ⌜ (r ≡ sourceOf shifted stage p) × (r < 16) ⌝ }
+{
+    match stage {
+        Stage::Entry => p,
+        Stage::First(_) => shifted(p),
+        Stage::Second(_) => p,
+        Stage::Exit => shifted(p),
+        Stage::Beyond => p,
+    }
+}
