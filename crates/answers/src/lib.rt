@@ -1,5 +1,5 @@
-// What every call answers: accepted, or refused for a cause of document 01's table "Turned down". The numbers of each cause stand here and
-// nowhere else.
+// What every call answers: accepted, or refused for a cause of document 01's table "Turned down". In code the numbers of each cause stand
+// here alone.
 ghost use mathlib.Core.Path.{_≡_};
 ghost use Rattle.answers.specs.Numbers.{causeOf, secondOf, causeIn, secondIn, joined, numberOf};
 
