@@ -13,6 +13,10 @@
 extern "C" {
 #endif
 
+/* The version of these calls: 10,000 times the major number, 100 times the minor one, and the patch. Where the major number is another, a
+ * call takes or answers something else. */
+#define TAZHIKKO_VERSION 10000
+
 /* Lengths in bytes. */
 #define TAZHIKKO_KEY_BYTES 16
 #define TAZHIKKO_BLOCK_BYTES 16

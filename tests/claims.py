@@ -1,8 +1,9 @@
 #!/usr/bin/env python3
 """Every name that docs/CLAIMS.md gives is there: definitions, theorems and laws, functions, must-fail edits, test programs and paths.
-So is every name with a path that the other pages give.
+So is every name with a path that the other pages give. And what it calls a theorem is what a law gives, or a part of that.
 
-usage: tests/claims.py     ends with 1 and a line for each name that is not there, and for each must-fail edit that no claim names
+usage: tests/claims.py     ends with 1 and a line for each name that is not there, for each statement without a law, and for each must-fail
+                           edit that no claim names
 """
 import pathlib
 import re
@@ -85,6 +86,59 @@ def edits_named(cells):
                 yield f"{crate}/{reference.split('/')[-1]}"
 
 
+LAW = re.compile(r"^ *(?:abbrev |unfoldable )?(?:pub )?[^\s:-][^\s:]* : ([^\n]*(?:\n {4,}[^\n]*)*)", re.M)
+IMPORT = re.compile(r"^use Rattle·(\w+)(?:·specs)?\.specs\.(\w+)\.\{([^}]*)\}", re.M)
+
+
+def imported(body):
+    """The names that a file brings in from definitions, each with its crate and file."""
+    return {name: (crate, file, name) for crate, file, names in IMPORT.findall(body) for name in names.split(", ")}
+
+
+def results(kind):
+    """The words behind the last arrow of a type, and of each field of a record."""
+    return [word for part in re.split(r"\bpub\b", kind) for word in re.findall(r"[A-Z]\w*", part.split("→")[-1])]
+
+
+def bodies():
+    """Each declaration of specs/ that has a capital: its text, and what the names in it mean."""
+    found = {}
+    for path in CRATES.glob("*/specs/*.antt"):
+        body = re.sub(r"^ *--.*$", "--", text(path), flags=re.M)
+        crate, file = path.parts[-3], path.stem
+        here = {name: (crate, file, name) for name in re.findall(r"^ *(?:abbrev |unfoldable )?pub (?:record )?([A-Z]\w*)", body, re.M)}
+        for name in here:
+            texts = re.findall(rf"^( *)(?:abbrev )?pub (?:record )?{name}\b([^\n]*(?:\n(?:\1 +[^\n]*|\1{name}\b[^\n]*|--)?$)*)", body, re.M)
+            found[here[name]] = (" ".join(t for _, t in texts), {**imported(body), **here})
+    return found
+
+
+def stated():
+    """What laws give, as (crate, file, name): what their results name, and then what these consist of."""
+    declared, names = bodies(), set()
+    for path in CRATES.glob("*/proofs/laws/*.antt"):
+        means = imported(text(path))
+        names |= {means[word] for kind in LAW.findall(text(path)) for word in results(kind) if word in means}
+    todo = list(names)
+    while todo:
+        body, means = declared.get(todo.pop(), ("", {}))
+        fresh = {means[word] for word in results(body) if word in means} - names
+        names |= fresh
+        todo += fresh
+    return names
+
+
+def unproved(cells, names):
+    """The statements of the column of theorems that no law gives."""
+    file = None
+    for reference in re.findall(r"`([^`]+)`", cells[3]):
+        if found := place(reference):
+            file, reference = found[0], reference.split(".", 1)[1] if "." in reference else ""
+        if file and file[0] == "antt" and "laws" not in file[1].parts and reference[:1].isupper():
+            if (file[1].parts[-3], file[1].stem, reference.split(".")[0]) not in names:
+                yield reference
+
+
 def pages_missing():
     for page in [ROOT / "README.md", *(ROOT / "docs").glob("*.md")]:
         for reference in re.findall(r"`([^`\n]+)`", text(page)):
@@ -96,6 +150,8 @@ def main():
     lines = [line.strip("| ").split(" | ") for line in text(ROOT / "docs/CLAIMS.md").splitlines() if line.startswith("| ")]
     rows = [cells for cells in lines if len(cells) == 6 and cells[4] != "Must-fail edit"]
     faults = [f"{row[0][:60]}: no {name}" for row in rows for name in missing(row)]
+    names = stated()
+    faults += [f"{row[0][:60]}: no law gives {name}" for row in rows for name in unproved(row, names)]
     faults += pages_missing()
     named = {edit for row in rows for edit in edits_named(row)}
     for edit in sorted(CRATES.glob("*/must-fail/*.edit")):

@@ -1,6 +1,6 @@
 #!/usr/bin/env python3
 """What makes a proof readable and is plain to see: no long line, no long path to an earlier place, a header that names the function, no import
-that nothing uses. CONTRIBUTING.md says how a proof is written.
+that nothing uses; and that the mark of bytes that were read is put in one place. CONTRIBUTING.md says how a proof is written.
 
 usage: tests/proofs.py     ends with 1 and a line for each fault
 """
@@ -15,6 +15,12 @@ LINKS = 2  # `.before`s to a path; a place further back is found by its type
 IMPORT = re.compile(r"^use [^\n{]*\.\{([^}]*)\}", re.M)
 # A name ends where another kind of character stands; an operator, as _+_, is used as the words between its places.
 END = r"\s(){}\[\].,;"
+
+# The mark of bytes that were read, crates/streams/specs/Received.antt: one file of laws names its constructor `given`, and one proof names those laws.
+RECEIVED = re.compile(r"Rattle.streams(?:·specs)?\.specs\.Received\b(?:\.\{([^}]*)\})?")
+RECEIVING = re.compile(r"Rattle.streams(?:·proofs)?\.proofs\.laws\.Receiving\b")
+GIVES = ROOT / "crates/streams/proofs/laws/Receiving.antt"
+READS = ROOT / "crates/streams/proofs/stream/receive/Proof.antt"
 
 
 def used(name, body):
@@ -40,6 +46,15 @@ def header(path, text):
         yield f"the header does not begin with `{function}`"
 
 
+def marks(path, text):
+    """No other file can put the mark: what it takes of the mark's module is a list of names without `given`."""
+    for taken in RECEIVED.finditer(text):
+        if path != GIVES and (taken[1] is None or "given" in re.split(r"[\s,]+", taken[1])):
+            yield "names `given`, which marks bytes as read"
+    if path != READS and RECEIVING.search(text):
+        yield "names the laws that mark bytes as read"
+
+
 def faults(path):
     text = path.read_text()
     for number, line in enumerate(text.split("\n"), 1):
@@ -50,6 +65,7 @@ def faults(path):
         if links > LINKS:
             yield f"line {text.count(chr(10), 0, chain.start()) + 1} has a path of {links} links"
     yield from imports(text)
+    yield from marks(path, text)
     if path.name == "Proof.antt":
         yield from header(path, text)
 

@@ -12,6 +12,10 @@
 
 #include <stdio.h>
 
+#if TAZHIKKO_VERSION / 10000 != 1
+#error "this program is written for version 1 of the calls"
+#endif
+
 /* Room for one byte more than is right, so that a longer file is refused and not cut. */
 struct input {
     uint8_t bytes[TAZHIKKO_BUNDLE_MAX_BYTES + 1];

@@ -34,10 +34,9 @@ pub fn encipher(key: &[u8], block_in: &[u8], block_out: &mut [u8]) -> Answer
     ensures block { λ _. ⌜ now («block_out» .exit) ≡ enciphered (now (key .entry)) (now («block_in» .entry)) (now («block_out» .entry)) ⌝ }
 {
     let a = judged(key, block_in, block_out);
-    let Answer::Accepted = a else {
-        return a;
-    };
-    store(block_out, cipher(expand_key(load(key)), load(block_in)));
+    if let Answer::Accepted = a {
+        store(block_out, cipher(expand_key(load(key)), load(block_in)));
+    }
     a
 }
 
@@ -47,9 +46,8 @@ pub fn decipher(key: &[u8], block_in: &[u8], block_out: &mut [u8]) -> Answer
     ensures block { λ _. ⌜ now («block_out» .exit) ≡ deciphered (now (key .entry)) (now («block_in» .entry)) (now («block_out» .entry)) ⌝ }
 {
     let a = judged(key, block_in, block_out);
-    let Answer::Accepted = a else {
-        return a;
-    };
-    store(block_out, inv_cipher(expand_key(load(key)), load(block_in)));
+    if let Answer::Accepted = a {
+        store(block_out, inv_cipher(expand_key(load(key)), load(block_in)));
+    }
     a
 }

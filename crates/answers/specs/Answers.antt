@@ -3,7 +3,7 @@
 use mathlib.Core.Bool.{Bool, true, false, not}
 use Prim.Native.Nat.{ℕ}
 use lib.Dec.{eqb}
-use Rattle.answers.specs.Numbers.{causeOf, secondOf}
+use Rattle.answers.specs.Numbers.{causeOf, secondOf, joined}
 use Rattle.answers.specs.declared.Answer.{Answer}
 use Rattle.answers.specs.declared.Answer.the-variants.{Accepted, Refused}
 use Rattle.answers.specs.declared.Refusal.{Refusal}
@@ -35,3 +35,8 @@ pub data Reply : Type 0 where
 abbrev pub replyOf : Answer → Reply
 replyOf Accepted = accepted
 replyOf (Refused r) = refused (causeOf r) (secondOf r)
+
+-- The number that a call for C returns with a reply: 0, or both numbers joined. It is `numberOf` of the answer (`number-is` of proofs/laws/Numbers.antt).
+abbrev pub returned : Reply → ℕ
+returned accepted = 0
+returned (refused cause second) = joined cause second

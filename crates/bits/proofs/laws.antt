@@ -3,6 +3,7 @@ pub mod Filled
 pub mod Pasted
 pub mod Multiples
 pub mod Parts
+pub mod Offsets
 pub mod Xor
 pub mod Checked
 pub mod XorAll

@@ -21,15 +21,16 @@ pub fn parity(a: Vector, b: Vector) -> u64
     u64::count_ones((a.hi & b.hi) ^ (a.lo & b.lo)) as u64 % 2
 }
 
-// Digit s, from the bottom.
+// Digit s, from the bottom; 0 above the vector.
 pub fn digit(v: Vector, s: usize) -> u64
-    requires { ⌜ s < 128 ⌝ }
     ensures { λ r. ⌜ r ≡ value v / 2 ^ s % 2 ⌝ }
 {
     if s < 64 {
         (v.lo >> s) % 2
-    } else {
+    } else if s < 128 {
         (v.hi >> (s - 64)) % 2
+    } else {
+        0
     }
 }
 
@@ -45,16 +46,15 @@ pub fn byte(v: Vector, k: usize) -> u8
     }
 }
 
-// The vector with one bit more at the bottom.
+// The vector with one bit more at the bottom, the lowest of b; the top bit of 128 falls out.
 pub fn push_bit(v: Vector, b: u64) -> Vector
-    requires { ⌜ (value v < 2 ^ 127) × (b < 2) ⌝ }
-    ensures { λ r. ⌜ value r ≡ value v * 2 + b ⌝ }
+    ensures { λ r. ⌜ value r ≡ (value v * 2 + b % 2) % 2 ^ 128 ⌝ }
 {
     let top = v.lo / 9223372036854775808;
     let rest = v.lo % 9223372036854775808;
     Vector {
-        hi: v.hi * 2 + top,
-        lo: rest * 2 + b,
+        hi: v.hi % 9223372036854775808 * 2 + top,
+        lo: rest * 2 + b % 2,
     }
 }
 
@@ -71,10 +71,9 @@ fn push_byte(v: Vector, b: u8) -> Vector
     }
 }
 
-// The vector whose only one is digit s.
+// The vector whose only one is digit s; 0 where a vector of 128 bits has no such digit.
 pub fn power(s: usize) -> Vector
-    requires { ⌜ s < 128 ⌝ }
-    ensures { λ r. ⌜ value r ≡ 2 ^ s ⌝ }
+    ensures { λ r. ⌜ value r ≡ 2 ^ s % 2 ^ 128 ⌝ }
 {
     let one: u64 = 1;
     if s < 64 {
@@ -82,26 +81,26 @@ pub fn power(s: usize) -> Vector
             hi: 0,
             lo: one << s,
         }
-    } else {
+    } else if s < 128 {
         Vector {
             hi: one << (s - 64),
             lo: 0,
         }
+    } else {
+        Vector { hi: 0, lo: 0 }
     }
 }
 
-// c times x, for c 0 or 1, with no branch and no product of two unknown words.
+// x times the lowest bit of c, with no branch and no product of two unknown words.
 fn masked(c: u64, x: u64) -> u64
-    requires { ⌜ c < 2 ⌝ }
-    ensures { λ r. ⌜ r ≡ c * x ⌝ }
+    ensures { λ r. ⌜ r ≡ c % 2 * x ⌝ }
 {
-    x & (c * 18446744073709551615)
+    x & (c % 2 * 18446744073709551615)
 }
 
-// a xor c times b, for c 0 or 1.
+// a xor the lowest bit of c times b.
 pub fn add(a: Vector, c: u64, b: Vector) -> Vector
-    requires { ⌜ c < 2 ⌝ }
-    ensures { λ r. ⌜ value r ≡ bitXor (value a) (c * value b) ⌝ }
+    ensures { λ r. ⌜ value r ≡ bitXor (value a) (c % 2 * value b) ⌝ }
 {
     Vector {
         hi: a.hi ^ masked(c, b.hi),

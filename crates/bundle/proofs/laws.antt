@@ -2,4 +2,6 @@ pub mod Tests
 pub mod Search
 pub mod Frame
 pub mod Parts
+pub mod FreeBytes
 pub mod Code
+pub mod Built

@@ -21,10 +21,6 @@ use Rattle.bundle.specs.Search.{first, refusedAt}
 unfoldable pub encodings : ℕ → ℕ
 encodings nr = 32 + 2 * 992 + (nr - 1) * 448
 
--- Their number for ten rounds, as the code has it; that it is this is said in Frames.antt.
-abbrev pub tenEncodings : ℕ
-tenEncodings = 6048
-
 -- "160 byte matrices, 8 by 8, number 16(r−1)+j for round r = 1..10 and state byte j".
 unfoldable pub byteMatrices : ℕ → ℕ
 byteMatrices nr = 16 * nr
@@ -33,13 +29,25 @@ byteMatrices nr = 16 * nr
 unfoldable pub columnMatrices : ℕ → ℕ
 columnMatrices nr = 4 * (nr - 1)
 
+-- The three numbers for ten rounds, as the code has them; that they are these is said in Frames.antt.
+abbrev pub tenEncodings : ℕ
+tenEncodings = 6048
+
+abbrev pub tenByteMatrices : ℕ
+tenByteMatrices = 160
+
+abbrev pub tenColumnMatrices : ℕ
+tenColumnMatrices = 36
+
 -- The five sections in the order of their pairs: encodings, byte matrices, column matrices, input matrix, output matrix. How many
--- parts section s has, and how many bytes a part of it has.
+-- parts section s has, none behind the fifth, and how many bytes a part of it has.
 unfoldable pub partCount : ℕ → ℕ → ℕ
 partCount nr zero = encodings nr
 partCount nr (suc zero) = byteMatrices nr
 partCount nr (suc (suc zero)) = columnMatrices nr
-partCount nr (suc (suc (suc s))) = 1
+partCount nr (suc (suc (suc zero))) = 1
+partCount nr (suc (suc (suc (suc zero)))) = 1
+partCount nr (suc (suc (suc (suc (suc s))))) = 0
 
 unfoldable pub partSize : ℕ → ℕ
 partSize zero = 8
@@ -57,6 +65,13 @@ shortest nr = 40 + sectionLength nr 0 + sectionLength nr 1 + sectionLength nr 2 
 
 unfoldable pub longest : ℕ → ℕ
 longest nr = 65536
+
+-- Both for ten rounds, as the code has them; that they are these is said in Frames.antt.
+abbrev pub tenShortest : ℕ
+tenShortest = 58408
+
+abbrev pub tenLongest : ℕ
+tenLongest = 65536
 
 -- ---- pairs
 -- "five pairs of offset and length, each number 4 bytes, most significant first": the number at byte a, and the two of pair i.
@@ -94,7 +109,7 @@ unfoldable pub frame : ℕ → List ℕ → Answer
 frame nr l = andThen (refusedIf (lengthBad nr l) BundleLength) (refusedAt (first 5 (pairBad nr l)) Pair)
 
 -- ---- sections, and their parts by number
--- Section s; empty in "a bundle with cause 2 or 3".
+-- Section s; empty in "a bundle with cause 2 or 3", and behind the fifth.
 unfoldable pub sectionOf : ℕ → List ℕ → ℕ → List ℕ
 sectionOf nr l s = ifAccepted (frame nr l) (take (sectionLength nr s) (drop (offset l s) l)) []
 

@@ -3,20 +3,21 @@ use mathlib.Core.List.{List}
 use mathlib.Core.Path.{_≡_}
 use Prim.Native.Nat.{ℕ, _+_, _≤_, _<_}
 use lib.ListN.{length}
-use Rattle.bundle.specs.Format.{encodings, byteMatrices, columnMatrices, sectionLength, shortest, longest, offset, PairRight}
+use Rattle.bundle.specs.Format.{encodings, tenEncodings, byteMatrices, tenByteMatrices, columnMatrices, tenColumnMatrices, sectionLength}
+use Rattle.bundle.specs.Format.{shortest, tenShortest, longest, tenLongest, offset, PairRight}
 
 -- ---- sizes: document 01's numbers are those for ten rounds
 pub record Sizes : Type 0 where
-  pub lists : encodings 10 ≡ 6048
-  pub bytes : byteMatrices 10 ≡ 160
-  pub columns : columnMatrices 10 ≡ 36
+  pub lists : encodings 10 ≡ tenEncodings
+  pub bytes : byteMatrices 10 ≡ tenByteMatrices
+  pub columns : columnMatrices 10 ≡ tenColumnMatrices
   pub section-0 : sectionLength 10 0 ≡ 48384
   pub section-1 : sectionLength 10 1 ≡ 1280
   pub section-2 : sectionLength 10 2 ≡ 4608
   pub section-3 : sectionLength 10 3 ≡ 2048
   pub section-4 : sectionLength 10 4 ≡ 2048
-  pub low : shortest 10 ≡ 58408
-  pub high : longest 10 ≡ 65536
+  pub low : shortest 10 ≡ tenShortest
+  pub high : longest 10 ≡ tenLongest
 
 -- ---- what each cause asks
 -- Cause 2: the length is in range.

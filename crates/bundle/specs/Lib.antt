@@ -1,3 +1,5 @@
 pub mod Search
 pub mod Format
 pub mod Frames
+pub mod FreeBytes
+pub mod Built

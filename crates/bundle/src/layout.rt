@@ -1,19 +1,24 @@
 // Sizes of the sections, and the numbers of the pairs.
 ghost use mathlib.Core.Path.{_≡_};
-ghost use Prim.Native.Nat.{_+_, _<_, _≤_};
+ghost use Prim.Native.Nat.{_+_, _*_, _<_, _≤_};
 ghost use lib.ListN.{length};
 ghost use Rattle.bundle.specs.Format.{partCount, partSize, sectionLength, numberAt, tenEncodings};
 use bits::vector;
 
-// How many parts section s has.
+// The encodings of a bundle for ten rounds.
+const ENCODINGS: usize = 6048;
+
+// How many parts section s has; none behind the fifth.
 pub fn part_count(s: usize) -> usize
     ensures { λ r. ⌜ (r ≡ partCount 10 s) × (r ≤ tenEncodings) ⌝ }
 {
     match s {
-        0 => 6048,
+        0 => ENCODINGS,
         1 => 160,
         2 => 36,
-        _ => 1,
+        3 => 1,
+        4 => 1,
+        _ => 0,
     }
 }
 
@@ -31,7 +36,7 @@ pub fn part_size(s: usize) -> usize
 
 // How many bytes section s has.
 pub fn section_length(s: usize) -> usize
-    ensures { λ r. ⌜ (r ≡ sectionLength 10 s) × (r ≤ 12386304) ⌝ }
+    ensures { λ r. ⌜ (r ≡ sectionLength 10 s) × (r ≤ tenEncodings * 2048) ⌝ }
 {
     let count = part_count(s);
     let size = part_size(s);

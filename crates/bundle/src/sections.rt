@@ -1,17 +1,17 @@
 // Sections, and parts of one size in a section, as parts of the lent slice.
 ghost use mathlib.Core.Path.{_≡_};
-ghost use Prim.Native.Nat.{_*_, _/_, _<_, _≤_};
-ghost use lib.ListN.{length};
 ghost use Rattle.bundle.specs.Format.{sectionOf, partOf, partAt};
 use crate::frame;
 use crate::layout;
 use answers::Answer;
 
-// Section s; empty in a bundle with cause 2 or 3.
+// Section s; empty in a bundle with cause 2 or 3, and behind the fifth.
 pub fn section<'a>(bundle: &'a [u8], s: usize) -> &'a [u8]
-    requires { ⌜ s < 5 ⌝ }
     ensures { λ r. ⌜ now r ≡ sectionOf 10 (now (bundle .entry)) s ⌝ }
 {
+    if 5 <= s {
+        return &bundle[0..0];
+    }
     match frame::judge_frame(bundle) {
         Answer::Accepted => {
             let at = 8 * s;
@@ -23,23 +23,28 @@ pub fn section<'a>(bundle: &'a [u8], s: usize) -> &'a [u8]
     }
 }
 
-// Part n of a section that has parts of one size; empty behind the last.
+// Part n of a section that has parts of one size; behind the whole parts stands the rest, and behind that nothing.
 pub fn part<'a>(s: &'a [u8], size: usize, n: usize) -> &'a [u8]
-    requires { ⌜ (1 ≤ size) × (length (now s) / size * size ≡ length (now s)) ⌝ }
     ensures { λ r. ⌜ now r ≡ partOf size (now (s .entry)) n ⌝ }
 {
-    if n < s.len() / size {
-        let a = n * size;
-        let e = a + size;
-        &s[a..e]
-    } else {
-        &s[0..0]
+    if size == 0 {
+        return &s[0..0];
     }
+    let whole = s.len() / size;
+    if whole < n {
+        return &s[0..0];
+    }
+    let a = n * size;
+    if whole == n {
+        let e = s.len();
+        return &s[a..e];
+    }
+    let e = a + size;
+    &s[a..e]
 }
 
 // Part n of section s of a bundle.
-pub fn part_at<'a>(bundle: &'a [u8], s: usize, n: usize) -> &'a [u8]
-    requires { ⌜ s < 5 ⌝ }
+pub(crate) fn part_at<'a>(bundle: &'a [u8], s: usize, n: usize) -> &'a [u8]
     ensures { λ r. ⌜ now r ≡ partAt 10 (now (bundle .entry)) s n ⌝ }
 {
     part(section(bundle, s), layout::part_size(s), n)

@@ -1,7 +1,8 @@
 // Encodings (lists) of a bundle, one nibble to a byte. Those by number are of the bundle's section of encodings.
+ghost use mathlib.Core.List.{_++_};
 ghost use mathlib.Core.Path.{_≡_};
 ghost use Prim.Native.Nat.{ℕ, _+_, _*_, _/_, _%_, _<_, _≤_};
-ghost use lib.ListN.{length, take};
+ghost use lib.ListN.{length, drop};
 ghost use Rattle.bits.specs.Encodings.{imagesOf, decode, Permutation};
 ghost use Rattle.bits.specs.Lists.{at, tabulate, concat};
 ghost use Rattle.bits.specs.Nibbles.{pack};
@@ -11,7 +12,7 @@ use bits::encoding;
 use bundle::sections;
 
 // The images that an encoding's 8 bytes give.
-pub fn images(p: &[u8], dst: &mut [u8])
+pub(crate) fn images(p: &[u8], dst: &mut [u8])
     requires { ⌜ length (now dst) ≡ 16 ⌝ }
     ensures { λ _. ⌜ now (dst .exit) ≡ imagesOf (now (p .entry)) ⌝ }
 {
@@ -35,7 +36,7 @@ fn no_places(dst: &mut [u8])
 }
 
 // What undoes them: the first nibble of each image. Nibbles are taken from the last down, so that the first one stays.
-pub fn places(p: &[u8], dst: &mut [u8])
+pub(crate) fn places(p: &[u8], dst: &mut [u8])
     requires { ⌜ length (now dst) ≡ 16 ⌝ }
     ensures { λ _. ⌜ now (dst .exit) ≡ tabulate 16 (decode (imagesOf (now (p .entry)))) ⌝ }
 {
@@ -48,10 +49,10 @@ pub fn places(p: &[u8], dst: &mut [u8])
     }
 }
 
-// The images of the encodings n, n + 1, .., `count` of them, one after the other.
+// The images of the encodings n, n + 1, .., `count` of them, one after the other, into the front of dst.
 pub fn all_images(section: &[u8], n: usize, count: usize, dst: &mut [u8])
-    requires { ⌜ (length (now section) % 8 ≡ 0) × (n ≤ tenEncodings) × (count ≤ 32) × (16 * count ≤ length (now dst)) ⌝ }
-    ensures { λ _. ⌜ take (count * 16) (now (dst .exit)) ≡ concat count (λ h. encodingIn (now (section .entry)) (n + h)) ⌝ }
+    requires { ⌜ (n ≤ tenEncodings) × (count ≤ 32) × (16 * count ≤ length (now dst)) ⌝ }
+    ensures { λ _. ⌜ now (dst .exit) ≡ concat count (λ h. encodingIn (now (section .entry)) (n + h)) ++ drop (count * 16) (now (dst .entry)) ⌝ }
 {
     let mut h: usize = 0;
     while h < count {
@@ -72,7 +73,7 @@ fn decoded(high: &[u8], low: &[u8], x: usize) -> u8
 
 // Every byte with its nibbles decoded by the encodings numbered `high` and `low`.
 pub fn decoded_bytes(section: &[u8], high: usize, low: usize, dst: &mut [u8])
-    requires { ⌜ (length (now section) % 8 ≡ 0) × (length (now dst) ≡ 256) × Permutation (encodingIn (now section) high) × Permutation (encodingIn (now section) low) ⌝ }
+    requires { ⌜ (length (now dst) ≡ 256) × Permutation (encodingIn (now section) high) × Permutation (encodingIn (now section) low) ⌝ }
     ensures { λ _. ⌜ now (dst .exit) ≡ tabulate 256 (λ x. pack (decode (encodingIn (now (section .entry)) high) (x / 16)) (decode (encodingIn (now (section .entry)) low) (x % 16))) ⌝ }
 {
     let mut a = [0u8; 16];

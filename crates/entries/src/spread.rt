@@ -1,5 +1,6 @@
 // Spread tables. The word of a byte is the xor of eight words, at the bits that the byte has; so it is the xor of two of 32 words, one
 // for each of its nibbles.
+ghost use mathlib.Core.List.{_++_};
 ghost use mathlib.Core.Path.{_≡_};
 ghost use Prim.Native.Nat.{ℕ, _+_, _*_, _/_, _%_, _^_, _<_, _≤_};
 ghost use lib.ListN.{length, take, drop};
@@ -50,10 +51,10 @@ pub fn nibble_byte(r: usize) -> u8
     }
 }
 
-// Their words, m bytes each.
+// Their words, m bytes each, into the front of dst.
 fn nibble_words(basis: &[u64], m: usize, dst: &mut [u8])
     requires { ⌜ (16 ≤ length (now basis)) × (m ≤ 16) × (length (now dst) ≡ 512) ⌝ }
-    ensures { λ _. ⌜ take (32 * m) (now (dst .exit)) ≡ concat 32 (λ r. bytesOf m (combined (rowAt (now (basis .entry))) (nibbleByte r))) ⌝ }
+    ensures { λ _. ⌜ now (dst .exit) ≡ concat 32 (λ r. bytesOf m (combined (rowAt (now (basis .entry))) (nibbleByte r))) ++ drop (32 * m) (now (dst .entry)) ⌝ }
 {
     let mut r: usize = 0;
     while r < 32 {

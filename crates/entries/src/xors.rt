@@ -50,7 +50,7 @@ fn write_entries(sum: &[u8], added: &[u8], result: &[u8], dst: &mut [u8])
 
 // The XOR table for the encodings of the sum so far, of the nibble that is added, and of the result, by number.
 pub fn write(section: &[u8], sum: usize, added: usize, result: usize, dst: &mut [u8])
-    requires { ⌜ (length (now section) % 8 ≡ 0) × (length (now dst) ≡ 128) ⌝ }
+    requires { ⌜ length (now dst) ≡ 128 ⌝ }
     ensures { λ _. ⌜ now (dst .exit) ≡ packed 128 (λ e. encode (encodingIn (now (section .entry)) result) (bitXor (decode (encodingIn (now (section .entry)) sum) (e / 16)) (decode (encodingIn (now (section .entry)) added) (e % 16)))) ⌝ }
 {
     let mut a = [0u8; 16];

@@ -1,3 +1,4 @@
 pub mod Stages
 pub mod Calls
+pub mod Chains
 pub mod Demands

@@ -1,3 +1,5 @@
 pub mod Held
 pub mod Advanced
+pub mod Contracts
+pub mod Chains
 pub mod Demands

@@ -6,6 +6,7 @@ ghost use Rattle.layout.specs.Stages.{shifted, tenLookups, tenSetBytes};
 ghost use Rattle.whitebox.specs.Calls as calls;
 ghost use Rattle.evaluate.specs.Held.{held};
 ghost use Rattle.evaluate.specs.Advanced.{Advanced};
+ghost use Rattle.evaluate.specs.Contracts.{Opens, Moves, Fetches};
 use answers::Answer;
 use answers::Refusal;
 use bits::block::load;
@@ -37,8 +38,7 @@ pub struct Move {
 
 // A walk that has the block as its standing bytes. "A refused start hands back a walk of zeros only."
 pub fn start(block: &[u8]) -> Opening
-    ensures answer { λ r. ⌜ r .answer ≡ calls.judgeStart (length (now (block .entry))) ⌝ }
-    ensures walk { λ r. ⌜ held (r .walk) ≡ calls.started (now (block .entry)) ⌝ }
+    ensures { λ r. ⌜ Opens (now (block .entry)) r ⌝ }
 {
     let area = [0u8; 256];
     if block.len() != 16 {
@@ -102,8 +102,7 @@ fn advance(walk: Walk, set: &[u8], stop: usize) -> Walk
 
 // A move to a stop.
 pub fn move_to(walk: Walk, set: &[u8], stop: usize) -> Move
-    ensures answer { λ r. ⌜ r .answer ≡ calls.answer shifted 10 (calls.toStop (now (set .entry)) stop) (held walk) ⌝ }
-    ensures walk { λ r. ⌜ held (r .walk) ≡ calls.handed shifted 10 (calls.toStop (now (set .entry)) stop) (held walk) ⌝ }
+    ensures { λ r. ⌜ Moves shifted 10 (calls.toStop (now (set .entry)) stop) walk r ⌝ }
 {
     if set.len() != SET_BYTES {
         return Move {
@@ -132,8 +131,7 @@ pub fn move_to(walk: Walk, set: &[u8], stop: usize) -> Move
 
 // A move of one lookup, with only that table lent.
 pub fn move_one(walk: Walk, table: &[u8]) -> Move
-    ensures answer { λ r. ⌜ r .answer ≡ calls.answer shifted 10 (calls.oneLookup (now (table .entry))) (held walk) ⌝ }
-    ensures walk { λ r. ⌜ held (r .walk) ≡ calls.handed shifted 10 (calls.oneLookup (now (table .entry))) (held walk) ⌝ }
+    ensures { λ r. ⌜ Moves shifted 10 (calls.oneLookup (now (table .entry))) walk r ⌝ }
 {
     let n = walk.count;
     if n >= LOOKUPS {
@@ -166,8 +164,7 @@ pub fn move_one(walk: Walk, table: &[u8]) -> Move
 
 // The answer: the standing bytes, once all lookups are made.
 pub fn fetch(walk: Walk, block: &mut [u8]) -> Answer
-    ensures answer { λ r. ⌜ r ≡ calls.answer shifted 10 (calls.fetch (now (block .entry))) (held walk) ⌝ }
-    ensures block { λ r. ⌜ now (block .exit) ≡ calls.blockLeft shifted 10 (calls.fetch (now (block .entry))) (held walk) ⌝ }
+    ensures { λ r. ⌜ Fetches shifted 10 (now (block .entry)) walk r (now (block .exit)) ⌝ }
 {
     if block.len() != 16 {
         return Answer::Refused(Refusal::BlockLength);

@@ -39,7 +39,7 @@ decodeInput nr l y = decodeBy (encodingOf nr l) 0 (inputMatrix nr l) y
 unfoldable pub outputFirst : ℕ → ℕ
 outputFirst nr = encodings nr - 32
 
--- For ten rounds, as the number that the code has.
+-- For ten rounds, as the number that the code has; that it is this is said in Undoing.antt.
 abbrev pub tenOutputFirst : ℕ
 tenOutputFirst = 6016
 

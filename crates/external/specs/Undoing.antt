@@ -1,11 +1,16 @@
--- Coding and uncoding, for a reader: the statement. It is proved in proofs/laws/Coding.antt.
+-- Coding and uncoding, for a reader: the statements. They are proved in proofs/laws/Coding.antt.
 use mathlib.Core.List.{List}
 use mathlib.Core.Path.{_≡_}
 use Prim.Native.Nat.{ℕ}
 use Rattle.bits.specs.Bytes.{Bytes, Block}
+use Rattle.bundle.specs.Built.{Plain}
 use Rattle.judgement.specs.Judge.{judge}
 use Rattle.answers.specs.declared.Answer.the-variants.{Accepted}
-use Rattle.external.specs.Coding.{encodeInput, decodeInput, encodeOutput, decodeOutput}
+use Rattle.external.specs.Coding.{encodeInput, decodeInput, outputFirst, tenOutputFirst, encodeOutput, decodeOutput}
+
+-- "lists 6,016 to 6,047": document 01's number is the one for ten rounds.
+abbrev pub OutputFirst : Type 0
+OutputFirst = outputFirst 10 ≡ tenOutputFirst
 
 -- Of a block x: uncoding undoes coding and coding undoes uncoding, on both sides, and each gives a block.
 pub record Undone (nr : ℕ) (l x : List ℕ) : Type 0 where
@@ -18,3 +23,11 @@ pub record Undone (nr : ℕ) (l x : List ℕ) : Type 0 where
 
 abbrev pub Undoing : Type 0
 Undoing = (nr : ℕ) (l : List ℕ) → Bytes l → judge nr l ≡ Accepted → (x : List ℕ) → Block x → Undone nr l x
+
+-- A plain bundle's codings of a block change nothing.
+pub record Unchanged (nr : ℕ) (l x : List ℕ) : Type 0 where
+  pub input : encodeInput nr l x ≡ x
+  pub output : encodeOutput nr l x ≡ x
+
+abbrev pub PlainCoding : Type 0
+PlainCoding = (nr : ℕ) (l : List ℕ) → Plain nr l → (x : List ℕ) → Block x → Unchanged nr l x

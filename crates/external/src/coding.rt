@@ -45,12 +45,11 @@ fn encode_by(bundle: &[u8], first: usize, m: &[u8], block: &[u8], out: &mut [u8]
     ensures block { λ _. ⌜ now (out .exit) ≡ leaves 10 (now (bundle .entry)) (encodeBy (encodingOf 10 (now (bundle .entry))) first (matrixOf 16 (now (m .entry)))) (now (block .entry)) (now (out .entry)) ⌝ }
 {
     let a = ready(bundle, block.len(), out.len());
-    let Answer::Accepted = a else {
-        return a;
-    };
-    let mut t = [0u8; 16];
-    block::multiply(m, block, &mut t);
-    block::encode_nibbles(bundle, first, &t, out);
+    if let Answer::Accepted = a {
+        let mut t = [0u8; 16];
+        block::multiply(m, block, &mut t);
+        block::encode_nibbles(bundle, first, &t, out);
+    }
     a
 }
 
@@ -62,12 +61,11 @@ fn decode_by(bundle: &[u8], first: usize, m: &[u8], block: &[u8], out: &mut [u8]
     ensures block { λ _. ⌜ now (out .exit) ≡ leaves 10 (now (bundle .entry)) (decodeBy (encodingOf 10 (now (bundle .entry))) first (matrixOf 16 (now (m .entry)))) (now (block .entry)) (now (out .entry)) ⌝ }
 {
     let a = ready(bundle, block.len(), out.len());
-    let Answer::Accepted = a else {
-        return a;
-    };
-    let mut t = [0u8; 16];
-    block::decode_nibbles(bundle, first, block, &mut t);
-    block::unmultiply(m, &t, out);
+    if let Answer::Accepted = a {
+        let mut t = [0u8; 16];
+        block::decode_nibbles(bundle, first, block, &mut t);
+        block::unmultiply(m, &t, out);
+    }
     a
 }
 

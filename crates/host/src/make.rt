@@ -1,17 +1,15 @@
 // The maker for C.
 ghost use mathlib.Core.Path.{_≡_};
 ghost use lib.ListN.{length};
-ghost use Rattle.answers.specs.Answers.{ifAccepted};
 ghost use Rattle.answers.specs.Numbers.{numberOf};
-ghost use Rattle.tables.specs.Calls.{setAnswer, tableAnswer};
-ghost use Rattle.whitebox.specs.Bundles.{madeSet, madeTable};
+ghost use Rattle.tables.specs.Calls.{setAnswer, tableAnswer, setLeft, tableLeft};
 use tables::calls;
 
 // The whole set of a key and a bundle.
 #[no_mangle]
 pub extern "C" fn tazhikko_make_set(key: &[u8], bundle: &[u8], set: &mut [u8]) -> u64
     ensures answer { λ r. ⌜ r ≡ numberOf (setAnswer (length (now (key .entry))) (now (bundle .entry)) (length (now (set .entry)))) ⌝ }
-    ensures bytes { λ _. ⌜ now (set .exit) ≡ ifAccepted (setAnswer (length (now (key .entry))) (now (bundle .entry)) (length (now (set .entry)))) (madeSet 4 (now (key .entry)) (now (bundle .entry))) (now (set .entry)) ⌝ }
+    ensures bytes { λ _. ⌜ now (set .exit) ≡ setLeft 4 (now (key .entry)) (now (bundle .entry)) (now (set .entry)) ⌝ }
 {
     answers::number(calls::make_set(key, bundle, set))
 }
@@ -25,7 +23,7 @@ pub extern "C" fn tazhikko_make_table(
     table: &mut [u8],
 ) -> u64
     ensures answer { λ r. ⌜ r ≡ numberOf (tableAnswer (length (now (key .entry))) (now (bundle .entry)) number (length (now (table .entry)))) ⌝ }
-    ensures bytes { λ _. ⌜ now (table .exit) ≡ ifAccepted (tableAnswer (length (now (key .entry))) (now (bundle .entry)) number (length (now (table .entry)))) (madeTable 4 (now (key .entry)) (now (bundle .entry)) number) (now (table .entry)) ⌝ }
+    ensures bytes { λ _. ⌜ now (table .exit) ≡ tableLeft 4 (now (key .entry)) (now (bundle .entry)) number (now (table .entry)) ⌝ }
 {
     answers::number(calls::make_table(key, bundle, number, table))
 }

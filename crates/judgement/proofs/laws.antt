@@ -3,3 +3,4 @@ pub mod Matrices
 pub mod Judging
 pub mod Judgements
 pub mod Cases
+pub mod Witness

@@ -9,6 +9,7 @@ use Rattle.matrices.specs.Matrices.{Invertible}
 use Rattle.bundle.specs.Format.{encodings, byteMatrices, columnMatrices, partCount, partSize, offset, PairRight}
 use Rattle.bundle.specs.Format.{partAt, encodingOf, byteMatrix, columnMatrix, inputMatrix, outputMatrix}
 use Rattle.bundle.specs.Frames.{InRange, Framed}
+use Rattle.bundle.specs.FreeBytes.{SameButFree}
 use Rattle.bundle.specs.Search.{All, FirstBad}
 use Rattle.answers.specs.Numbers.{causeOf}
 use Rattle.answers.specs.declared.Answer.{Answer}
@@ -102,3 +103,8 @@ pub record PartRule (nr : ℕ) (l : List ℕ) (s n : ℕ) : Type 0 where
 
 abbrev pub Parts : Type 0
 Parts = (nr : ℕ) (l : List ℕ) (s n : ℕ) → s < 5 → PartRule nr l s n
+
+-- ---- free bytes
+-- "Bytes between sections are free and not read": bundles that differ in them alone are judged alike, with the same first offender.
+abbrev pub FreeBytes : Type 0
+FreeBytes = (nr : ℕ) (l l′ : List ℕ) → SameButFree nr l l′ → judge nr l ≡ judge nr l′

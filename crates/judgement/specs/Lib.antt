@@ -1,3 +1,4 @@
 pub mod Judge
 pub mod Judgements
 pub mod Cases
+pub mod Witness

@@ -1,78 +1,81 @@
--- What a table of a layer is made from. Definitions only.
+-- What the tables of a layer are made with: the stages of a cipher of nr rounds, the inverses of a bundle's matrices, as the words that the code
+-- holds them in, and the words of a spread table that are made with them. Definitions only.
+use mathlib.Core.Bool.{cond}
 use mathlib.Core.List.{List, []}
 use mathlib.Core.Path.{_≡_}
-use Prim.Native.Nat.{ℕ, _+_, _-_, _*_, _/_, _%_, _≤_, _<_}
+use Prim.Native.Nat.{ℕ, _+_, _-_, _*_, _/_, _≤_, _<_}
+use lib.Dec.{ltb}
 use lib.ListN.{length, take, drop}
-use Rattle.answers.specs.declared.Answer.the-variants.{Accepted}
-use Rattle.bits.specs.Bytes.{numberOf}
-use Rattle.bits.specs.Encodings.{decode}
-use Rattle.bits.specs.Nibbles.{pack}
-use Rattle.matrices.specs.Rows.{rowsOf}
+use Rattle.bits.specs.Bytes.{number, byte, placed}
+use Rattle.bits.specs.Lists.{concat}
+use Rattle.matrices.specs.Matrices.{product}
+use Rattle.matrices.specs.Rows.{wordsOf}
 use Rattle.inversion.specs.Elimination.{inverseOf}
-use Rattle.bundle.specs.Format.{encodingOf, columnMatrix, inputMatrix}
-use Rattle.judgement.specs.Judge.{judge}
-use Rattle.layout.specs.Stages.{widthOf, sourceOf, standingNumber}
+use Rattle.bundle.specs.Format.{columnMatrices, byteMatrix, columnMatrix, inputMatrix}
 use Rattle.layout.specs.declared.stage.Stage.{Stage}
 use Rattle.layout.specs.declared.stage.Stage.the-variants.{Entry, First, Second, Exit, Beyond}
-use Rattle.whitebox.specs.Codings.{Codings}
-use Rattle.whitebox.specs.Parts.{Parts}
-use Rattle.whitebox.specs.Words.{entryWord, mixedWord, secondWord, placedWord, substituted}
 
--- The round of a half, 1 to 9; any of these for entry and exit.
-abbrev pub roundOf : Stage → ℕ
-roundOf Entry = 1
-roundOf (First r) = r
-roundOf (Second r) = r
-roundOf Exit = 9
-roundOf Beyond = 0
+-- ---- stages
+-- A stage or half of a cipher of nr rounds: the halves are those of rounds 1 to nr - 1.
+abbrev pub InRounds : ℕ → Stage → Type 0
+InRounds nr Entry = 1 ≤ nr
+InRounds nr (First r) = (1 ≤ r) × (r < nr)
+InRounds nr (Second r) = (1 ≤ r) × (r < nr)
+InRounds nr Exit = 1 ≤ nr
+InRounds nr Beyond = ⊥
 
--- The inverses of a bundle's 36 column matrices as rows, one after the other: 64 words each.
+-- ---- inverses
+-- The words of the inverse of the input matrix, 128 rows, and of column matrix n, 32 rows; and how many these are.
+abbrev pub inputWords : ℕ
+inputWords = 256
+
 abbrev pub columnWords : ℕ
-columnWords = 36 * 64
+columnWords = 64
 
-pub record ColumnInverses (l c : List ℕ) : Type 0 where
-  pub long : length c ≡ columnWords
-  pub rows : (n : ℕ) → n < 36 → rowsOf 32 (take 64 (drop (n * 64) c)) ≡ inverseOf 32 (columnMatrix 10 l n)
+abbrev pub inputInverse : ℕ → List ℕ → List ℕ
+inputInverse nr l = wordsOf 128 (inverseOf 128 (inputMatrix nr l))
 
--- What is worked out once for a whole set, from an accepted bundle: these, and the rows of the inverse of the input matrix.
-pub record Ready (l columns input : List ℕ) : Type 0 where
-  pub judged : judge 10 l ≡ Accepted
-  pub inverses : ColumnInverses l columns
-  pub long : length input ≡ 256
-  pub rows : rowsOf 128 input ≡ inverseOf 128 (inputMatrix 10 l)
+abbrev pub columnInverse : ℕ → List ℕ → ℕ → List ℕ
+columnInverse nr l n = wordsOf 32 (inverseOf 32 (columnMatrix nr l n))
 
--- The one inverse that spread table p of a stage or half is made with, as rows: the input matrix's in the entry, its column's in a second
--- half, none elsewhere.
-abbrev pub InverseFor : List ℕ → Stage → ℕ → List ℕ → Type 0
-InverseFor l Entry p m = (256 ≤ length m) × (rowsOf 128 m ≡ inverseOf 128 (inputMatrix 10 l))
-InverseFor l (First r) p m = Unit {0}
-InverseFor l (Second r) p m = (64 ≤ length m) × (rowsOf 32 m ≡ inverseOf 32 (columnMatrix 10 l (4 * (r - 1) + p / 4)))
-InverseFor l Exit p m = Unit {0}
-InverseFor l Beyond p m = Unit {0}
+-- Those of all column matrices, one after the other.
+unfoldable pub columnInverses : ℕ → List ℕ → List ℕ
+columnInverses nr l = concat (columnMatrices nr) (columnInverse nr l)
 
--- The byte x that position p reads, decoded "by the two lists of its place": of nr rounds, where `reads` is the byte that a position reads
--- through the row shift.
-unfoldable pub readByte : ℕ → (ℕ → ℕ) → List ℕ → Stage → ℕ → ℕ → ℕ
-readByte nr reads l s p x =
-    let j = sourceOf reads s p in
-    pack (decode (encodingOf nr l (standingNumber nr s (2 * j))) (x / 16)) (decode (encodingOf nr l (standingNumber nr s (2 * j + 1))) (x % 16))
+-- "36 column matrices [..], number 4(r−1)+c for r = 1..9 and column c": of position p = 4c+q of round r.
+abbrev pub columnNumber : ℕ → ℕ → ℕ
+columnNumber r p = 4 * (r - 1) + p / 4
 
-module _ (P : Parts) (C : Codings) where
-  -- The byte that a word is linear in: behind the S-box in first halves and in the exit, else the byte read.
-  abbrev pub acted : ℕ → Stage → ℕ → ℕ → ℕ
-  acted nr Entry p x = x
-  acted nr (First r) p x = substituted P C r p x
-  acted nr (Second r) p x = x
-  acted nr Exit p x = substituted P C nr p x
-  acted nr Beyond p x = x
+-- The words of the one inverse that spread table p of a stage or half is made with: in the entry "multiply by the inverse of the input matrix", in
+-- a second half "multiply by the inverse of column matrix (r, c)"; none elsewhere.
+abbrev pub spreadInverse : ℕ → List ℕ → Stage → ℕ → List ℕ
+spreadInverse nr l Entry p = inputInverse nr l
+spreadInverse nr l (First r) p = []
+spreadInverse nr l (Second r) p = columnInverse nr l (columnNumber r p)
+spreadInverse nr l Exit p = []
+spreadInverse nr l Beyond p = []
 
-  -- The word of that byte, and its number.
-  abbrev pub linearWord : Stage → ℕ → ℕ → List ℕ
-  linearWord Entry p y = entryWord P C p y
-  linearWord (First r) p y = mixedWord P C r p y
-  linearWord (Second r) p y = secondWord P C r p y
-  linearWord Exit p y = placedWord P C p y
-  linearWord Beyond p y = []
+-- Of table j: the tables from 16 on are XOR tables, which are made with none.
+unfoldable pub inverseFor : ℕ → List ℕ → Stage → ℕ → List ℕ
+inverseFor nr l s j = cond (ltb j 16) (spreadInverse nr l s j) []
 
-  unfoldable pub wordNumber : Stage → ℕ → ℕ → ℕ
-  wordNumber s p y = numberOf (widthOf s) (linearWord s p y)
+-- The words m begin with the words w.
+abbrev pub Begins : List ℕ → List ℕ → Type 0
+Begins w m = take (length w) m ≡ w
+
+-- ---- where all are worked out: the words that are handed to the writer of table j, from those of the column matrices' inverses and of the input
+-- matrix's. A table that is made with none is handed the latter.
+abbrev pub spreadChosen : List ℕ → List ℕ → Stage → ℕ → List ℕ
+spreadChosen columns input Entry p = input
+spreadChosen columns input (First r) p = input
+spreadChosen columns input (Second r) p = take columnWords (drop (columnNumber r p * columnWords) columns)
+spreadChosen columns input Exit p = input
+spreadChosen columns input Beyond p = input
+
+unfoldable pub chosenFrom : List ℕ → List ℕ → Stage → ℕ → List ℕ
+chosenFrom columns input s j = cond (ltb j 16) (spreadChosen columns input s j) input
+
+-- ---- words
+-- The word of byte y at place i of n bytes that are else 0: they are multiplied by the matrix m, then each byte by its byte matrix, from number `first` on.
+abbrev pub spreadWord : ℕ → List ℕ → List ℕ → ℕ → ℕ → ℕ → ℕ → ℕ
+spreadWord nr l m n i first y = number n (λ j. product 8 (byteMatrix nr l (first + j)) (byte n j (product (8 * n) m (placed n i y))))

@@ -1,5 +1,5 @@
-// The tables of the cipher's layers: what each of the four kinds of spread table takes from the key and the bundle, and one table by
-// its place.
+// What the spread tables of the cipher's layers are made with: numbers, inverses, values and words, from the key and the bundle.
+mod inverse;
 pub mod inverses;
 pub mod numbers;
 pub mod values;

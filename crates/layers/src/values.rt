@@ -16,7 +16,7 @@ ghost use Rattle.whitebox.specs.Bundles.{codingsOf};
 ghost use Rattle.whitebox.specs.Parts.{forward};
 ghost use Rattle.whitebox.specs.Words.{substituted};
 ghost use Rattle.entries.specs.Spread.{nibbleByte};
-use crate::inverses;
+use crate::inverse;
 use crate::words;
 use bits::encoding;
 use bundle::parts;
@@ -60,12 +60,15 @@ fn substitute(inverse: &[u64], before: u8, behind: u8, read: &[u8], dst: &mut [u
     }
 }
 
+// The first byte of round key 10, among those of all round keys.
+const LAST_KEY: usize = 160;
+
 // The key byte behind the S-box: byte p of round key 10 in round 10, else none.
 fn key_behind(keys: &[u8], r: usize, p: usize) -> u8
     requires { ⌜ (length (now keys) ≡ 176) × (p < 16) ⌝ }
     ensures { λ b. ⌜ b ≡ cond (eqb r 10) (at (keyOf (now (keys .entry)) 10) p) 0 ⌝ }
 {
-    if r == 10 { keys[160 + p] } else { 0 }
+    if r == 10 { keys[LAST_KEY + p] } else { 0 }
 }
 
 // Round r, position p: "read byte j [..], multiply by the inverse of matrix (r, j), XOR byte j of round key r−1, S-box".
@@ -75,7 +78,7 @@ pub fn behind_sbox(bundle: &[u8], keys: &[u8], r: usize, p: usize, read: &[u8], 
 {
     let k = 16 * (r - 1) + stage::shifted(p);
     let mut rows = [0u64; 16];
-    inverses::inverse(parts::byte_matrix_part(bundle, k), &mut rows, 1);
+    inverse::read(parts::byte_matrix_part(bundle, k), &mut rows, 1);
     let before = keys[k];
     let behind = key_behind(keys, r, p);
     substitute(&rows, before, behind, read, dst);

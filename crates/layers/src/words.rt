@@ -9,7 +9,8 @@ ghost use Rattle.matrices.specs.Matrices.{product, matrixOf};
 ghost use Rattle.matrices.specs.Rows.{rowsOf, stored};
 ghost use Rattle.field.specs.Field.{mul};
 ghost use Rattle.round.specs.State.{mixRows, entry};
-ghost use Rattle.bundle.specs.Format.{byteMatrix, frame, partOf};
+ghost use Rattle.bundle.specs.Format.{frame, partOf, tenByteMatrices};
+ghost use Rattle.layers.specs.Layers.{spreadWord};
 use bits::vector;
 use bits::vector::Vector;
 use bundle::sections;
@@ -43,7 +44,7 @@ fn vector_of(x: u8) -> Vector
 }
 
 // The product of a matrix of 8 rows and a byte.
-pub fn byte_by(m: &[u64], x: u8) -> u8
+pub(crate) fn byte_by(m: &[u64], x: u8) -> u8
     requires { ⌜ 16 ≤ length (now m) ⌝ }
     ensures { λ r. ⌜ r ≡ product 8 (rowsOf 8 (now (m .entry))) x ⌝ }
 {
@@ -92,7 +93,7 @@ fn mixed(q: usize, y: u8) -> Vector
 
 // Each of n bytes times its byte matrix: those of the section that are numbered from `first` on.
 fn by_bytes(section: &[u8], first: usize, n: usize, v: Vector) -> Vector
-    requires { ⌜ (length (now section) ≡ 1280) × (first + n ≤ 160) × (n ≤ 16) ⌝ }
+    requires { ⌜ (length (now section) ≡ tenByteMatrices * 8) × (first + n ≤ tenByteMatrices) × (n ≤ 16) ⌝ }
     ensures { λ r. ⌜ value r ≡ number n (λ j. product 8 (matrixOf 1 (partOf 8 (now (section .entry)) (first + j))) (byte n j (value v))) ⌝ }
 {
     let mut b = [0u8; 16];
@@ -109,8 +110,8 @@ fn by_bytes(section: &[u8], first: usize, n: usize, v: Vector) -> Vector
 
 // Entry and second halves: the byte is placed at i of n bytes and multiplied by the matrix m, then each byte by its byte matrix.
 pub fn spread_basis(bundle: &[u8], m: &[u64], n: usize, i: usize, first: usize, basis: &mut [u64])
-    requires { ⌜ (frame 10 (now bundle) ≡ Accepted) × (n ≤ 16) × (i < n) × (first + n ≤ 160) × (16 * n ≤ length (now m)) × (length (now basis) ≡ 16) ⌝ }
-    ensures { λ _. ⌜ now (basis .exit) ≡ stored 8 (λ k. number n (λ j. product 8 (byteMatrix 10 (now (bundle .entry)) (first + j)) (byte n j (product (8 * n) (rowsOf (8 * n) (now (m .entry))) (placed n i (2 ^ k)))))) (now (basis .entry)) ⌝ }
+    requires { ⌜ (frame 10 (now bundle) ≡ Accepted) × (n ≤ 16) × (i < n) × (first + n ≤ tenByteMatrices) × (16 * n ≤ length (now m)) × (length (now basis) ≡ 16) ⌝ }
+    ensures { λ _. ⌜ now (basis .exit) ≡ stored 8 (λ k. spreadWord 10 (now (bundle .entry)) (rowsOf (8 * n) (now (m .entry))) n i first (2 ^ k)) (now (basis .entry)) ⌝ }
 {
     let section = sections::section(bundle, 1);
     let mut k: usize = 0;

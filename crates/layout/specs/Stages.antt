@@ -84,21 +84,38 @@ tableOffset nr k = offsetIn (widths nr) k
 
 -- ---- document 01's table. "Which stage a look-up number belongs to is decided by these ranges": 0–495 entry; 496+224(r−1), 224 each,
 -- round r; then 496 of the exit. A round's two halves have 112 each.
-unfoldable pub stageOf : ℕ → ℕ → Stage
-stageOf nr k =
-    let r = (k - 496) / 224 + 1 in
-    cond (ltb k 496) Entry
-    (cond (ltb k (496 + 224 * (nr - 1))) (cond (ltb ((k - 496) % 224) 112) (First r) (Second r))
-    (cond (ltb k (992 + 224 * (nr - 1))) Exit Beyond))
+abbrev pub entryLookups : ℕ
+entryLookups = 496
 
--- The first lookup of a stage or half, its first byte, and the number of the encoding of its first result.
+abbrev pub halfLookups : ℕ
+halfLookups = 112
+
+abbrev pub roundLookups : ℕ
+roundLookups = 224
+
+-- The first lookup of a stage or half.
 abbrev pub firstLookup : ℕ → Stage → ℕ
 firstLookup nr Entry = 0
-firstLookup nr (First r) = 496 + 224 * (r - 1)
-firstLookup nr (Second r) = 608 + 224 * (r - 1)
-firstLookup nr Exit = 496 + 224 * (nr - 1)
-firstLookup nr Beyond = 992 + 224 * (nr - 1)
+firstLookup nr (First r) = entryLookups + roundLookups * (r - 1)
+firstLookup nr (Second r) = entryLookups + halfLookups + roundLookups * (r - 1)
+firstLookup nr Exit = entryLookups + roundLookups * (nr - 1)
+firstLookup nr Beyond = 2 * entryLookups + roundLookups * (nr - 1)
 
+-- Of lookup k behind the entry and before the exit: its round, and its number there.
+abbrev pub roundAt : ℕ → ℕ
+roundAt k = (k - entryLookups) / roundLookups + 1
+
+abbrev pub inRound : ℕ → ℕ
+inRound k = (k - entryLookups) % roundLookups
+
+unfoldable pub stageOf : ℕ → ℕ → Stage
+stageOf nr k =
+    let r = roundAt k in
+    cond (ltb k entryLookups) Entry
+    (cond (ltb k (firstLookup nr Exit)) (cond (ltb (inRound k) halfLookups) (First r) (Second r))
+    (cond (ltb k (firstLookup nr Beyond)) Exit Beyond))
+
+-- ---- the first byte of a stage or half, and the numbers of encodings: of its first result, and of a standing nibble
 -- "First byte": 0; 126,976+57,344(r−1); 643,072 for ten rounds.
 abbrev pub firstByte : ℕ → Stage → ℕ
 firstByte nr Entry = 0
@@ -107,6 +124,7 @@ firstByte nr (Second r) = 155648 + 57344 * (r - 1)
 firstByte nr Exit = 126976 + 57344 * (nr - 1)
 firstByte nr Beyond = 253952 + 57344 * (nr - 1)
 
+-- The number of the encoding of the first result.
 abbrev pub firstNumber : ℕ → Stage → ℕ
 firstNumber nr Entry = 32
 firstNumber nr (First r) = 1024 + 448 * (r - 1)
@@ -122,9 +140,9 @@ afterRound (suc r) q = sumNumber 4 (1248 + 448 * r) q
 abbrev pub standingNumber : ℕ → Stage → ℕ → ℕ
 standingNumber nr Entry q = q
 standingNumber nr (First r) q = afterRound (r - 1) q
-standingNumber nr (Second r) q = sumNumber 4 (1024 + 448 * (r - 1)) q
+standingNumber nr (Second r) q = sumNumber 4 (firstNumber nr (First r)) q
 standingNumber nr Exit q = afterRound (nr - 1) q
-standingNumber nr Beyond q = sumNumber 16 (1024 + 448 * (nr - 1)) q
+standingNumber nr Beyond q = sumNumber 16 (firstNumber nr Exit) q
 
 unfoldable pub numbersOf : ℕ → Stage → Numbers
 numbersOf nr s = record { first = firstNumber nr s; standing = standingNumber nr s }
@@ -138,10 +156,10 @@ abbrev pub placeOf : ℕ → ℕ → Place
 placeOf nr k = record { stage = stageOf nr k; index = indexOf nr k; size = tableSize nr k; offset = tableOffset nr k }
 
 -- What the private functions of the code answer: lookup j of a stage or half whose tables begin at `start` and whose words have m bytes,
--- and lookup j of round r.
+-- and lookup j of round r, of nr rounds.
 unfoldable pub placeFrom : Stage → ℕ → ℕ → ℕ → Place
 placeFrom s m start j = record { stage = s; index = j; size = sizeOf m j; offset = start + offsetOf m j }
 
-unfoldable pub placeInRound : ℕ → ℕ → Place
-placeInRound r j =
-    cond (ltb j 112) (placeFrom (First r) 4 (126976 + 57344 * (r - 1)) j) (placeFrom (Second r) 4 (155648 + 57344 * (r - 1)) (j - 112))
+unfoldable pub placeInRound : ℕ → ℕ → ℕ → Place
+placeInRound nr r j =
+    cond (ltb j halfLookups) (placeFrom (First r) 4 (firstByte nr (First r)) j) (placeFrom (Second r) 4 (firstByte nr (Second r)) (j - halfLookups))

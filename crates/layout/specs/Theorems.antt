@@ -5,8 +5,9 @@ use mathlib.Core.Path.{_≡_}
 use Prim.Native.Nat.{ℕ, _+_, _-_, _*_, _≤_, _<_}
 use Rattle.network.specs.Lookups.{State, lookupIn, lookupAt}
 use Rattle.network.specs.Numbers.{startNumbers, numbersAfter}
+use Rattle.network.specs.Rule.{labels, firstResult, ruleIn}
 use Rattle.network.specs.Sizes.{sizeOf, offsetOf}
-use Rattle.network.specs.Tables.{Layer, tableIn, tableAt}
+use Rattle.network.specs.Tables.{Layer, AllGood, tableIn, tableAt}
 use Rattle.layout.specs.Stages.{stages, widthOf, shapeAt, shapes, widths, lookups, tablesBytes, setBytes, encodings}
 use Rattle.layout.specs.Stages.{tableSize, tableOffset, stageOf, indexOf, firstByte, numbersOf}
 use Rattle.layout.specs.declared.stage.Stage.{Stage}
@@ -26,6 +27,10 @@ pub record ByStage (nr : ℕ) : Type 0 where
   -- Its table is made there, from the numbers that start the stage or half, in any network with a layer of the right width for each.
   pub table-is : (E : ℕ → List ℕ) (F : Stage → Layer) → ((s : Stage) → F s .width ≡ widthOf s) → (k : ℕ) → k < lookups nr
       → tableAt E (map F (stages nr)) startNumbers k ≡ tableIn E (F (stageOf nr k)) (numbersOf nr (stageOf nr k)) (indexOf nr k)
+  -- In a network of good layers it is also the table by document 01's own rule of numbers (network/Rule.antt): its result is numbered in order
+  -- of use, and the places that it reads have the labels at its count.
+  pub table-by-rule : (E : ℕ → List ℕ) (F : Stage → Layer) → ((s : Stage) → F s .width ≡ widthOf s) → AllGood (map F (stages nr)) → (k : ℕ) → k < lookups nr
+      → tableAt E (map F (stages nr)) startNumbers k ≡ ruleIn E (F (stageOf nr k)) (indexOf nr k) (firstResult (widths nr) k) (labels (widths nr) k)
   -- Its table has the size of its kind, and stands behind the first byte of its stage or half.
   pub size-is : (k : ℕ) → k < lookups nr → tableSize nr k ≡ sizeOf (widthOf (stageOf nr k)) (indexOf nr k)
   pub offset-is : (k : ℕ) → k < lookups nr → tableOffset nr k ≡ firstByte nr (stageOf nr k) + offsetOf (widthOf (stageOf nr k)) (indexOf nr k)

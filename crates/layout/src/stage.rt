@@ -1,7 +1,7 @@
 // Where a lookup stands: document 01's table of stages.
 ghost use mathlib.Core.Path.{_≡_};
 ghost use Prim.Native.Nat.{_<_, _≤_};
-ghost use Rattle.layout.specs.Stages.{tenTablesBytes, placeOf, placeFrom, placeInRound, widthOf, shifted, sourceOf};
+ghost use Rattle.layout.specs.Stages.{tenTablesBytes, entryLookups, roundLookups, placeOf, placeFrom, placeInRound, widthOf, shifted, sourceOf};
 
 // The entry, the first and the second half of a round, the exit; or beyond the last lookup.
 pub enum Stage {
@@ -15,9 +15,28 @@ pub enum Stage {
 // The lookups of a set of ten rounds, the bytes of its tables, and its bytes.
 pub const LOOKUPS: usize = 3008;
 
-pub const TABLES_BYTES: usize = 770048;
+const TABLES_BYTES: usize = 770048;
 
 pub const SET_BYTES: usize = TABLES_BYTES;
+
+// The lookups of the entry, which are as many as those of the exit, of a half and of a round.
+pub const ENTRY_LOOKUPS: usize = 496;
+
+pub const HALF_LOOKUPS: usize = 112;
+
+const ROUND_LOOKUPS: usize = 224;
+
+// The exit's first lookup, of ten rounds.
+const EXIT_FIRST: usize = 2512;
+
+// Where tables begin: those of round 1's first and second half, and of ten rounds' exit. A round has `ROUND_BYTES` bytes of tables.
+const FIRST_HALF_START: usize = 126976;
+
+const SECOND_HALF_START: usize = 155648;
+
+const EXIT_START: usize = 643072;
+
+const ROUND_BYTES: usize = 57344;
 
 // A lookup's stage or half, its number there, and the size and the offset of its table.
 pub struct Place {
@@ -29,7 +48,7 @@ pub struct Place {
 
 // Lookup j of a stage or half whose tables begin at `start` and whose words have `width` bytes.
 fn placed(stage: Stage, width: usize, start: usize, j: usize) -> Place
-    requires { ⌜ (width ≤ 16) × (start ≤ tenTablesBytes) × (j < 496) ⌝ }
+    requires { ⌜ (width ≤ 16) × (start ≤ tenTablesBytes) × (j < entryLookups) ⌝ }
     ensures { λ r. ⌜ r ≡ placeFrom stage width start j ⌝ }
 {
     match j {
@@ -50,13 +69,18 @@ fn placed(stage: Stage, width: usize, start: usize, j: usize) -> Place
 
 // Lookup j of a round.
 fn in_round(round: usize, j: usize) -> Place
-    requires { ⌜ (1 ≤ round) × (round ≤ 9) × (j < 224) ⌝ }
-    ensures { λ r. ⌜ r ≡ placeInRound round j ⌝ }
+    requires { ⌜ (1 ≤ round) × (round ≤ 9) × (j < roundLookups) ⌝ }
+    ensures { λ r. ⌜ r ≡ placeInRound 10 round j ⌝ }
 {
-    let before = 57344 * (round - 1);
+    let before = ROUND_BYTES * (round - 1);
     match j {
-        0..=111 => placed(Stage::First(round), 4, 126976 + before, j),
-        _ => placed(Stage::Second(round), 4, 155648 + before, j - 112),
+        0..=111 => placed(Stage::First(round), 4, FIRST_HALF_START + before, j),
+        _ => placed(
+            Stage::Second(round),
+            4,
+            SECOND_HALF_START + before,
+            j - HALF_LOOKUPS,
+        ),
     }
 }
 
@@ -66,8 +90,11 @@ pub fn place_of(n: usize) -> Place
 {
     match n {
         0..=495 => placed(Stage::Entry, 16, 0, n),
-        496..=2511 => in_round((n - 496) / 224 + 1, (n - 496) % 224),
-        2512..=3007 => placed(Stage::Exit, 16, 643072, n - 2512),
+        496..=2511 => in_round(
+            (n - ENTRY_LOOKUPS) / ROUND_LOOKUPS + 1,
+            (n - ENTRY_LOOKUPS) % ROUND_LOOKUPS,
+        ),
+        2512..=3007 => placed(Stage::Exit, 16, EXIT_START, n - EXIT_FIRST),
         _ => Place {
             stage: Stage::Beyond,
             index: n - LOOKUPS,
@@ -92,7 +119,6 @@ pub fn width_of(stage: Stage) -> usize
 
 // The row shift of FIPS 197: "position p = 4c+q: read byte j = 4((c+q) mod 4)+q".
 pub fn shifted(p: usize) -> usize
-    requires { ⌜ p < 16 ⌝ }
     ensures { λ r. ⌜ (r ≡ shifted p) × (r < 16) ⌝ }
 {
     4 * ((p / 4 + p % 4) % 4) + p % 4
@@ -100,8 +126,7 @@ pub fn shifted(p: usize) -> usize
 
 // The standing byte that spread lookup p reads.
 pub fn source_of(stage: Stage, p: usize) -> usize
-    requires { ⌜ p < 16 ⌝ }
-    ensures { λ r. ⌜ (r ≡ sourceOf shifted stage p) × (r < 16) ⌝ }
+    ensures { λ r. ⌜ (r ≡ sourceOf shifted stage p) × (p < 16 → r < 16) ⌝ }
 {
     match stage {
         Stage::Entry => p,

@@ -6,9 +6,11 @@ ghost use lib.ListN.{length};
 ghost use Rattle.network.specs.Lookups.{xorArea, zeroArea};
 ghost use Rattle.network.specs.Order.{xors, layerLookups};
 ghost use Rattle.network.specs.Sizes.{layerBytes};
-ghost use Rattle.layout.specs.Stages.{widthOf, shapeAt, shifted, tenSetBytes};
+ghost use Rattle.layout.specs.Stages.{widthOf, shapeAt, shifted};
 ghost use Rattle.lookups.specs.InPlace.{Fits, XorIn, LookedUp, spreadsIn, xorsIn, sumsIn};
 use crate::area;
+use layout::stage::ENTRY_LOOKUPS;
+use layout::stage::HALF_LOOKUPS;
 use layout::stage::Stage;
 use layout::stage::source_of;
 use layout::stage::width_of;
@@ -18,7 +20,11 @@ pub fn lookups_of(width: usize) -> usize
     requires { ⌜ ((width ≡ 4) ⊎ (width ≡ 16)) ⌝ }
     ensures { λ r. ⌜ r ≡ layerLookups width ⌝ }
 {
-    if width == 16 { 496 } else { 112 }
+    if width == 16 {
+        ENTRY_LOOKUPS
+    } else {
+        HALF_LOOKUPS
+    }
 }
 
 // XOR lookup x of a stage or half. Entry and exit have one group of 16 words, a half has four of 4 words.
@@ -74,7 +80,7 @@ fn xor_pair_in(area: &mut [u8; 256], high: &[u8], low: &[u8], width: usize, y: u
 
 // All spread lookups of a stage or half, whose tables begin at byte `from` of the set.
 fn spread_all(standing: &[u8; 16], area: &mut [u8; 256], set: &[u8], from: usize, stage: Stage)
-    requires { ⌜ (length (now set) ≡ tenSetBytes) × (from + layerBytes (widthOf stage) ≤ tenSetBytes) × (length (now area) ≡ 256) × (length (now standing) ≡ 16) ⌝ }
+    requires { ⌜ (from + layerBytes (widthOf stage) ≤ length (now set)) × (length (now area) ≡ 256) × (length (now standing) ≡ 16) ⌝ }
     ensures { λ _. ⌜ now (area .exit) ≡ spreadsIn (shapeAt shifted stage) (now (set .entry)) from (now (standing .entry)) 16 (now (area .entry)) ⌝ }
     ensures { λ _. ⌜ length (now (area .exit)) ≡ 256 ⌝ }
 {
@@ -92,7 +98,7 @@ fn spread_all(standing: &[u8; 16], area: &mut [u8; 256], set: &[u8], from: usize
 
 // All XOR lookups of a stage or half, whose tables begin at byte `from` of the set, behind those of the spread lookups.
 fn xor_all(area: &mut [u8; 256], set: &[u8], from: usize, width: usize)
-    requires { ⌜ (length (now set) ≡ tenSetBytes) × (from + layerBytes width ≤ tenSetBytes) × (length (now area) ≡ 256) × ((width ≡ 4) ⊎ (width ≡ 16)) ⌝ }
+    requires { ⌜ (from + layerBytes width ≤ length (now set)) × (length (now area) ≡ 256) × ((width ≡ 4) ⊎ (width ≡ 16)) ⌝ }
     ensures { λ _. ⌜ now (area .exit) ≡ xorsIn width (now (set .entry)) from (xors width) (now (area .entry)) ⌝ }
     ensures { λ _. ⌜ length (now (area .exit)) ≡ 256 ⌝ }
 {
@@ -116,7 +122,7 @@ pub fn layer_in(
     from: usize,
     stage: Stage,
 )
-    requires { ⌜ (length (now set) ≡ tenSetBytes) × (from + layerBytes (widthOf stage) ≤ tenSetBytes) × ((widthOf stage ≡ 4) ⊎ (widthOf stage ≡ 16)) × (length (now area) ≡ 256) × (length (now standing) ≡ 16) ⌝ }
+    requires { ⌜ (from + layerBytes (widthOf stage) ≤ length (now set)) × ((widthOf stage ≡ 4) ⊎ (widthOf stage ≡ 16)) × (length (now area) ≡ 256) × (length (now standing) ≡ 16) ⌝ }
     ensures { λ _. ⌜ now (standing .exit) ≡ sumsIn (shapeAt shifted stage) (now (set .entry)) from (now (standing .entry)) (now (area .entry)) ⌝ }
     ensures { λ _. ⌜ now (area .exit) ≡ zeroArea ⌝ }
 {

@@ -1,42 +1,55 @@
 // The maker: reads a key and then a bundle to the end of the input, and writes the tables of their set in order, or the refusal.
+ghost use mathlib.Core.Path.{_≡_};
+ghost use lib.ListN.{length};
+ghost use Rattle.layout.specs.Stages.{tenSetBytes};
+ghost use Rattle.streams.specs.Written.{Written};
+ghost use Rattle.maker.specs.Writes.{makerWrites, Runs};
 use answers::Answer;
-use answers::cause;
-use answers::second;
 use bundle::frame::LONGEST;
 use layout::stage::SET_BYTES;
-use libc::STDIN_FILENO;
-use libc::STDOUT_FILENO;
+use streams::line::refusal_line;
+use streams::stream::receive;
+use streams::stream::send;
 use tables::calls::make_set;
 
-// Writes a refusal, with both of its numbers.
-fn refuse(answer: Answer) {
-    io::write_all(STDOUT_FILENO, b"refused ");
-    io::print_decimal(STDOUT_FILENO, cause(answer) as u64);
-    io::write_all(STDOUT_FILENO, b" ");
-    io::print_decimal(STDOUT_FILENO, second(answer) as u64);
-    io::write_all(STDOUT_FILENO, b"\n");
-}
-
-// Makes the set and writes what came of it.
-fn make(key: &[u8], bundle: &[u8], set: &mut [u8]) {
-    let answer = make_set(key, bundle, set);
-    let Answer::Accepted = answer else {
-        refuse(answer);
-        return;
+// What the maker writes for a key and a bundle, at the front of the lent memory: the set, or the refusal's line. Its length.
+fn make(key: &[u8], bundle: &[u8], memory: &mut [u8]) -> usize
+    requires { ⌜ length (now memory) ≡ tenSetBytes ⌝ }
+    ensures { λ r. ⌜ Written (makerWrites 4 (now (key .entry)) (now (bundle .entry))) (now (memory .entry)) r (now (memory .exit)) ⌝ }
+{
+    let answer = make_set(key, bundle, memory);
+    let Answer::Refused(refusal) = answer else {
+        return memory.len();
     };
-    io::write_all(STDOUT_FILENO, set);
+    refusal_line(refusal, memory)
 }
 
-// One byte more than the longest bundle tells a longer one, which the call then turns down.
-fn work(set: &mut [u8; SET_BYTES]) {
+// Reads, and makes what is to be written. One byte more than the longest bundle tells a longer one, which the call then turns down.
+fn run(memory: &mut [u8]) -> usize
+    requires { ⌜ length (now memory) ≡ tenSetBytes ⌝ }
+    ensures { λ r. ⌜ Runs 4 (now (memory .entry)) r (now (memory .exit)) ⌝ }
+{
     let mut key = [0u8; 16];
     let mut bundle = [0u8; LONGEST + 1];
-    let k = io::read_full(STDIN_FILENO, &mut key);
-    let b = io::read_full(STDIN_FILENO, &mut bundle);
-    make(&key[..k], &bundle[..b], set);
+    let k = receive(&mut key);
+    let b = receive(&mut bundle);
+    make(&key[..k], &bundle[..b], memory)
+}
+
+// Reads, makes what is to be written, and writes it to standard output.
+fn work(memory: &mut [u8])
+    requires { ⌜ length (now memory) ≡ tenSetBytes ⌝ }
+{
+    let n = run(memory);
+    send(&memory[..n]);
+}
+
+// Lends the array on as a slice: an array of this size can only be lent on from a function of its own.
+fn as_slice(set: &mut [u8; SET_BYTES]) {
+    work(set);
 }
 
 fn main() {
     let mut set = [0u8; SET_BYTES];
-    work(&mut set);
+    as_slice(&mut set);
 }

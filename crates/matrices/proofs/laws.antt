@@ -1,5 +1,6 @@
 pub mod Matrices
 pub mod Rows
 pub mod Stored
+pub mod Words
 pub mod Products
 pub mod Cases

@@ -1,4 +1,5 @@
 pub mod Matrices
 pub mod Products
 pub mod Rows
+pub mod Words
 pub mod Cases

@@ -2,10 +2,8 @@
 -- each once over the number n of rows; n = 8, 32 and 128 are instances.
 use mathlib.Core.List.{List}
 use mathlib.Core.Path.{_≡_}
-use Prim.Native.Nat.{ℕ, _*_, _^_, _<_}
+use Prim.Native.Nat.{ℕ, _^_, _<_}
 use lib.Bits.{bitXor}
-use Rattle.bits.specs.Bytes.{byte, placed}
-use Rattle.bits.specs.Groups.{xorAll}
 use Rattle.bits.specs.Vectors.{bit, dot}
 use Rattle.bits.specs.Lists.{at}
 use Rattle.matrices.specs.Matrices.{product, identity}
@@ -24,7 +22,3 @@ Linear = (n : ℕ) (m : List ℕ) (x y : ℕ) → product n m (bitXor x y) ≡ b
 -- The identity's product is the vector.
 abbrev pub Neutral : Type 0
 Neutral = (n v : ℕ) → v < 2 ^ n → product n (identity n) v ≡ v
-
--- A vector of n bytes is the xor of its bytes, each placed alone in n bytes that are else 0.
-abbrev pub Placed : Type 0
-Placed = (n v : ℕ) → v < 2 ^ (8 * n) → xorAll n (λ i. placed n i (byte n i v)) ≡ v

@@ -18,7 +18,8 @@ ghost use Rattle.layout.specs.Stages.{widthOf, shifted, numbersOf};
 ghost use Rattle.whitebox.specs.Bundles.{codingsOf};
 ghost use Rattle.whitebox.specs.Parts.{forward};
 ghost use Rattle.whitebox.specs.Tables.{layerOf};
-ghost use Rattle.layers.specs.Layers.{roundOf, InverseFor, acted, wordNumber, readByte};
+ghost use Rattle.layers.specs.Layers.{InRounds, inverseFor, Begins};
+ghost use Rattle.stages.specs.Spread.{acted, wordNumber, readByte};
 use bundle::parts;
 use bundle::sections;
 use entries::lists;
@@ -32,7 +33,7 @@ use layout::stage::Stage;
 
 // The bytes that position p reads, decoded.
 fn read_bytes(bundle: &[u8], s: Stage, p: usize, dst: &mut [u8])
-    requires { ⌜ (judge 10 (now bundle) ≡ Accepted) × (1 ≤ roundOf s) × (roundOf s ≤ 9) × (p < 16) × (length (now dst) ≡ 256) ⌝ }
+    requires { ⌜ (judge 10 (now bundle) ≡ Accepted) × InRounds 10 s × (p < 16) × (length (now dst) ≡ 256) ⌝ }
     ensures { λ _. ⌜ now (dst .exit) ≡ tabulate 256 (readByte 10 shifted (now (bundle .entry)) s p) ⌝ }
 {
     let j = stage::source_of(s, p);
@@ -43,7 +44,7 @@ fn read_bytes(bundle: &[u8], s: Stage, p: usize, dst: &mut [u8])
 
 // For each of them, the byte that its word is linear in.
 fn values_of(bundle: &[u8], keys: &[u8], s: Stage, p: usize, dst: &mut [u8])
-    requires { ⌜ (judge 10 (now bundle) ≡ Accepted) × (length (now keys) ≡ 176) × (1 ≤ roundOf s) × (roundOf s ≤ 9) × (p < 16) × (length (now dst) ≡ 256) ⌝ }
+    requires { ⌜ (judge 10 (now bundle) ≡ Accepted) × (length (now keys) ≡ 176) × InRounds 10 s × (p < 16) × (length (now dst) ≡ 256) ⌝ }
     ensures { λ _. ⌜ now (dst .exit) ≡ tabulate 256 (λ x. acted (forward 10 (now (keys .entry))) (codingsOf 10 (now (bundle .entry))) 10 s p (readByte 10 shifted (now (bundle .entry)) s p x)) ⌝ }
 {
     match s {
@@ -65,7 +66,7 @@ fn values_of(bundle: &[u8], keys: &[u8], s: Stage, p: usize, dst: &mut [u8])
 
 // The words of the bytes 2^0 to 2^7; `inverse` is the one that they are made with, if any.
 fn basis_of(bundle: &[u8], inverse: &[u64], s: Stage, p: usize, basis: &mut [u64])
-    requires { ⌜ (judge 10 (now bundle) ≡ Accepted) × InverseFor (now bundle) s p (now inverse) × (1 ≤ roundOf s) × (roundOf s ≤ 9) × (p < 16) × (length (now basis) ≡ 16) ⌝ }
+    requires { ⌜ (judge 10 (now bundle) ≡ Accepted) × Begins (inverseFor 10 (now bundle) s p) (now inverse) × InRounds 10 s × (p < 16) × (length (now basis) ≡ 16) ⌝ }
     ensures { λ _. ⌜ ((w : List ℕ) → now (basis .exit) ≡ stored 8 (λ k. wordNumber (forward 10 w) (codingsOf 10 (now (bundle .entry))) s p (2 ^ k)) (now (basis .entry))) ⌝ }
 {
     match s {
@@ -89,7 +90,7 @@ fn basis_of(bundle: &[u8], inverse: &[u64], s: Stage, p: usize, basis: &mut [u64
 
 // Spread table p.
 fn spread_table(bundle: &[u8], keys: &[u8], inverse: &[u64], s: Stage, p: usize, dst: &mut [u8])
-    requires { ⌜ (judge 10 (now bundle) ≡ Accepted) × InverseFor (now bundle) s p (now inverse) × (length (now keys) ≡ 176) × (1 ≤ roundOf s) × (roundOf s ≤ 9) × (p < 16) × (length (now dst) ≡ 256 * widthOf s) ⌝ }
+    requires { ⌜ (judge 10 (now bundle) ≡ Accepted) × Begins (inverseFor 10 (now bundle) s p) (now inverse) × (length (now keys) ≡ 176) × InRounds 10 s × (p < 16) × (length (now dst) ≡ 256 * widthOf s) ⌝ }
     ensures { λ _. ⌜ now (dst .exit) ≡ spreadTable (codingsOf 10 (now (bundle .entry)) .encoding) (layerOf (forward 10 (now (keys .entry))) (codingsOf 10 (now (bundle .entry))) 10 s) (numbersOf 10 s) p ⌝ }
 {
     let m = stage::width_of(s);
@@ -135,7 +136,7 @@ fn xor_table(bundle: &[u8], m: usize, first: usize, x: usize, dst: &mut [u8])
 
 // Table j of a stage or half; only a spread table has a use for the inverse.
 pub fn write(bundle: &[u8], keys: &[u8], inverse: &[u64], s: Stage, j: usize, dst: &mut [u8])
-    requires { ⌜ (judge 10 (now bundle) ≡ Accepted) × (j < 16 → InverseFor (now bundle) s j (now inverse)) × (length (now keys) ≡ 176) × (1 ≤ roundOf s) × (roundOf s ≤ 9) × (j < layerLookups (widthOf s)) × (length (now dst) ≡ sizeOf (widthOf s) j) ⌝ }
+    requires { ⌜ (judge 10 (now bundle) ≡ Accepted) × Begins (inverseFor 10 (now bundle) s j) (now inverse) × (length (now keys) ≡ 176) × InRounds 10 s × (j < layerLookups (widthOf s)) × (length (now dst) ≡ sizeOf (widthOf s) j) ⌝ }
     ensures { λ _. ⌜ now (dst .exit) ≡ tableIn (codingsOf 10 (now (bundle .entry)) .encoding) (layerOf (forward 10 (now (keys .entry))) (codingsOf 10 (now (bundle .entry))) 10 s) (numbersOf 10 s) j ⌝ }
 {
     if j < 16 {

@@ -1,23 +1,46 @@
--- What the maker's calls answer. The lent memory then holds the set or the table, or what it held (`ifAccepted` of crate answers). Definitions only.
+-- What the maker's calls answer, and what they leave in the lent memory: the set or the table, or what it held. Over keys of nk words, whose ciphers
+-- have roundsOf nk rounds; the calls are those for AES-128, 4 words and ten rounds. Definitions only.
 use mathlib.Core.Bool.{not}
 use mathlib.Core.List.{List}
-use Prim.Native.Nat.{ℕ}
+use Prim.Native.Nat.{ℕ, _*_}
 use lib.Dec.{ltb}
-use Rattle.answers.specs.Answers.{refusedIf, wantsLength, andThen}
+use lib.ListN.{length}
+use Rattle.answers.specs.Answers.{refusedIf, wantsLength, andThen, ifAccepted}
 use Rattle.answers.specs.declared.Answer.{Answer}
 use Rattle.answers.specs.declared.Refusal.the-variants.{KeyLength, TableNumber, SetLength}
+use Rattle.round.specs.Key.{roundsOf}
 use Rattle.judgement.specs.Judge.{judge}
 use Rattle.layout.specs.Stages.{lookups, setBytes, tableSize}
+use Rattle.whitebox.specs.Bundles.{madeSet, madeTable}
 
--- 1, "key not 16 bytes", then 2 to 7 by the bundle's judgement. Here the length of the key.
-unfoldable pub judged : ℕ → List ℕ → Answer
-judged key l = andThen (wantsLength 16 key KeyLength) (judge 10 l)
+module _ (nk : ℕ) where
+  -- 1, "key not 16 bytes", then 2 to 7 by the bundle's judgement. Here the length of the key.
+  unfoldable pub judgedFor : ℕ → List ℕ → Answer
+  judgedFor key l = andThen (wantsLength (4 * nk) key KeyLength) (judge (roundsOf nk) l)
 
--- Then 9, "set or single table of wrong length". Here the lengths of key and memory.
-unfoldable pub setAnswer : ℕ → List ℕ → ℕ → Answer
-setAnswer key l memory = andThen (judged key l) (wantsLength (setBytes 10) memory SetLength)
+  -- Then 9, "set or single table of wrong length". Here the lengths of key and memory.
+  unfoldable pub setAnswerFor : ℕ → List ℕ → ℕ → Answer
+  setAnswerFor key l memory = andThen (judgedFor key l) (wantsLength (setBytes (roundsOf nk)) memory SetLength)
 
--- For one table 8, "table number above 3,007", before 9.
-unfoldable pub tableAnswer : ℕ → List ℕ → ℕ → ℕ → Answer
-tableAnswer key l number memory =
-    andThen (judged key l) (andThen (refusedIf (not (ltb number (lookups 10))) TableNumber) (wantsLength (tableSize 10 number) memory SetLength))
+  -- For one table 8, "table number above 3,007", before 9.
+  unfoldable pub tableAnswerFor : ℕ → List ℕ → ℕ → ℕ → Answer
+  tableAnswerFor key l number memory =
+      andThen (judgedFor key l)
+      (andThen (refusedIf (not (ltb number (lookups (roundsOf nk)))) TableNumber) (wantsLength (tableSize (roundsOf nk) number) memory SetLength))
+
+  -- What the calls leave in a memory that held the bytes `held`: the contracts of `make_set` and `make_table` cite these.
+  abbrev pub setLeft : List ℕ → List ℕ → List ℕ → List ℕ
+  setLeft key l held = ifAccepted (setAnswerFor (length key) l (length held)) (madeSet nk key l) held
+
+  abbrev pub tableLeft : List ℕ → List ℕ → ℕ → List ℕ → List ℕ
+  tableLeft key l n held = ifAccepted (tableAnswerFor (length key) l n (length held)) (madeTable nk key l n) held
+
+-- ---- the calls
+abbrev pub judged : ℕ → List ℕ → Answer
+judged = judgedFor 4
+
+abbrev pub setAnswer : ℕ → List ℕ → ℕ → Answer
+setAnswer = setAnswerFor 4
+
+abbrev pub tableAnswer : ℕ → List ℕ → ℕ → ℕ → Answer
+tableAnswer = tableAnswerFor 4

@@ -2,12 +2,11 @@
 ghost use mathlib.Core.Path.{_≡_};
 ghost use Prim.Native.Nat.{_<_};
 ghost use lib.ListN.{length};
-ghost use Rattle.answers.specs.Answers.{ifAccepted};
 ghost use Rattle.answers.specs.declared.Answer.the-variants.{Accepted};
 ghost use Rattle.judgement.specs.Judge.{judge};
 ghost use Rattle.layout.specs.Stages.{tableSize, tenLookups, tenSetBytes};
 ghost use Rattle.whitebox.specs.Bundles.{madeSet, madeTable};
-ghost use Rattle.tables.specs.Calls.{judged, setAnswer, tableAnswer};
+ghost use Rattle.tables.specs.Calls.{judged, setAnswer, tableAnswer, setLeft, tableLeft};
 use crate::set;
 use answers::Answer;
 use answers::Refusal;
@@ -22,8 +21,8 @@ fn fill_set(key: &[u8], bundle: &[u8], memory: &mut [u8])
     ensures { λ _. ⌜ now (memory .exit) ≡ madeSet 4 (now (key .entry)) (now (bundle .entry)) ⌝ }
 {
     let keys = round::key::expand_key(load(key));
-    let mut columns = [0u64; inverses::COLUMN_WORDS];
-    let mut input = [0u64; 256];
+    let mut columns = [0u64; inverses::COLUMNS_WORDS];
+    let mut input = [0u64; inverses::INPUT_WORDS];
     inverses::of_columns(bundle, &mut columns);
     inverses::of_input(bundle, &mut input);
     set::write_all(bundle, &keys, &columns, &input, memory);
@@ -38,7 +37,7 @@ fn fill_table(key: &[u8], bundle: &[u8], n: usize, memory: &mut [u8])
     let place = stage::place_of(n);
     let s = place.stage;
     let j = place.index;
-    let mut inverse = [0u64; 256];
+    let mut inverse = [0u64; inverses::INPUT_WORDS];
     inverses::of_table(bundle, s, j, &mut inverse);
     set::write_one(bundle, &keys, &inverse, n, memory);
 }
@@ -56,7 +55,7 @@ fn judged(key: &[u8], bundle: &[u8]) -> Answer
 // The whole set, into the lent memory.
 pub fn make_set(key: &[u8], bundle: &[u8], memory: &mut [u8]) -> Answer
     ensures answer { λ r. ⌜ r ≡ setAnswer (length (now (key .entry))) (now (bundle .entry)) (length (now (memory .entry))) ⌝ }
-    ensures bytes { λ r. ⌜ now (memory .exit) ≡ ifAccepted r (madeSet 4 (now (key .entry)) (now (bundle .entry))) (now (memory .entry)) ⌝ }
+    ensures bytes { λ _. ⌜ now (memory .exit) ≡ setLeft 4 (now (key .entry)) (now (bundle .entry)) (now (memory .entry)) ⌝ }
 {
     let answer = judged(key, bundle);
     let Answer::Accepted = answer else {
@@ -72,7 +71,7 @@ pub fn make_set(key: &[u8], bundle: &[u8], memory: &mut [u8]) -> Answer
 // One table, into the lent memory.
 pub fn make_table(key: &[u8], bundle: &[u8], number: usize, memory: &mut [u8]) -> Answer
     ensures answer { λ r. ⌜ r ≡ tableAnswer (length (now (key .entry))) (now (bundle .entry)) number (length (now (memory .entry))) ⌝ }
-    ensures bytes { λ r. ⌜ now (memory .exit) ≡ ifAccepted r (madeTable 4 (now (key .entry)) (now (bundle .entry)) number) (now (memory .entry)) ⌝ }
+    ensures bytes { λ _. ⌜ now (memory .exit) ≡ tableLeft 4 (now (key .entry)) (now (bundle .entry)) number (now (memory .entry)) ⌝ }
 {
     let answer = judged(key, bundle);
     let Answer::Accepted = answer else {

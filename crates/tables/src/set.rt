@@ -9,14 +9,14 @@ ghost use Rattle.layout.specs.Stages.{stageOf, indexOf, tableSize, tenLookups, 
 ghost use Rattle.whitebox.specs.Bundles.{codingsOf};
 ghost use Rattle.whitebox.specs.Parts.{forward};
 ghost use Rattle.whitebox.specs.Tables.{tableOf};
-ghost use Rattle.layers.specs.Layers.{Ready, InverseFor};
+ghost use Rattle.layers.specs.Layers.{columnInverses, inputInverse, inverseFor, Begins};
 use layers::inverses;
 use layout::stage;
 use stages::table;
 
-// Table n, with the inverse that it needs.
+// Table n; `inverse` begins with the one that it is made with.
 pub fn write_one(bundle: &[u8], keys: &[u8], inverse: &[u64], n: usize, dst: &mut [u8])
-    requires { ⌜ (judge 10 (now bundle) ≡ Accepted) × (indexOf 10 n < 16 → InverseFor (now bundle) (stageOf 10 n) (indexOf 10 n) (now inverse)) × (length (now keys) ≡ 176) × (n < tenLookups) × (length (now dst) ≡ tableSize 10 n) ⌝ }
+    requires { ⌜ (judge 10 (now bundle) ≡ Accepted) × Begins (inverseFor 10 (now bundle) (stageOf 10 n) (indexOf 10 n)) (now inverse) × (length (now keys) ≡ 176) × (n < tenLookups) × (length (now dst) ≡ tableSize 10 n) ⌝ }
     ensures { λ _. ⌜ now (dst .exit) ≡ tableOf (forward 10 (now (keys .entry))) (codingsOf 10 (now (bundle .entry))) 10 n ⌝ }
 {
     let place = stage::place_of(n);
@@ -25,7 +25,7 @@ pub fn write_one(bundle: &[u8], keys: &[u8], inverse: &[u64], n: usize, dst: &mu
     table::write(bundle, keys, inverse, s, j, dst);
 }
 
-// Every table, each into its own part of the lent memory.
+// Every table, each into its own part of the lent memory, from the inverses of all column matrices and of the input matrix.
 pub fn write_all<'a>(
     bundle: &[u8],
     keys: &[u8],
@@ -33,7 +33,7 @@ pub fn write_all<'a>(
     input: &'a [u64],
     memory: &mut [u8],
 )
-    requires { ⌜ Ready (now bundle) (now columns) (now input) × (length (now keys) ≡ 176) × (length (now memory) ≡ tenTablesBytes) ⌝ }
+    requires { ⌜ (judge 10 (now bundle) ≡ Accepted) × (now columns ≡ columnInverses 10 (now bundle)) × (now input ≡ inputInverse 10 (now bundle)) × (length (now keys) ≡ 176) × (length (now memory) ≡ tenTablesBytes) ⌝ }
     ensures { λ _. ⌜ now (memory .exit) ≡ concat tenLookups (tableOf (forward 10 (now (keys .entry))) (codingsOf 10 (now (bundle .entry))) 10) ⌝ }
 {
     let mut n: usize = 0;

@@ -235,12 +235,12 @@ fn run(mem: &[u8]) {
     }
 }
 
-fn work(mem: &mut [u8; 770049]) {
+fn work(mem: &mut [u8; SET_BYTES + 1]) {
     fill(mem);
     run(mem);
 }
 
 fn main() {
-    let mut mem = [0u8; 770049];
+    let mut mem = [0u8; SET_BYTES + 1];
     work(&mut mem);
 }

@@ -1,9 +1,15 @@
 // The walker: reads a block and then a set to the end of the input, and holds one table of it. It prints the answer in hex, or the refusal.
 ghost use mathlib.Core.Path.{_≡_};
+ghost use Prim.Native.Nat.{_≤_};
 ghost use lib.ListN.{length};
+ghost use Rattle.layout.specs.Stages.{shifted};
+ghost use Rattle.evaluate.specs.Held.{held};
+ghost use Rattle.streams.specs.Lines.{lineRoom};
+ghost use Rattle.streams.specs.Written.{Written};
+ghost use Rattle.walker.specs.Tables.{tableRoom, Next, OverInput};
+ghost use Rattle.walker.specs.Writes.{lineOf, Runs};
 use answers::Answer;
 use answers::Refusal;
-use answers::cause;
 use evaluate::walk::Move;
 use evaluate::walk::Walk;
 use evaluate::walk::fetch;
@@ -11,41 +17,35 @@ use evaluate::walk::move_one;
 use evaluate::walk::start;
 use layout::stage::LOOKUPS;
 use layout::stage::place_of;
-use libc::STDIN_FILENO;
-use libc::STDOUT_FILENO;
+use streams::line::ROOM;
+use streams::line::answer_line;
+use streams::line::cause_line;
+use streams::stream::receive;
+use streams::stream::send;
 
-fn wide(x: u8) -> u64 {
-    x as u64
+// Room for the largest table.
+const TABLE_ROOM: usize = 4096;
+
+// Reads the table of the next lookup into the lent memory, and makes the lookup.
+fn over_next(walk: Walk, table: &mut [u8]) -> Move
+    requires { ⌜ length (now table) ≡ tableRoom ⌝ }
+    ensures { λ r. ⌜ Next shifted 10 walk r ⌝ }
+{
+    let n = walk.count;
+    let p = place_of(n);
+    let size = p.size;
+    let got = receive(&mut table[..size]);
+    move_one(walk, &table[..got])
 }
 
-// Writes a block in lowercase hex, and a newline.
-fn show(block: [u8; 16]) {
-    let mut i = 0;
-    while i < 16 {
-        io::print_hex(STDOUT_FILENO, wide(block[i]), 2);
-        i += 1;
-    }
-    io::write_all(STDOUT_FILENO, b"\n");
-}
-
-// Writes a refusal.
-fn refuse(answer: Answer) {
-    io::write_all(STDOUT_FILENO, b"refused ");
-    io::print_decimal(STDOUT_FILENO, cause(answer) as u64);
-    io::write_all(STDOUT_FILENO, b"\n");
-}
-
-// Moves the walk over the tables as they are read, one lookup at a time, up to the last or to the first refusal.
+// Makes the lookups over the tables as they are read, up to the last or to the first refusal.
 fn over_input(walk: Walk, table: &mut [u8]) -> Move
-    requires { ⌜ length (now table) ≡ 4096 ⌝ }
+    requires { ⌜ length (now table) ≡ tableRoom ⌝ }
+    ensures { λ r. ⌜ OverInput shifted 10 (held walk) (r .answer) (held (r .walk)) ⌝ }
 {
     let mut w = walk;
-    let mut k: usize = 0;
-    while k < LOOKUPS {
-        let p = place_of(k);
-        let size = p.size;
-        let got = io::read_full(STDIN_FILENO, &mut table[..size]);
-        let m = move_one(w, &table[..got]);
+    while w.count < LOOKUPS {
+        let m = over_next(w, table);
         let answer = m.answer;
         w = m.walk;
         let Answer::Accepted = answer else {
@@ -54,7 +54,6 @@ fn over_input(walk: Walk, table: &mut [u8]) -> Move
                 walk: w,
             };
         };
-        k += 1;
     }
     Move {
         answer: Answer::Accepted,
@@ -62,35 +61,49 @@ fn over_input(walk: Walk, table: &mut [u8]) -> Move
     }
 }
 
-// Walks over the set, judges its end and writes what came of it.
-fn finish(walk: Walk) {
-    let mut table = [0u8; 4096];
+// What is written for a walk behind its last table, where `rest` bytes more were read. Its length.
+fn line_of(walk: Walk, rest: usize, line: &mut [u8]) -> usize
+    requires { ⌜ lineRoom ≤ length (now line) ⌝ }
+    ensures { λ r. ⌜ Written (lineOf 10 (held walk) rest) (now (line .entry)) r (now (line .exit)) ⌝ }
+{
+    if rest > 0 {
+        return cause_line(Refusal::SetLength, line);
+    }
+    let mut block = [0u8; 16];
+    let answer = fetch(walk, &mut block);
+    let Answer::Refused(refusal) = answer else {
+        return answer_line(&block, line);
+    };
+    cause_line(refusal, line)
+}
+
+// Reads, walks and tells what is to be written. One byte behind the last table tells a set that is too long.
+fn run(line: &mut [u8]) -> usize
+    requires { ⌜ lineRoom ≤ length (now line) ⌝ }
+    ensures { λ r. ⌜ Runs 10 (now (line .entry)) r (now (line .exit)) ⌝ }
+{
+    let mut block = [0u8; 16];
+    let got = receive(&mut block);
+    let opening = start(&block[..got]);
+    let opened = opening.answer;
+    let walk = opening.walk;
+    if let Answer::Refused(refusal) = opened {
+        return cause_line(refusal, line);
+    }
+    let mut table = [0u8; TABLE_ROOM];
     let m = over_input(walk, &mut table);
     let answer = m.answer;
     let w = m.walk;
-    let Answer::Accepted = answer else {
-        refuse(answer);
-        return;
-    };
-    let mut rest = [0u8; 1];
-    if io::read_full(STDIN_FILENO, &mut rest) != 0 {
-        refuse(Answer::Refused(Refusal::SetLength));
-        return;
+    if let Answer::Refused(refusal) = answer {
+        return cause_line(refusal, line);
     }
-    let mut block = [0u8; 16];
-    fetch(w, &mut block);
-    show(block);
+    let mut more = [0u8; 1];
+    let rest = receive(&mut more);
+    line_of(w, rest, line)
 }
 
 fn main() {
-    let mut block = [0u8; 16];
-    let got = io::read_full(STDIN_FILENO, &mut block);
-    let opening = start(&block[..got]);
-    let answer = opening.answer;
-    let walk = opening.walk;
-    let Answer::Accepted = answer else {
-        refuse(answer);
-        return;
-    };
-    finish(walk);
+    let mut line = [0u8; ROOM];
+    let n = run(&mut line);
+    send(&line[..n]);
 }

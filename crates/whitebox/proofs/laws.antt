@@ -6,5 +6,9 @@ pub mod Calls
 pub mod Set
 pub mod InRange
 pub mod Bundles
+pub mod FreeBytes
+pub mod Joined
 pub mod Demands
 pub mod Cases
+pub mod Witness
+pub mod Zeros

@@ -4,7 +4,7 @@ use mathlib.Core.Bool.{cond}
 use mathlib.Core.List.{List}
 use Prim.Native.Nat.{ℕ}
 use lib.Dec.{ltb}
-use Rattle.bits.specs.Lists.{tabulate}
+use Rattle.bits.specs.Encodings.{plainEncoding}
 use Rattle.matrices.specs.Matrices.{identity}
 use Rattle.round.specs.Key.{KeyExpansion, roundsOf}
 use Rattle.bundle.specs.Format.{encodings, byteMatrices, columnMatrices, encodingOf, byteMatrix, columnMatrix, inputMatrix, outputMatrix}
@@ -14,10 +14,6 @@ use Rattle.whitebox.specs.Codings.{Codings}
 use Rattle.whitebox.specs.Parts.{Parts, forward}
 use Rattle.whitebox.specs.Tables.{tableOf, setOf}
 use Rattle.whitebox.specs.Values.{stateDue}
-
--- The encoding that changes nothing.
-unfoldable pub plainEncoding : List ℕ
-plainEncoding = tabulate 16 (λ v. v)
 
 -- The bundle's encodings and matrices by number. Behind the last number stand some that change nothing; no table uses them (InRange.antt).
 unfoldable pub codingsOf : ℕ → List ℕ → Codings

@@ -57,6 +57,10 @@ pub data Call : Type 0 where
   -- A fetch: the lent block.
   fetch : List ℕ → Call
 
+-- The part of a set's memory that is table k.
+abbrev pub tablePart : ℕ → List ℕ → ℕ → List ℕ
+tablePart nr mem k = take (tableSize nr k) (drop (tableOffset nr k) mem)
+
 -- `reads` is the byte that a position of a first half or of the exit reads.
 module _ (reads : ℕ → ℕ) (nr : ℕ) where
   -- One lookup over the table t.
@@ -66,7 +70,7 @@ module _ (reads : ℕ → ℕ) (nr : ℕ) where
   -- n lookups over the set's memory, each over the part that its table is.
   unfoldable pub advance : List ℕ → ℕ → State → State
   advance mem zero s = s
-  advance mem (suc n) s = advance mem n (step (take (tableSize nr (s .count)) (drop (tableOffset nr (s .count)) mem)) s)
+  advance mem (suc n) s = advance mem n (step (tablePart nr mem (s .count)) s)
 
   unfoldable pub answer : Call → Held → Answer
   answer (toStop mem stop) w = judgeStop nr (length mem) stop (w .state .count)

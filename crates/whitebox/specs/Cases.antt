@@ -4,21 +4,17 @@ use mathlib.Core.Path.{_≡_}
 use Prim.Native.Nat.{ℕ, _≤_, _<_}
 use lib.ListN.{replicate}
 use Rattle.bits.specs.Lists.{at}
-use Rattle.matrices.specs.Matrices.{product, identity}
+use Rattle.matrices.specs.Matrices.{product}
 use Rattle.field.specs.Field.{mul}
 use Rattle.field.specs.Sbox.{sboxOf}
-use Rattle.bundle.specs.Format.{encodings, byteMatrices, columnMatrices, encodingOf, byteMatrix, columnMatrix, inputMatrix, outputMatrix}
+use Rattle.bundle.specs.Built.{Plain}
 use Rattle.judgement.specs.Cases.{List0, Byte159}
 use Rattle.layout.specs.Stages.{shifted, tableOffset, lookups, indexOf}
-use Rattle.whitebox.specs.Bundles.{plainEncoding, madeTable}
+use Rattle.whitebox.specs.Bundles.{madeTable}
 
 -- "The plain bundle has lists and matrices that change nothing."
-pub record PlainBundle (l : List ℕ) : Type 0 where
-  pub lists : (n : ℕ) → n < encodings 10 → encodingOf 10 l n ≡ plainEncoding
-  pub bytes : (n : ℕ) → n < byteMatrices 10 → byteMatrix 10 l n ≡ identity 8
-  pub columns : (n : ℕ) → n < columnMatrices 10 → columnMatrix 10 l n ≡ identity 32
-  pub input : inputMatrix 10 l ≡ identity 128
-  pub output : outputMatrix 10 l ≡ identity 128
+abbrev pub PlainBundle : List ℕ → Type 0
+PlainBundle l = Plain 10 l
 
 pub record Starred : Type 0 where
   -- "S(00) = 63, S(53) = ed; 02 times 57 = ae (hex)."

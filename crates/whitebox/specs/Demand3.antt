@@ -16,7 +16,7 @@ use Rattle.network.specs.Rule.{labelOf, under, labels}
 use Rattle.network.specs.Theorems.{Reads}
 use Rattle.layout.specs.Stages.{shifted, widths, lookups}
 use Rattle.whitebox.specs.Bundles.{codingsOf, partsOf, madeSet, madeTable, dueAt, dueHeld}
-use Rattle.whitebox.specs.Calls.{judgeStart, started, Call, toStop, reply, handed, serve, lastWalk}
+use Rattle.whitebox.specs.Calls.{judgeStart, started, Call, toStop, reply, handed, Served, serve, lastWalk}
 use Rattle.whitebox.specs.PlainCount.{argsOf, plainCount, Lent, dueServed, Alike, seen}
 use Rattle.whitebox.specs.Values.{dueStanding, dueArea}
 
@@ -33,12 +33,16 @@ pub record Presented (x : List ℕ) : Type 0 where
   pub started : judgeStart (length x) ≡ Accepted
 
 -- ---- a list of calls
+-- What the calls cs are to answer over the set of a key and a bundle, for the presented block x.
+abbrev pub dueFor : ℕ → List ℕ → List ℕ → List ℕ → List Call → List Served
+dueFor nk key l x cs =
+    dueServed (roundsOf nk) (dueHeld nk key l (decodeInput (roundsOf nk) l x))
+    (encodeOutput (roundsOf nk) l (encipherOf nk key (decodeInput (roundsOf nk) l x))) 0 cs
+
 pub record Answered (nk : ℕ) (key l x : List ℕ) (cs : List Call) (n : ℕ) : Type 0 where
   -- Call by call: the reply is the plain count's; the walk handed back or left is the one due at the plain count; an accepted fetch leaves
   -- the cipher block under the output coding, a refused one the bytes that the lent block held.
-  pub calls :
-      serve shifted (roundsOf nk) (started x) cs
-      ≡ dueServed (roundsOf nk) (dueHeld nk key l (decodeInput (roundsOf nk) l x)) (encodeOutput (roundsOf nk) l (encipherOf nk key (decodeInput (roundsOf nk) l x))) 0 cs
+  pub calls : serve shifted (roundsOf nk) (started x) cs ≡ dueFor nk key l x cs
   -- At the end: the walk due at the plain count n, which is, byte for byte, what one move straight to that count hands back.
   pub last : lastWalk shifted (roundsOf nk) (started x) cs ≡ dueHeld nk key l (decodeInput (roundsOf nk) l x) n
   pub straight-reply : reply shifted (roundsOf nk) (toStop (madeSet nk key l) n) (started x) ≡ accepted

@@ -9,6 +9,10 @@ pub mod Calls
 pub mod PlainCount
 pub mod InRange
 pub mod Bundles
+pub mod FreeBytes
+pub mod Joined
 pub mod Demand2
+pub mod Zeros
 pub mod Demand3
 pub mod Cases
+pub mod Witness

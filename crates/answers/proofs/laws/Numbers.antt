@@ -6,7 +6,7 @@ use Prim.Native.Nat.{ℕ, _<_}
 use lib.Dec.{eqb}
 use native.Mathlib.Omega.{arith}
 use Rattle.answers.specs.Numbers.{causeOf, secondOf, secondIn, numberOf, Readable}
-use Rattle.answers.specs.Answers.{refusedIf, wantsLength, andThen}
+use Rattle.answers.specs.Answers.{refusedIf, wantsLength, andThen, replyOf, returned}
 use Rattle.answers.specs.declared.Answer.{Answer}
 use Rattle.answers.specs.declared.Answer.the-variants.{Accepted, Refused}
 use Rattle.answers.specs.declared.Refusal.{Refusal}
@@ -35,6 +35,11 @@ readable a h = record { cause-is = omega arith; second-is = omega arith; accepte
     only : (a : Answer) → numberOf a ≡ 0 → a ≡ Accepted
     only Accepted e = refl
     only (Refused r) e = absurd (omega (arith, positive r))
+
+-- A reply as a number is the answer's number.
+pub number-is : (a : Answer) → numberOf a ≡ returned (replyOf a)
+number-is Accepted = refl
+number-is (Refused r) = refl
 
 -- ---- What reading off asks for, of an answer made from tests: the second number has 32 bits.
 pub record Small (a : Answer) : Type 0 where

@@ -32,6 +32,27 @@ pub both : (a b : Answer) → andThen a b ≡ Accepted → Both a b
 both Accepted b e = record { first = refl; second = e }
 both (Refused r) b e = let z : _≡_ {A = ℕ} 0 1 = cc in absurd (omega arith)
 
+-- ---- answers one after the other
+pub together : (a b c : Answer) → andThen (andThen a b) c ≡ andThen a (andThen b c)
+together Accepted b c = refl
+together (Refused r) b c = refl
+
+pub accepted-last : (a : Answer) → andThen a Accepted ≡ a
+accepted-last Accepted = refl
+accepted-last (Refused r) = refl
+
+-- What stands behind an answer matters only where it is accepted.
+pub behind : (a : Answer) {b c : Answer} → (a ≡ Accepted → b ≡ c) → andThen a b ≡ andThen a c
+behind Accepted h = h refl
+behind (Refused r) h = refl
+
+-- An accepted answer in front, or behind.
+pub front : {a b c : Answer} → a ≡ Accepted → b ≡ c → andThen a b ≡ c
+front {a} {b} e f = sym (second-decides a b e) ∙ f
+
+pub back : {a b : Answer} → b ≡ Accepted → andThen a b ≡ a
+back {a} e = ap (andThen a) e ∙ accepted-last a
+
 -- ---- one test
 pub test-refuses : (t : Bool) (r : Refusal) → t ≡ true → Refused r ≡ refusedIf t r
 test-refuses t r e = ap (λ (x : Bool). refusedIf x r) (sym e)
@@ -80,3 +101,31 @@ left-new a new old e = ap (λ (x : Answer). ifAccepted x new old) (sym e)
 
 pub left-old : {A : Type 0} (a : Answer) (r : Refusal) (new old : A) → a ≡ Refused r → old ≡ ifAccepted a new old
 left-old a r new old e = ap (λ (x : Answer). ifAccepted x new old) (sym e)
+
+-- What is left by an answer, once more by the same.
+pub twice : {T : Type 0} (a : Answer) (new old : T) → ifAccepted a new old ≡ ifAccepted a (ifAccepted a new old) old
+twice Accepted new old = refl
+twice (Refused r) new old = refl
+
+-- ---- a call that answers a, where the definition says A
+module _ {a A : Answer} (e : a ≡ A) where
+  -- Refused, it leaves the old; accepted, the new.
+  pub refused-leaves : {T : Type 0} {r : Refusal} (new old : T) → a ≡ Refused r → (a ≡ A) × (old ≡ ifAccepted A new old)
+  refused-leaves {T} {r} new old f = (e, left-old A r new old (sym e ∙ f))
+
+  pub accepted-leaves : {T : Type 0} {left : T} (new old : T) → a ≡ Accepted → left ≡ new → (a ≡ A) × (left ≡ ifAccepted A new old)
+  accepted-leaves new old f d = (e, d ∙ left-new A new old (sym e ∙ f))
+
+  -- Behind it another answer, B. Refused, it is the answer of both, and the old is left.
+  pub stops : {r : Refusal} → a ≡ Refused r → (B : Answer) → a ≡ andThen A B
+  stops {r} f B = f ∙ first-refuses A B r (sym e ∙ f)
+
+  pub keeps : {r : Refusal} → a ≡ Refused r → (B : Answer) {T : Type 0} (new old : T) → old ≡ ifAccepted (andThen A B) new old
+  keeps {r} f B new old = left-old _ r new old (sym (first-refuses A B r (sym e ∙ f)))
+
+  -- Accepted, B decides.
+  pub decides : a ≡ Accepted → (B : Answer) → B ≡ andThen A B
+  decides f B = second-decides A B (sym e ∙ f)
+
+  pub by-later : a ≡ Accepted → (B : Answer) {T : Type 0} (new old : T) → ifAccepted B new old ≡ ifAccepted (andThen A B) new old
+  by-later f B new old = ap (λ (x : Answer). ifAccepted x new old) (decides f B)

@@ -12,8 +12,8 @@ use native.Mathlib.Omega.{arith}
 use borrow.Author.Tests.{eq-eqb, ne-eqb}
 use lib.Dec.{T, eqb, ltb, ltb→lt, eqb→eq}
 use lib.ListN.{length, List·getD-eq-default}
-use Rattle.bits.specs.Encodings.{encode, decode, Permutation}
-use Rattle.bits.specs.Lists.{at}
+use Rattle.bits.specs.Encodings.{encode, decode, Permutation, plainEncoding}
+use Rattle.bits.specs.Lists.{at, tabulate}
 use Rattle.bits.proofs.laws.Checked.{both, both-left, both-right, all, all-at}
 
 -- ---- decoding undoes encoding
@@ -159,3 +159,7 @@ permutation-by-test l t =
 
     back : (v : ℕ) → v < 16 → decode l (at l v) ≡ v
     back v h = eqb→eq _ v (both-right (ltb (at l v) 16) (eqb (decode l (at l v)) v) (tested v h))
+
+pub plain-permutation : Permutation plainEncoding
+unfolding plainEncoding tabulate decode
+plain-permutation = permutation-by-test plainEncoding tt

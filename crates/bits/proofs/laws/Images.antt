@@ -11,10 +11,12 @@ use lib.Dec.{eqb}
 use lib.ListN.{length, drop, drop-of-length-le}
 use lib.Seq.{drop-cons}
 use borrow.Author.Tests.{eq-eqb, ne-eqb}
-use Rattle.bits.specs.Encodings.{imagesOf, decode}
+use Rattle.bits.specs.Bytes.{Bytes}
+use Rattle.bits.specs.Encodings.{imagesOf, encodingBytes, decode}
 use Rattle.bits.specs.Lists.{at}
 use Rattle.bits.specs.Nibbles.{half, nibble}
-use Rattle.bits.proofs.laws.Lists.{length-tabulate, at-tabulate, at-past}
+use Rattle.bits.proofs.laws.Lists.{length-tabulate, at-tabulate, at-past, Below, ext-at}
+use Rattle.bits.proofs.laws.Nibbles.{length-packed, nibble-packed, packed-bytes}
 
 -- ---- nibbles, as the code reads them
 pub nibble-past : (s : List ℕ) (q : ℕ) → length s ≤ q / 2 → nibble s q ≡ 0
@@ -47,6 +49,22 @@ image-past p v h = sym (at-past (imagesOf p) v (omega (arith, images-long p)))
 
 pub image-read : (p : List ℕ) (v q r : ℕ) → v < 16 → q ≡ v → r ≡ nibble p q → r ≡ at (imagesOf p) v
 image-read p v q r h e f = f ∙ ap (nibble p) e ∙ sym (image-at p v h)
+
+-- ---- an encoding as 8 bytes: they write its 16 images, and these are nibbles
+pub length-encodingBytes : (l : List ℕ) → length (encodingBytes l) ≡ 8
+unfolding encodingBytes
+length-encodingBytes l = length-packed 8 (at l)
+
+module _ (l : List ℕ) (small : Below 16 l) where
+  pub encodingBytes-bytes : Bytes (encodingBytes l)
+  unfolding encodingBytes
+  encodingBytes-bytes = packed-bytes 8 (at l) (λ j h. small j)
+
+  pub images-written : length l ≡ 16 → imagesOf (encodingBytes l) ≡ l
+  unfolding encodingBytes
+  images-written e =
+      ext-at 16 (imagesOf (encodingBytes l)) l (images-long (encodingBytes l)) e (λ i h.
+      image-at (encodingBytes l) i h ∙ nibble-packed 8 (at l) small i h)
 
 -- ---- the search for an image, from place i on: the image of i is y, or the first that is y is found behind it
 pub decode-next : (l : List ℕ) (i : ℕ) → i < length l → (y : ℕ)

@@ -10,8 +10,8 @@ use native.Mathlib.Omega.{arith}
 use borrow.Rule.Slice.PartMut.{putMid, postOf}
 use lib.Arith.{digits-lt}
 use lib.ListN.{getD, length, set, take, drop, replicate, length-append, length-take, length-drop, length-replicate, getD-replicate}
-use lib.ListN.{take-append-drop, List·getD-append, List·getD-eq-default}
-use lib.Seq.{ext-getD, take-suc-set, take-all, take-at, drop-at, take-append-le, drop-append-le, length-take-le, getD-append-add}
+use lib.ListN.{List·getD-append, List·getD-eq-default}
+use lib.Seq.{ext-getD, take-suc-set, take-all, take-at, length-take-le, getD-append-add}
 use Rattle.bits.specs.Lists.{at, tabulate, concat}
 
 -- ---- tabulated lists
@@ -111,6 +111,11 @@ unfolding concat
 concat-same zero s t e = refl
 concat-same (suc n) s t e = ap₂ (λ u v. u ++ v) (concat-same n s t (λ i h. e i (omega arith))) (e n (omega arith))
 
+pub concat-below : (b n : ℕ) (t : ℕ → List ℕ) → 0 < b → ((i : ℕ) → i < n → Below b (t i)) → Below b (concat n t)
+unfolding concat
+concat-below b zero t p h = λ i. p
+concat-below b (suc n) t p h = append-below b (concat n t) (t n) (concat-below b n t p (λ i k. h i (omega arith))) (h n (omega arith))
+
 module _ (w : ℕ) (t : ℕ → List ℕ) where
   pub length-concat : (n : ℕ) → ((i : ℕ) → i < n → length (t i) ≡ w) → length (concat n t) ≡ n * w
   unfolding concat
@@ -150,24 +155,8 @@ module _ (l : List ℕ) (start size : ℕ) where
   pub length-cut : start + size ≤ length l → length (cut l start (start + size)) ≡ size
   length-cut h = simp (length-take, length-drop) (omega (arith, less))
 
--- A part of a list is one of a longer list.
-pub part-front : (n b : ℕ) (u v : List ℕ) → b + n ≤ length u → take n (drop b (u ++ v)) ≡ take n (drop b u)
-part-front n b u v h =
-    ap (take n) (drop-append-le b u v (omega arith)) ∙ take-append-le n (drop b u) v (omega (arith, length-drop b u))
-
--- ---- a part that was lent and came back, k places from a on: what then stands up to its end, there, and before it
+-- ---- a part that was lent and came back, k places from a on: what then stands up to its end
 pub take-put : (a k e : ℕ) (xs ys : List ℕ) → a ≤ length xs → a + length ys ≡ e → take e (putMid a k xs ys) ≡ take a xs ++ ys
 take-put a k e xs ys h l =
     ap (take e) (sym (append-assoc (take a xs) ys (postOf a k xs)))
     ∙ take-at (take a xs ++ ys) (postOf a k xs) e (length-append (take a xs) ys ∙ ap (λ (n : ℕ). n + length ys) (length-take-le a xs h) ∙ l)
-
-module _ (a : ℕ) (xs ys : List ℕ) (h : a ≤ length xs) (k : ℕ) where
-  pub put-here : (n : ℕ) → length ys ≡ n → take n (drop a (putMid a k xs ys)) ≡ ys
-  put-here n l = ap (take n) (drop-at (take a xs) (ys ++ postOf a k xs) a (length-take-le a xs h)) ∙ take-at ys (postOf a k xs) n l
-
-  pub put-before : (n b : ℕ) → b + n ≤ a → take n (drop b (putMid a k xs ys)) ≡ take n (drop b xs)
-  put-before n b g =
-      let inside : b + n ≤ length (take a xs) = omega (arith, length-take-le a xs h) in
-      part-front n b (take a xs) (ys ++ postOf a k xs) inside
-      ∙ sym (part-front n b (take a xs) (drop a xs) inside)
-      ∙ ap (λ (t : List ℕ). take n (drop b t)) (take-append-drop a xs)

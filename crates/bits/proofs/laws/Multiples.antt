@@ -1,8 +1,8 @@
 -- Laws, not definitions: products and multiples, as parts of one size, one behind the other, need them.
 -- Assumes nothing.
-use mathlib.Core.Path.{_≡_, ap, subst}
-use Prim.Native.Nat.{ℕ, _+_, _*_, _/_, _≤_, _<_}
-use native.Mathlib.Nat.{mul-le-mul, mul-le-mul-right, mul-div-cancel, suc-mul}
+use mathlib.Core.Path.{subst}
+use Prim.Native.Nat.{ℕ, _+_, _*_, _≤_, _<_}
+use native.Mathlib.Nat.{mul-le-mul, mul-le-mul-right, suc-mul}
 use native.Mathlib.Omega.{arith}
 
 pub product-le : (a b c d : ℕ) → a ≤ c → b ≤ d → a * b ≤ c * d
@@ -14,7 +14,3 @@ row-inside i w n h = subst (λ (x : ℕ). x ≤ n * w) (suc-mul i w) (mul-le-mul
 
 pub parts-within : (size n count x : ℕ) → n < count → count * size ≤ x → n * size + size ≤ x
 parts-within size n count x h e = omega (arith, row-inside n size count h)
-
--- Bytes that are parts of one size, whatever their number.
-pub multiple-of : (count size x : ℕ) → 0 < size → x ≡ count * size → x / size * size ≡ x
-multiple-of count size x p e = rw e (ap (λ (y : ℕ). y * size) (mul-div-cancel count p))

@@ -18,10 +18,6 @@ pub dot-lt : (a b : ℕ) → dot a b < 2
 unfolding dot
 dot-lt a b = odd-lt (ones (bitAnd a b))
 
--- b is the parity of u and w.
-pub parity-bit : (u w b : ℕ) → b ≡ dot u w → b < 2
-parity-bit u w b e = subst (λ (z : ℕ). z < 2) (sym e) (dot-lt u w)
-
 pub dot-comm : (a b : ℕ) → dot a b ≡ dot b a
 unfolding dot
 dot-comm a b = ap (λ (x : ℕ). ones x % 2) (and-comm a b)

@@ -3,8 +3,9 @@
 use mathlib.Core.Bool.{true, false}
 use mathlib.Core.List.{List, []}
 use mathlib.Core.Path.{_≡_, refl, sym, ap, ap₂, _∙_}
-use Prim.Native.Nat.{ℕ, zero, suc, _+_, _-_, _*_, _/_, _≤_, _<_}
-use native.Mathlib.Nat.{mul-le-mul-right, zero-mul}
+use Prim.Native.Nat.{ℕ, zero, suc, _+_, _-_, _*_, _≤_, _<_}
+use native.Mathlib.Decide.{ℕ-discrete}
+use native.Mathlib.Nat.{zero-mul}
 use native.Mathlib.Omega.{arith}
 use lib.ListN.{length, take, drop}
 use borrow.Author.Tests.{eq-eqb, ne-eqb, lt-ltb, le-ltb}
@@ -12,45 +13,57 @@ use Rattle.bits.specs.Bytes.{Bytes, number}
 use Rattle.bits.specs.Lists.{at}
 use Rattle.bits.specs.Words.{wide}
 use Rattle.bits.proofs.laws.Groups.{joined-lt}
-use Rattle.bits.proofs.laws.Multiples.{multiple-of, product-le}
-use Rattle.bundle.specs.Format.{encodings, tenEncodings, byteMatrices, columnMatrices, partCount, partSize, sectionLength, shortest, longest}
-use Rattle.bundle.specs.Format.{numberAt, offset, stated, endBefore, pairBad, lengthBad, frame, sectionOf, partOf, partAt}
+use Rattle.bits.proofs.laws.Lists.{cut-is}
+use Rattle.bits.proofs.laws.Multiples.{product-le}
+use Rattle.bundle.specs.Format.{encodings, tenEncodings, byteMatrices, tenByteMatrices, columnMatrices, tenColumnMatrices, partCount, partSize}
+use Rattle.bundle.specs.Format.{sectionLength, shortest, longest, numberAt, offset, stated, endBefore, pairBad, lengthBad, frame, sectionOf, partAt}
 use Rattle.bundle.specs.Search.{first, refusedAt}
 use Rattle.bundle.specs.declared.found.Found.{Found}
 use Rattle.bundle.specs.declared.found.Found.the-variants.{At, Nothing}
+use Rattle.answers.specs.Answers.{ifAccepted}
 use Rattle.answers.specs.declared.Answer.{Answer}
 use Rattle.answers.specs.declared.Answer.the-variants.{Accepted, Refused}
 use Rattle.answers.specs.declared.Refusal.{Refusal}
 use Rattle.answers.specs.declared.Refusal.the-variants.{BundleLength, Pair}
-use Rattle.bundle.proofs.laws.Frame.{sizes, framed, right-good, range-good, section-is, section-none, section-fits, section-length}
-use Rattle.bundle.proofs.laws.Parts.{part-none, part-long}
+use Rattle.bundle.proofs.laws.Frame.{framed, right-good, range-good, section-is, section-none, section-fits}
+use Rattle.bundle.proofs.laws.Parts.{part-long}
 use Rattle.bundle.proofs.laws.Tests.{found-refuses, found-passes}
 
--- ---- a section from 3 on holds one block matrix
+-- ---- a section from 3 on holds one block matrix, and behind the fifth there is none
 block-size : (s : ℕ) → 3 ≤ s → partSize s ≡ 2048
 unfolding partSize
 block-size s h = let e : suc (suc (suc (s - 3))) ≡ s = omega arith in ap partSize (sym e)
 
-pub block-count : (nr s : ℕ) → 3 ≤ s → partCount nr s ≡ 1
+block-count : (nr s : ℕ) → 3 ≤ s → s < 5 → partCount nr s ≡ 1
 unfolding partCount
-block-count nr s h = let e : suc (suc (suc (s - 3))) ≡ s = omega arith in ap (partCount nr) (sym e)
+block-count nr s h k = elim (ℕ-discrete s 3) [
+  | yes e ↦ ap (partCount nr) e
+  | no e ↦ let f : s ≡ 4 = omega arith in ap (partCount nr) f
+]
+
+no-parts : (nr s : ℕ) → 5 ≤ s → partCount nr s ≡ 0
+unfolding partCount
+no-parts nr s h = let e : suc (suc (suc (suc (suc (s - 5))))) ≡ s = omega arith in ap (partCount nr) (sym e)
 
 -- ---- sizes, by the arms of the code's `match`; the numbers are those for ten rounds
 module _ (s : ℕ) where
-  pub count-encodings : 0 ≡ s → (6048 ≡ partCount 10 s) × (6048 ≤ tenEncodings)
+  pub count-encodings : 0 ≡ s → (tenEncodings ≡ partCount 10 s) × (tenEncodings ≤ tenEncodings)
   unfolding partCount encodings
   count-encodings e = (ap (partCount 10) e, omega arith)
 
-  pub count-bytes : 1 ≡ s → (160 ≡ partCount 10 s) × (160 ≤ tenEncodings)
+  pub count-bytes : 1 ≡ s → (tenByteMatrices ≡ partCount 10 s) × (tenByteMatrices ≤ tenEncodings)
   unfolding partCount byteMatrices
   count-bytes e = (ap (partCount 10) e, omega arith)
 
-  pub count-columns : 2 ≡ s → (36 ≡ partCount 10 s) × (36 ≤ tenEncodings)
+  pub count-columns : 2 ≡ s → (tenColumnMatrices ≡ partCount 10 s) × (tenColumnMatrices ≤ tenEncodings)
   unfolding partCount columnMatrices
   count-columns e = (ap (partCount 10) e, omega arith)
 
-  pub count-block : 3 ≤ s → (1 ≡ partCount 10 s) × (1 ≤ tenEncodings)
-  count-block h = (sym (block-count 10 s h), omega arith)
+  pub count-block : 3 ≤ s → s < 5 → (1 ≡ partCount 10 s) × (1 ≤ tenEncodings)
+  count-block h k = (sym (block-count 10 s h k), omega arith)
+
+  pub count-none : 5 ≤ s → (0 ≡ partCount 10 s) × (0 ≤ tenEncodings)
+  count-none h = (sym (no-parts 10 s h), omega arith)
 
   pub size-encoding : 0 ≡ s → (8 ≡ partSize s) × (1 ≤ 8) × (8 ≤ 2048)
   unfolding partSize
@@ -69,9 +82,9 @@ module _ (s : ℕ) where
 
   -- A section's length, of the count and the size that the code has.
   pub section-counted : {count size : ℕ} → (count ≡ partCount 10 s) × (count ≤ tenEncodings)
-      → (size ≡ partSize s) × (1 ≤ size) × (size ≤ 2048) → (count * size ≡ sectionLength 10 s) × (count * size ≤ 12386304)
+      → (size ≡ partSize s) × (1 ≤ size) × (size ≤ 2048) → (count * size ≡ sectionLength 10 s) × (count * size ≤ tenEncodings * 2048)
   unfolding sectionLength
-  section-counted c z = (ap₂ _*_ (c .0) (z .0), product-le _ _ 6048 2048 (c .1) (z .2))
+  section-counted c z = (ap₂ _*_ (c .0) (z .0), product-le _ _ tenEncodings 2048 (c .1) (z .2))
 
 -- ---- numbers
 -- The number of four bytes lies in the low word.
@@ -116,36 +129,46 @@ module _ (nr : ℕ) (l : List ℕ) (i : ℕ) {n want : ℕ} (en : n ≡ stated l
     pair-right b c =
         sym (right-good nr l i (record { long = sym en ∙ a ∙ ew; behind = omega arith; within = omega arith }))
 
--- ---- the frame, with the two lengths that the code has
-module _ (l : List ℕ) where
-  pub frame-short : length l < 58408 → Refused BundleLength ≡ frame 10 l
+-- ---- the frame, with the two lengths that the code has: low and high
+module _ (nr : ℕ) (l : List ℕ) {low : ℕ} (eo : shortest nr ≡ low) where
+  pub frame-short : length l < low → Refused BundleLength ≡ frame nr l
   unfolding frame lengthBad
-  frame-short a = simp (lt-ltb (length l) (shortest 10) (omega (arith, sizes .low)))
+  frame-short a = simp (lt-ltb (length l) (shortest nr) (omega arith))
 
-  module _ (a : 58408 ≤ length l) where
-    pub frame-long : 65536 < length l → Refused BundleLength ≡ frame 10 l
+  module _ {high : ℕ} (ei : longest nr ≡ high) (a : low ≤ length l) where
+    pub frame-long : high < length l → Refused BundleLength ≡ frame nr l
     unfolding frame lengthBad
-    frame-long b =
-        simp (le-ltb (length l) (shortest 10) (omega (arith, sizes .low)), lt-ltb (longest 10) (length l) (omega (arith, sizes .high)))
+    frame-long b = simp (le-ltb (length l) (shortest nr) (omega arith), lt-ltb (longest nr) (length l) (omega arith))
 
     -- The length is in range, and the search for a bad pair found f.
-    module _ (b : length l ≤ 65536) {f : Found} (e : f ≡ first 5 (pairBad 10 l)) where
-      found : refusedAt f Pair ≡ frame 10 l
+    module _ (b : length l ≤ high) {f : Found} (e : f ≡ first 5 (pairBad nr l)) where
+      found : refusedAt f Pair ≡ frame nr l
       unfolding frame
       found =
-          let range = range-good 10 l (record { low = omega (arith, sizes .low); high = omega (arith, sizes .high) }) in
+          let range = range-good nr l (record { low = omega arith; high = omega arith }) in
           rw (range, ← e)
 
-      pub frame-pair : {i : ℕ} → f ≡ At i → Refused (Pair i) ≡ frame 10 l
+      pub frame-pair : {i : ℕ} → f ≡ At i → Refused (Pair i) ≡ frame nr l
       frame-pair q = found-refuses f Pair _ q ∙ found
 
-      pub frame-right : f ≡ Nothing → Accepted ≡ frame 10 l
+      pub frame-right : f ≡ Nothing → Accepted ≡ frame nr l
       frame-right q = found-passes f Pair q ∙ found
 
 -- ---- sections and parts; j is the judgement of the frame
 -- A bundle with neither cause 2 nor cause 3 has its five pairs.
-pub pairs-there : (l : List ℕ) {j : Answer} → j ≡ frame 10 l → j ≡ Accepted → 40 ≤ length l
-pairs-there l f t = omega (arith, sizes .low, framed 10 l (sym f ∙ t) .range .low)
+pub pairs-there : (nr : ℕ) (l : List ℕ) {j : Answer} → j ≡ frame nr l → j ≡ Accepted → 40 ≤ length l
+unfolding shortest
+pairs-there nr l f t = omega (arith, framed nr l (sym f ∙ t) .range .low)
+
+none-either : (j : Answer) {t : List ℕ} → t ≡ [] → [] ≡ ifAccepted j t []
+none-either Accepted e = sym e
+none-either (Refused r) e = refl
+
+pub section-behind : (nr : ℕ) (l : List ℕ) (s : ℕ) → 5 ≤ s → [] ≡ sectionOf nr l s
+unfolding sectionOf sectionLength
+section-behind nr l s h =
+    none-either (frame nr l)
+    (ap (λ (n : ℕ). take n (drop (offset l s) l)) (ap (λ (n : ℕ). n * partSize s) (no-parts nr s h) ∙ zero-mul (partSize s)))
 
 module _ (nr : ℕ) (l : List ℕ) (s : ℕ) {j : Answer} (f : j ≡ frame nr l) where
   pub section-empty : {r : Refusal} → j ≡ Refused r → [] ≡ sectionOf nr l s
@@ -153,34 +176,12 @@ module _ (nr : ℕ) (l : List ℕ) (s : ℕ) {j : Answer} (f : j ≡ frame nr l)
 
   module _ (t : j ≡ Accepted) {a n : ℕ} (p : a ≡ offset l s) (q : n ≡ sectionLength nr s) where
     pub section-cut : take ((a + n) - a) (drop a l) ≡ sectionOf nr l s
-    section-cut =
-        let z : (a + n) - a ≡ n = omega arith in
-        rw (z, p, q) (sym (section-is nr l (sym f ∙ t) s))
+    section-cut = cut-is l a n ∙ rw (p, q) (sym (section-is nr l (sym f ∙ t) s))
 
     pub section-end : s < 5 → a + n ≤ length l
     section-end h = rw (p, q) (section-fits nr l (sym f ∙ t) s h)
 
-module _ (nr : ℕ) (l : List ℕ) where
-  -- A section's length is a multiple of its parts' size, also where it is empty.
-  multiple-by : (s : ℕ) → s < 5 → 0 < partSize s → (j : Answer) → frame nr l ≡ j → length (sectionOf nr l s) / partSize s * partSize s ≡ length (sectionOf nr l s)
-  unfolding sectionLength
-  multiple-by s h p Accepted e = multiple-of (partCount nr s) (partSize s) _ p (section-length nr l e s h)
-  multiple-by s h p (Refused r) e = multiple-of 0 (partSize s) _ p (ap length (section-none nr l r e s) ∙ sym (zero-mul (partSize s)))
-
-  pub multiple : (s : ℕ) → s < 5 → 0 < partSize s → length (sectionOf nr l s) / partSize s * partSize s ≡ length (sectionOf nr l s)
-  multiple s h p = multiple-by s h p (frame nr l) refl
-
-  -- What `part` asks, of the section and the size that the code has.
-  pub parts-asked : (s : ℕ) {size : ℕ} {t : List ℕ} → s < 5 → t ≡ sectionOf nr l s → (size ≡ partSize s) × (1 ≤ size) × (size ≤ 2048)
-      → (1 ≤ size) × (length t / size * size ≡ length t)
-  parts-asked s h e z = (z .1, rw (e, z .0) (multiple s h (omega arith)))
-
-pub past : (size : ℕ) (s : List ℕ) (n : ℕ) → length s / size * size ≡ length s → length s / size ≤ n → [] ≡ partOf size s n
-past size s n e h =
-    let m : length s / size * size ≤ n * size = mul-le-mul-right size h in
-    sym (part-none size s n (omega arith))
-
 -- A block matrix has 2,048 bytes.
 pub block-room : (nr : ℕ) (l : List ℕ) (s : ℕ) → frame nr l ≡ Accepted → 3 ≤ s → s < 5 → (p : List ℕ) → p ≡ partAt nr l s 0 → 2048 ≤ length p
 block-room nr l s f h k p e =
-    omega (arith, ap length e, part-long nr l s 0 k f (omega (arith, block-count nr s h)), block-size s h)
+    omega (arith, ap length e, part-long nr l s 0 k f (omega (arith, block-count nr s h k)), block-size s h)

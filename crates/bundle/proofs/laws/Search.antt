@@ -1,7 +1,7 @@
 -- Laws, not definitions: what the search for the first number finds, and a loop that searches.
 -- Assumes nothing.
 use mathlib.Core.Bool.{Bool, true, false}
-use mathlib.Core.Path.{_≡_, refl, sym, ap, _∙_, subst}
+use mathlib.Core.Path.{_≡_, refl, sym, ap, ap₂, _∙_, subst}
 use Prim.Native.Nat.{ℕ, zero, suc, _+_, _-_, _≤_, _<_}
 use native.Mathlib.Decide.{ℕ-discrete, decLt}
 use native.Mathlib.Numerals.{add-one}
@@ -43,6 +43,17 @@ same k p (At m) (At n) A B = elim (decLt m n) [
 same k p (At m) Nothing A B = absurd (clash (p m) (A .2) (B m (A .0) (A .1)))
 same k p Nothing (At n) A B = absurd (clash (p n) (B .2) (A n (B .0) (B .1)))
 same k p Nothing Nothing A B = refl
+
+-- ---- two tests that agree below the count find the same
+from-same : (k n : ℕ) (p q : ℕ → Bool) → ((i : ℕ) → i < n + k → p i ≡ q i) → firstFrom k n p ≡ firstFrom k n q
+unfolding firstFrom
+from-same zero n p q e = refl
+from-same (suc k) n p q e =
+    ap₂ (λ (b : Bool) (r : Found). pick b (At n) r) (e n (omega arith)) (from-same k (suc n) p q (λ i h. e i (omega arith)))
+
+pub first-same : (count : ℕ) (p q : ℕ → Bool) → ((i : ℕ) → i < count → p i ≡ q i) → first count p ≡ first count q
+unfolding first
+first-same count p q e = from-same count 0 p q (λ i h. e i (omega arith))
 
 -- ---- a search by a test that is exact
 module _ (count : ℕ) (p : ℕ → Bool) (Good : ℕ → Type 0) (to : (i : ℕ) → p i ≡ false → Good i) (from : (i : ℕ) → Good i → p i ≡ false) where

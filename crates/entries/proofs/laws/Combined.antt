@@ -1,20 +1,20 @@
 -- Laws, not definitions: the word of a byte is linear in it, so it is the xor of the words of its nibbles.
 -- Assumes nothing.
-use mathlib.Core.List.{List}
+use mathlib.Core.List.{List, _++_}
 use mathlib.Core.Path.{_≡_, sym, ap, ap₂, _∙_}
 use Prim.Native.Nat.{ℕ, _+_, _*_, _/_, _%_, _^_, _<_}
 use native.Mathlib.Nat.{zero-mul, one-mul}
 use native.Mathlib.Omega.{arith}
 use borrow.Author.Tests.{lt-ltb, le-ltb}
 use lib.Bits.{bitXor, xor-self, xor-zero-l, xor-zero-r, xor-comm, xor-disjoint, and-shifted}
-use lib.ListN.{take, drop}
+use lib.ListN.{length, take, drop, List·getD-append}
 use lib.Seq.{getD-take, getD-drop}
 use Rattle.bits.specs.Bytes.{Bytes, byte, bytesOf}
 use Rattle.bits.specs.Lists.{at, tabulate, concat}
 use Rattle.bits.specs.Vectors.{dot}
 use Rattle.bits.proofs.laws.Bytes.{at-bytesOf, length-bytesOf}
 use Rattle.bits.proofs.laws.Groups.{group-xor}
-use Rattle.bits.proofs.laws.Lists.{at-concat, concat-same, at-tabulate, length-tabulate, tabulate-ext, ext-at}
+use Rattle.bits.proofs.laws.Lists.{length-concat, at-concat, concat-same, at-tabulate, length-tabulate, tabulate-ext, ext-at}
 use Rattle.bits.proofs.laws.Vectors.{dot-power, dot-xor, dot-lt}
 use Rattle.bits.proofs.laws.Multiples.{row-inside}
 use Rattle.bits.proofs.laws.Xor.{Linear, two}
@@ -90,13 +90,15 @@ word-encoded images m n y a b l low high ys long ea el eb eh written =
     inside s p k e h = ap (λ (t : List ℕ). at t k) e ∙ getD-take m (drop p l) k 0 h ∙ getD-drop p l k 0
 
 -- The bytes of the word of y are the sum of its parts, where each part has the bytes of the word of its byte.
-module _ (f : ℕ → ℕ) (m : ℕ) (l : List ℕ) (e : take (32 * m) l ≡ concat 32 (λ r. bytesOf m (combined f (nibbleByte r)))) where
+module _ (f : ℕ → ℕ) (m : ℕ) (l rest : List ℕ) (e : l ≡ concat 32 (λ r. bytesOf m (combined f (nibbleByte r))) ++ rest) where
   word-at : (r k : ℕ) → r < 32 → k < m → at l (r * m + k) ≡ byte m k (combined f (nibbleByte r))
   word-at r k h b =
       let inside = row-inside r m 32 h in
-      sym (getD-take (32 * m) l (r * m + k) 0 (omega arith))
-      ∙ ap (λ (t : List ℕ). at t (r * m + k)) e
-      ∙ at-concat m (λ r. bytesOf m (combined f (nibbleByte r))) 32 (λ i g. length-bytesOf m (combined f (nibbleByte i))) r k h b
+      let words : ℕ → List ℕ = λ r. bytesOf m (combined f (nibbleByte r)) in
+      let long : (i : ℕ) → i < 32 → length (words i) ≡ m = λ i g. length-bytesOf m (combined f (nibbleByte i)) in
+      ap (λ (t : List ℕ). at t (r * m + k)) e
+      ∙ List·getD-append (concat 32 words) rest 0 (r * m + k) (omega (arith, length-concat m words 32 long))
+      ∙ at-concat m words 32 long r k h b
       ∙ at-bytesOf m (combined f (nibbleByte r)) k b
 
   summed-is : (y : ℕ) → y < 256 → summed m l y ≡ bytesOf m (combined f y)

@@ -8,7 +8,6 @@ use Prim.Native.Nat.{ℕ, _+_, _-_, _≤_, _<_}
 use native.Mathlib.Numerals.{add-one}
 use native.Mathlib.Omega.{arith}
 use lib.ListN.{length, take, drop, replicate, length-replicate}
-use Rattle.answers.specs.declared.Answer.{Answer}
 use Rattle.answers.specs.declared.Answer.the-variants.{Accepted, Refused}
 use Rattle.answers.specs.declared.Refusal.{Refusal}
 use Rattle.answers.specs.declared.Refusal.the-variants.{SetLength, BlockLength, Stop, Unfinished}
@@ -21,13 +20,16 @@ use Rattle.layout.specs.Stages.{widthOf, shapeAt, shapes, lookups, setBytes, ta
 use Rattle.layout.specs.declared.stage.Place.{Place}
 use Rattle.layout.proofs.laws.Lookup.{Sizes, Stands, stands, tables-in-set}
 use Rattle.layout.proofs.laws.Ranges.{by-stage}
-use Rattle.whitebox.specs.Calls.{Held, holding, changed, Call, toStop, oneLookup, fetch, judgeStart, started, judgeStop, judgeOne, judgeFetch, advance, answer, handed, blockLeft}
+use Rattle.whitebox.specs.Calls.{Held, holding, changed, toStop, oneLookup, started, judgeStop, judgeOne, judgeFetch, advance, answer, handed, blockLeft}
 use Rattle.whitebox.proofs.laws.Judged as judged
 use Rattle.whitebox.proofs.laws.Judged.{presented-wrong, presented-right, set-wrong, stop-right, none-left, table-wrong, table-right, block-wrong, count-wrong, count-right}
 use Rattle.lookups.specs.InPlace.{Fits, LookedUp, sumsIn}
 use Rattle.bits.proofs.laws.Lists.{cut, cut-is, length-cut}
 use Rattle.lookups.proofs.laws.Whole.{length-sums-in}
+use Rattle.evaluate.specs.Held.{held}
 use Rattle.evaluate.specs.Advanced.{Advanced}
+use Rattle.evaluate.specs.Contracts.{Opens, Moves, Fetches}
+use Rattle.evaluate.specs.declared.walk.Walk.{Walk}
 use Rattle.evaluate.proofs.laws.Stages.{advance-split, layer-walk}
 
 -- ---- the place of a lookup
@@ -48,9 +50,9 @@ module _ {nr count bytes : ℕ} (N : Sizes nr count bytes) (n : ℕ) (p : Place)
   pub place-width : (m : ℕ) → m ≡ widthOf (p .stage) → (m ≡ 4) ⊎ (m ≡ 16)
   place-width m f = rw f (place .width)
 
-  -- The tables of a stage or half, from its first lookup on.
-  pub place-room : p .index ≡ 0 → p .offset + layerBytes (widthOf (p .stage)) ≤ bytes
-  place-room z = omega (arith, place .layer z, tables-in-set nr, N .all-bytes)
+  -- The tables of a stage or half, from its first lookup on, in a set of that length.
+  pub place-room : (long : ℕ) → long ≡ bytes → p .index ≡ 0 → p .offset + layerBytes (widthOf (p .stage)) ≤ long
+  place-room long l z = omega (arith, place .layer z, tables-in-set nr, N .all-bytes)
 
 -- The lookup made in place is the walk's.
 looked-up : (reads : ℕ → ℕ) (nr n : ℕ) (p : Place) → n < lookups nr → p ≡ placeOf nr n → (t s a s′ a′ : List ℕ)
@@ -142,92 +144,86 @@ module _ {reads : ℕ → ℕ} {nr : ℕ} {set : List ℕ} {stop : ℕ} {w₀ : 
 
 -- ---- start
 pub start-refused : (block : List ℕ) → (length block ≡ 16 → ⊥)
-    → (Refused BlockLength ≡ judgeStart (length block)) × (holding (stateAt 0 (replicate 16 0) zeroArea) ≡ started block)
+    → Opens block (record { answer = Refused BlockLength; walk = record { count = 0; standing = replicate 16 0; area = zeroArea } })
 unfolding started
 start-refused block n =
     let j = presented-wrong (length block) n in
-    (j, left-old _ BlockLength _ _ (sym j))
+    record { answer = j; walk = left-old _ BlockLength _ _ (sym j) }
 
 -- The standing bytes s are the block.
 pub start-done : (block s : List ℕ) → length block ≡ 16 → s ≡ block
-    → (Accepted ≡ judgeStart (length block)) × (holding (stateAt 0 s zeroArea) ≡ started block)
+    → Opens block (record { answer = Accepted; walk = record { count = 0; standing = s; area = zeroArea } })
 unfolding started
 start-done block s l e =
     let begun : List ℕ → Held = λ x. holding (stateAt 0 x zeroArea) in
     let j = presented-right (length block) l in
-    (j, ap begun e ∙ left-new _ _ _ (sym j))
+    record { answer = j; walk = ap begun e ∙ left-new _ _ _ (sym j) }
 
 -- ---- a move: the answer, and the walk handed back
-abbrev pub Answers : (ℕ → ℕ) → ℕ → Call → Held → Answer → Held → Type 0
-Answers reads nr c w r w′ = (r ≡ answer reads nr c w) × (w′ ≡ handed reads nr c w)
-
 -- A refused one leaves the walk as it was.
-module _ (reads : ℕ → ℕ) {nr count bytes : ℕ} (N : Sizes nr count bytes) (set : List ℕ) (stop : ℕ) (w : Held) where
-  not-moved : (r : Refusal) → Refused r ≡ judgeStop nr (length set) stop (w .state .count) → Answers reads nr (toStop set stop) w (Refused r) w
+module _ (reads : ℕ → ℕ) {nr count bytes : ℕ} (N : Sizes nr count bytes) (set : List ℕ) (stop : ℕ) (w : Walk) where
+  not-moved : (r : Refusal) → Refused r ≡ judgeStop nr (length set) stop (w .count) → Moves reads nr (toStop set stop) w (record { answer = Refused r; walk = w })
   unfolding answer handed
-  not-moved r e = (e, left-old _ r _ w (sym e))
+  not-moved r e = record { answer = e; walk = left-old _ r _ (held w) (sym e) }
 
-  pub wrong-set : (length set ≡ bytes → ⊥) → Answers reads nr (toStop set stop) w (Refused SetLength) w
+  pub wrong-set : (length set ≡ bytes → ⊥) → Moves reads nr (toStop set stop) w (record { answer = Refused SetLength; walk = w })
   wrong-set n = not-moved SetLength (set-wrong nr _ _ _ (λ e. n (e ∙ N .all-bytes)))
 
   module _ (l : length set ≡ bytes) where
     long : length set ≡ setBytes nr
     long = l ∙ sym (N .all-bytes)
 
-    pub stop-above : count < stop → Answers reads nr (toStop set stop) w (Refused Stop) w
+    pub stop-above : count < stop → Moves reads nr (toStop set stop) w (record { answer = Refused Stop; walk = w })
     stop-above h = not-moved Stop (judged.stop-above nr _ _ _ long (omega (arith, N .all-lookups)))
 
-    pub stop-below : stop ≤ count → stop < w .state .count → Answers reads nr (toStop set stop) w (Refused Stop) w
+    pub stop-below : stop ≤ count → stop < w .count → Moves reads nr (toStop set stop) w (record { answer = Refused Stop; walk = w })
     stop-below h b = not-moved Stop (judged.stop-below nr _ _ _ long (omega (arith, N .all-lookups)) b)
 
-    pub stop-done : (w′ : Held) → stop ≤ count → w .state .count ≤ stop → w′ ≡ changed (advance reads nr set (stop - w .state .count)) w
-        → Answers reads nr (toStop set stop) w Accepted w′
+    pub stop-done : (w′ : Walk) → stop ≤ count → w .count ≤ stop → held w′ ≡ changed (advance reads nr set (stop - w .count)) (held w)
+        → Moves reads nr (toStop set stop) w (record { answer = Accepted; walk = w′ })
     unfolding answer handed
     stop-done w′ h b e =
-        let j = stop-right nr _ stop (w .state .count) long (omega (arith, N .all-lookups)) b in
-        (j, e ∙ left-new _ _ w (sym j))
+        let j = stop-right nr _ stop (w .count) long (omega (arith, N .all-lookups)) b in
+        record { answer = j; walk = e ∙ left-new _ _ (held w) (sym j) }
 
-module _ (reads : ℕ → ℕ) {nr count bytes : ℕ} (N : Sizes nr count bytes) (table : List ℕ) (w : Held) where
-  not-looked : (r : Refusal) → Refused r ≡ judgeOne nr (length table) (w .state .count) → Answers reads nr (oneLookup table) w (Refused r) w
+module _ (reads : ℕ → ℕ) {nr count bytes : ℕ} (N : Sizes nr count bytes) (table : List ℕ) (w : Walk) where
+  not-looked : (r : Refusal) → Refused r ≡ judgeOne nr (length table) (w .count) → Moves reads nr (oneLookup table) w (record { answer = Refused r; walk = w })
   unfolding answer handed
-  not-looked r e = (e, left-old _ r _ w (sym e))
+  not-looked r e = record { answer = e; walk = left-old _ r _ (held w) (sym e) }
 
-  pub no-lookup : count ≤ w .state .count → Answers reads nr (oneLookup table) w (Refused Stop) w
+  pub no-lookup : count ≤ w .count → Moves reads nr (oneLookup table) w (record { answer = Refused Stop; walk = w })
   no-lookup h = not-looked Stop (none-left nr _ _ (omega (arith, N .all-lookups)))
 
-  module _ (p : Place) (h : w .state .count < count) (e : p ≡ placeOf nr (w .state .count)) where
-    left : w .state .count < lookups nr
+  module _ (p : Place) (h : w .count < count) (e : p ≡ placeOf nr (w .count)) where
+    left : w .count < lookups nr
     left = omega (arith, N .all-lookups)
 
-    pub wrong-table : (length table ≡ p .size → ⊥) → Answers reads nr (oneLookup table) w (Refused SetLength) w
+    pub wrong-table : (length table ≡ p .size → ⊥) → Moves reads nr (oneLookup table) w (record { answer = Refused SetLength; walk = w })
     wrong-table n = not-looked SetLength (table-wrong nr _ _ left (λ l. n (l ∙ sym (stands left e .size))))
 
-    pub one-done : (s′ a′ : List ℕ) → length table ≡ p .size
-        → LookedUp (shapeAt reads (p .stage)) (p .index) table (w .state .standing) (w .state .area) s′ a′
-        → Answers reads nr (oneLookup table) w Accepted (changed (λ (s : State). stateAt (s .count + 1) s′ a′) w)
+    pub one-done : (s′ a′ : List ℕ) → length table ≡ p .size → LookedUp (shapeAt reads (p .stage)) (p .index) table (w .standing) (w .area) s′ a′
+        → Moves reads nr (oneLookup table) w (record { answer = Accepted; walk = record { count = w .count + 1; standing = s′; area = a′ } })
     unfolding answer handed
     one-done s′ a′ l u =
         let j = table-right nr _ _ left (l ∙ stands left e .size) in
-        (j, ap holding (sym (looked-up reads nr (w .state .count) p left e table (w .state .standing) (w .state .area) s′ a′ u)) ∙ left-new _ _ w (sym j))
+        let made = looked-up reads nr (w .count) p left e table (w .standing) (w .area) s′ a′ u in
+        record { answer = j; walk = ap holding (sym made) ∙ left-new _ _ (held w) (sym j) }
 
 -- ---- fetch: the answer, and the block as it is left
-abbrev pub Fetches : (ℕ → ℕ) → ℕ → List ℕ → Held → Answer → List ℕ → Type 0
-Fetches reads nr block w r left = (r ≡ answer reads nr (fetch block) w) × (left ≡ blockLeft reads nr (fetch block) w)
-
-module _ (reads : ℕ → ℕ) {nr count bytes : ℕ} (N : Sizes nr count bytes) (block : List ℕ) (w : Held) where
-  not-fetched : (r : Refusal) → Refused r ≡ judgeFetch nr (length block) (w .state .count) → Fetches reads nr block w (Refused r) block
+module _ (reads : ℕ → ℕ) {nr count bytes : ℕ} (N : Sizes nr count bytes) (block : List ℕ) (w : Walk) where
+  not-fetched : (r : Refusal) → Refused r ≡ judgeFetch nr (length block) (w .count) → Fetches reads nr block w (Refused r) block
   unfolding answer blockLeft
-  not-fetched r e = (e, left-old _ r _ block (sym e))
+  not-fetched r e = record { answer = e; block = left-old _ r _ block (sym e) }
 
   pub wrong-block : (length block ≡ 16 → ⊥) → Fetches reads nr block w (Refused BlockLength) block
   wrong-block n = not-fetched BlockLength (block-wrong nr _ _ n)
 
-  pub unfinished : length block ≡ 16 → (w .state .count ≡ count → ⊥) → Fetches reads nr block w (Refused Unfinished) block
+  pub unfinished : length block ≡ 16 → (w .count ≡ count → ⊥) → Fetches reads nr block w (Refused Unfinished) block
   unfinished l n = not-fetched Unfinished (count-wrong nr _ _ l (λ e. n (e ∙ N .all-lookups)))
 
   -- The block is left as the standing bytes.
-  pub fetched : (left : List ℕ) → length block ≡ 16 → w .state .count ≡ count → left ≡ w .state .standing → Fetches reads nr block w Accepted left
+  pub fetched : (left : List ℕ) → length block ≡ 16 → w .count ≡ count → left ≡ w .standing → Fetches reads nr block w Accepted left
   unfolding answer blockLeft
   fetched left l n e =
       let j = count-right nr _ _ l (n ∙ sym (N .all-lookups)) in
-      (j, e ∙ left-new _ _ block (sym j))
+      record { answer = j; block = e ∙ left-new _ _ block (sym j) }

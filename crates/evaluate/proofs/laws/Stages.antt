@@ -14,8 +14,8 @@ use Rattle.network.specs.Sizes.{sizeOf, offsetOf}
 use Rattle.network.proofs.laws.Order.{layer-lookups}
 use Rattle.layout.specs.Stages.{widthOf, shapeAt, shapes, lookups, tableSize, tableOffset, stageOf, indexOf, firstLookup, firstByte}
 use Rattle.layout.specs.declared.stage.Stage.{Stage}
-use Rattle.layout.proofs.laws.Lookup.{in-stage, first-byte}
-use Rattle.layout.proofs.laws.Ranges.{by-stage}
+use Rattle.layout.proofs.laws.Lookup.{first-byte}
+use Rattle.layout.proofs.laws.Ranges.{in-stage, by-stage}
 use Rattle.layout.proofs.laws.Stages.{lookups-16, lookups-4}
 use Rattle.whitebox.specs.Calls.{advance}
 use Rattle.lookups.specs.InPlace.{tableFrom, spreadsIn, xorsIn, sumsIn}

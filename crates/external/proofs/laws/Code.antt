@@ -2,7 +2,7 @@
 -- Assumes nothing.
 use mathlib.Core.Bool.{Bool, true, false}
 use mathlib.Core.List.{List}
-use mathlib.Core.Path.{_≡_, refl, sym, ap, ap₂, _∙_, subst}
+use mathlib.Core.Path.{_≡_, sym, ap, ap₂, _∙_, subst}
 use Prim.Native.Nat.{ℕ, _+_, _*_, _/_, _%_, _≤_, _<_}
 use native.Mathlib.Nat.{zero-add}
 use native.Mathlib.Omega.{arith}
@@ -27,15 +27,15 @@ use Rattle.matrices.specs.Rows.{rowsOf, stored}
 use Rattle.matrices.proofs.laws.Stored.{read-rows}
 use Rattle.inversion.specs.Elimination.{invert, inverseOf, hasInverse, withInverse}
 use Rattle.inversion.proofs.laws.Inverses.{has-inverse, inverse-left}
-use Rattle.bundle.specs.Format.{encodings, encodingOf, frame, partAt, inputMatrixPart, outputMatrixPart}
+use Rattle.bundle.specs.Format.{encodingOf, frame, partAt, inputMatrixPart, outputMatrixPart}
 use Rattle.bundle.proofs.laws.Code.{block-room}
 use Rattle.bundle.proofs.laws.Parts.{at-bytes}
 use Rattle.judgement.specs.Judge.{judge}
 use Rattle.judgement.proofs.laws.Judgements.{accepted-sound}
 use Rattle.external.specs.Calls.{answer, leaves}
 use Rattle.external.specs.Coding.{encodeNibbles, decodeNibbles, multiply, encodeBy, decodeBy}
-use Rattle.external.specs.Coding.{encodeInput, decodeInput, outputFirst, tenOutputFirst, encodeOutput, decodeOutput}
-use Rattle.external.proofs.laws.Coding.{multiply-block, accepted-encodings}
+use Rattle.external.specs.Coding.{encodeInput, decodeInput, outputFirst, encodeOutput, decodeOutput}
+use Rattle.external.proofs.laws.Coding.{multiply-block, accepted-encodings, output-room}
 
 -- ---- encodings on nibbles, byte by byte: g is `encode` or `decode`
 abbrev pub byteBy : (List ℕ → ℕ → ℕ) → (ℕ → List ℕ) → ℕ → List ℕ → ℕ → ℕ
@@ -169,33 +169,30 @@ module _ (nr : ℕ) (l : List ℕ) {p : List ℕ} where
   output-has e bytes a = (output-long e a, part-has p _ e (at-bytes nr l 4 0 bytes) (accepted-sound nr l bytes a .output))
 
 -- ---- the four codings: what the code does with the part p is what the definition does with the bundle's matrix
-output-first : outputFirst 10 ≡ tenOutputFirst
-unfolding outputFirst encodings
-output-first = refl
-
-module _ (l x old : List ℕ) {p out : List ℕ} where
-  pub input-encoded : p ≡ inputMatrixPart 10 l → out ≡ leaves 10 l (encodeBy (encodingOf 10 l) 0 (matrixOf 16 p)) x old
-      → out ≡ leaves 10 l (encodeInput 10 l) x old
+module _ (nr : ℕ) (l x old : List ℕ) {p out : List ℕ} where
+  pub input-encoded : p ≡ inputMatrixPart nr l → out ≡ leaves nr l (encodeBy (encodingOf nr l) 0 (matrixOf 16 p)) x old
+      → out ≡ leaves nr l (encodeInput nr l) x old
   unfolding encodeInput
   input-encoded e q = q ∙ rw e
 
-  pub input-decoded : p ≡ inputMatrixPart 10 l → out ≡ leaves 10 l (decodeBy (encodingOf 10 l) 0 (matrixOf 16 p)) x old
-      → out ≡ leaves 10 l (decodeInput 10 l) x old
+  pub input-decoded : p ≡ inputMatrixPart nr l → out ≡ leaves nr l (decodeBy (encodingOf nr l) 0 (matrixOf 16 p)) x old
+      → out ≡ leaves nr l (decodeInput nr l) x old
   unfolding decodeInput
   input-decoded e q = q ∙ rw e
 
-  pub output-encoded : p ≡ outputMatrixPart 10 l → out ≡ leaves 10 l (encodeBy (encodingOf 10 l) tenOutputFirst (matrixOf 16 p)) x old
-      → out ≡ leaves 10 l (encodeOutput 10 l) x old
-  unfolding encodeOutput
-  output-encoded e q = q ∙ rw (e, ← output-first)
+  -- The output's encodings begin at the number that the code has: first.
+  module _ {first : ℕ} (f : outputFirst nr ≡ first) where
+    pub output-encoded : p ≡ outputMatrixPart nr l → out ≡ leaves nr l (encodeBy (encodingOf nr l) first (matrixOf 16 p)) x old
+        → out ≡ leaves nr l (encodeOutput nr l) x old
+    unfolding encodeOutput
+    output-encoded e q = q ∙ rw (e, ← f)
 
-  pub output-decoded : p ≡ outputMatrixPart 10 l → out ≡ leaves 10 l (decodeBy (encodingOf 10 l) tenOutputFirst (matrixOf 16 p)) x old
-      → out ≡ leaves 10 l (decodeOutput 10 l) x old
-  unfolding decodeOutput
-  output-decoded e q = q ∙ rw (e, ← output-first)
+    pub output-decoded : p ≡ outputMatrixPart nr l → out ≡ leaves nr l (decodeBy (encodingOf nr l) first (matrixOf 16 p)) x old
+        → out ≡ leaves nr l (decodeOutput nr l) x old
+    unfolding decodeOutput
+    output-decoded e q = q ∙ rw (e, ← f)
 
--- The 32 encodings that a call takes off.
-pub called-encodings : (l : List ℕ) → Bytes l → judge 10 l ≡ Accepted → (first : ℕ) → first ≤ tenOutputFirst → (q : ℕ) → q < 32
-    → Permutation (encodingOf 10 l (first + q))
-unfolding encodings
-called-encodings l bytes a first h = accepted-encodings 10 l bytes a first (omega arith)
+-- The 32 encodings that a call takes off, from a place on that is not behind the output's.
+pub called-encodings : (nr : ℕ) (l : List ℕ) → Bytes l → judge nr l ≡ Accepted → {last : ℕ} → outputFirst nr ≡ last → (first : ℕ) → first ≤ last
+    → (q : ℕ) → q < 32 → Permutation (encodingOf nr l (first + q))
+called-encodings nr l bytes a f first h = accepted-encodings nr l bytes a first (omega (arith, output-room nr))

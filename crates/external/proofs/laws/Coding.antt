@@ -2,19 +2,20 @@
 -- Assumes nothing.
 use mathlib.Core.List.{List}
 use mathlib.Core.Logic.{⊎-elim}
-use mathlib.Core.Path.{_≡_, sym, ap, _∙_}
+use mathlib.Core.Path.{_≡_, refl, sym, ap, _∙_}
 use Prim.Native.Nat.{ℕ, _+_, _*_, _/_, _≤_, _<_}
 use native.Mathlib.Omega.{arith}
 use Rattle.bits.specs.Bytes.{Bytes, Block, numberOf, bytesOf}
-use Rattle.bits.specs.Encodings.{encode, decode, Permutation}
+use Rattle.bits.specs.Encodings.{encode, decode, Permutation, plainEncoding}
 use Rattle.bits.specs.Lists.{at}
 use Rattle.bits.specs.Nibbles.{nibble, packed}
 use Rattle.bits.proofs.laws.Bytes.{numberOf-lt, bytesOf-block, numberOf-bytesOf, bytesOf-numberOf}
 use Rattle.bits.proofs.laws.Encodings as single
+use Rattle.bits.proofs.laws.Lists.{at-tabulate}
 use Rattle.bits.proofs.laws.Nibbles.{length-packed, at-packed, packed-ext, packed-nibbles, packed-bytes, nibble-lt, parity}
-use Rattle.matrices.specs.Matrices.{product, Undoes}
+use Rattle.matrices.specs.Matrices.{product, identity, Undoes}
 use Rattle.matrices.proofs.laws.Stored.{matrixOf-fits}
-use Rattle.matrices.proofs.laws.Matrices.{product-lt}
+use Rattle.matrices.proofs.laws.Matrices.{product-lt, product-identity}
 use Rattle.inversion.specs.Elimination.{inverseOf}
 use Rattle.inversion.specs.Inverses.{UndoesBothWays}
 use Rattle.inversion.proofs.laws.Inverses.{inverse-undoes}
@@ -24,7 +25,7 @@ use Rattle.bundle.proofs.laws.Parts.{at-bytes}
 use Rattle.judgement.specs.Judge.{judge}
 use Rattle.judgement.proofs.laws.Judgements.{accepted-sound}
 use Rattle.external.specs.Coding.{encodeNibbles, decodeNibbles, multiply, encodeBy, decodeBy, encodeInput, decodeInput, outputFirst, encodeOutput, decodeOutput}
-use Rattle.external.specs.Undoing.{Undoing}
+use Rattle.external.specs.Undoing.{OutputFirst, Undoing, PlainCoding}
 
 -- Nibble q of packed bytes, where only the nibbles that are packed are known to be below 16.
 nibble-of : (n : ℕ) (f : ℕ → ℕ) → ((j : ℕ) → j < 2 * n → f j < 16) → (q : ℕ) → q < 2 * n → nibble (packed n f) q ≡ f q
@@ -131,6 +132,10 @@ pub output-room : (nr : ℕ) → outputFirst nr + 32 ≤ encodings nr
 unfolding outputFirst encodings
 output-room nr = omega arith
 
+pub output-first : OutputFirst
+unfolding outputFirst encodings
+output-first = refl
+
 pub undoing : Undoing
 unfolding encodeInput decodeInput encodeOutput decodeOutput
 undoing nr l bytes ok x B =
@@ -147,3 +152,32 @@ undoing nr l bytes ok x B =
       input-block = (encode-by-block E 0 (inputMatrix nr l) P I x B, decode-by-block E 0 (inputMatrix nr l) P I x B);
       output-block = (encode-by-block E (outputFirst nr) (outputMatrix nr l) Q O x B, decode-by-block E (outputFirst nr) (outputMatrix nr l) Q O x B);
     }
+
+-- ---- encodings and a matrix that change nothing
+plain-nibbles : (E : ℕ → List ℕ) (first : ℕ) → ((q : ℕ) → q < 32 → E (first + q) ≡ plainEncoding) → (x : List ℕ) → Block x → encodeNibbles E first x ≡ x
+unfolding encodeNibbles plainEncoding
+plain-nibbles E first plain x B =
+    packed-ext 16 _ (nibble x)
+    (λ q b. ap (λ (e : List ℕ). encode e (nibble x q)) (plain q b) ∙ at-tabulate 16 _ (nibble x q) (nibble-lt x (B .bytes) q))
+    ∙ packed-nibbles 16 x (B .long)
+
+plain-multiply : (x : List ℕ) → Block x → multiply (identity 128) x ≡ x
+unfolding multiply
+plain-multiply x B =
+    ap (bytesOf 16) (product-identity 128 (numberOf 16 x) (numberOf-lt 16 x (B .bytes))) ∙ bytesOf-numberOf 16 x (B .long) (B .bytes)
+
+plain-by : (E : ℕ → List ℕ) (first : ℕ) (m : List ℕ) → ((q : ℕ) → q < 32 → E (first + q) ≡ plainEncoding) → m ≡ identity 128
+    → (x : List ℕ) → Block x → encodeBy E first m x ≡ x
+unfolding encodeBy
+plain-by E first m plain e x B =
+    ap (λ (n : List ℕ). encodeNibbles E first (multiply n x)) e
+    ∙ ap (encodeNibbles E first) (plain-multiply x B)
+    ∙ plain-nibbles E first plain x B
+
+pub plain-coding : PlainCoding
+unfolding encodeInput encodeOutput
+plain-coding nr l plain x B = record {
+  input = plain-by (encodingOf nr l) 0 (inputMatrix nr l) (λ q b. plain .lists (0 + q) (omega (arith, input-room nr))) (plain .input) x B;
+  output =
+      plain-by (encodingOf nr l) (outputFirst nr) (outputMatrix nr l) (λ q b. plain .lists (outputFirst nr + q) (omega (arith, output-room nr))) (plain .output) x B;
+}

@@ -2,14 +2,13 @@
 -- Assumes nothing.
 use mathlib.Core.Bool.{Bool, false, not}
 use mathlib.Core.List.{List}
-use mathlib.Core.Path.{_≡_, refl, ap, _∙_}
+use mathlib.Core.Path.{_≡_, refl}
 use Prim.Native.Nat.{ℕ, _≤_}
 use native.Mathlib.Omega.{arith}
 use lib.Dec.{ltb}
 use lib.ListN.{length}
-use Rattle.answers.specs.Answers.{wantsLength, andThen, ifAccepted}
-use Rattle.answers.specs.Numbers.{secondOf, numberOf}
-use Rattle.answers.specs.declared.Answer.{Answer}
+use Rattle.answers.specs.Answers.{wantsLength, andThen}
+use Rattle.answers.specs.Numbers.{secondOf}
 use Rattle.answers.specs.declared.Refusal.{Refusal}
 use Rattle.answers.specs.declared.Refusal.the-variants.{KeyLength, BundleLength, Pair, Encoding, ByteMatrix, ColumnMatrix, InputMatrix, OutputMatrix}
 use Rattle.answers.specs.declared.Refusal.the-variants.{TableNumber, SetLength, BlockLength}
@@ -23,14 +22,9 @@ use Rattle.judgement.specs.Judge.{noInverse, encodingBad, byteMatrixBad, column
 use Rattle.judgement.specs.Judge.{judgeEncodings, judgeByteMatrices, judgeColumnMatrices, judgeBlockMatrices, judge}
 use Rattle.external.specs.Calls.{answer}
 use Rattle.layout.specs.Stages.{lookups, setBytes, tableSize}
-use Rattle.tables.specs.Calls.{judged, setAnswer, tableAnswer}
+use Rattle.tables.specs.Calls.{judgedFor, setAnswerFor, tableAnswerFor, judged, setAnswer, tableAnswer}
 use Rattle.host.specs.Returned.{Returned}
 use Rattle.host.specs.Walks.{walkAnswer}
-
--- ---- What a call returns and leaves, where it answers a and the definition b.
-pub made-returned : {a b : Answer} {r : ℕ} (new old out : List ℕ) → a ≡ b → r ≡ numberOf a → out ≡ ifAccepted a new old
-    → (r ≡ numberOf b) × (out ≡ ifAccepted b new old)
-made-returned new old out e p q = (p ∙ ap numberOf e, q ∙ ap (λ (x : Answer). ifAccepted x new old) e)
 
 -- ---- The number returned with a cause has 32 bits.
 -- What a search among no more than 65,536 numbers finds.
@@ -84,15 +78,15 @@ unfolding answerOf
 cipher-small key from into = small-andThen _ _ (small-length 16 (length key) KeyLength (omega arith)) (blocks-small (length from) (length into))
 
 judged-small : (key : ℕ) (l : List ℕ) → Small (judged key l)
-unfolding judged
+unfolding judgedFor
 judged-small key l = small-andThen _ _ (small-length 16 key KeyLength (omega arith)) (judge-small l)
 
 set-small : (key : ℕ) (l : List ℕ) (memory : ℕ) → Small (setAnswer key l memory)
-unfolding setAnswer
+unfolding setAnswerFor
 set-small key l memory = small-andThen _ _ (judged-small key l) (small-length (setBytes 10) memory SetLength (omega arith))
 
 table-small : (key : ℕ) (l : List ℕ) (number memory : ℕ) → Small (tableAnswer key l number memory)
-unfolding tableAnswer
+unfolding tableAnswerFor
 table-small key l number memory =
     let table = small-length (tableSize 10 number) memory SetLength (omega arith) in
     small-andThen _ _ (judged-small key l) (small-andThen _ _ (small-test (not (ltb number (lookups 10))) TableNumber (omega arith)) table)

@@ -12,7 +12,11 @@ use Rattle.answers.specs.declared.Refusal.the-variants.{SetLength, BlockLength}
 use Rattle.answers.proofs.laws.Tests.{first-refuses, second-decides, length-wrong, length-right, from-wrong, to-wrong, lengths-right, left-new, left-old}
 use Rattle.layout.specs.Stages.{shifted, tenLookups, setBytes, tenSetBytes}
 use Rattle.layout.proofs.laws.Cases.{starred}
-use Rattle.whitebox.specs.Calls.{Held, started, toStop, fetch, handed, blockLeft}
+use Rattle.whitebox.specs.Calls.{toStop}
+use Rattle.evaluate.specs.Contracts.{Opens, Moves, Fetches}
+use Rattle.evaluate.specs.declared.walk.Move.{Move}
+use Rattle.evaluate.specs.declared.walk.Opening.{Opening}
+use Rattle.evaluate.proofs.laws.Demands.{calls}
 use Rattle.host.specs.Walks.{walkAnswer, walkLeaves}
 
 -- ---- The answer, test by test.
@@ -40,7 +44,9 @@ module _ (set block lent : List ℕ) {a : Answer} (e : a ≡ walkAnswer (length 
   unfolding walkLeaves
   walk-refused {r} f = left-old _ r _ lent (sym e ∙ f)
 
-  pub walk-done : a ≡ Accepted → (u v : Held) (left : List ℕ) → u ≡ started block → v ≡ handed shifted 10 (toStop set tenLookups) u
-      → left ≡ blockLeft shifted 10 (fetch lent) v → left ≡ walkLeaves set block lent
+  -- Accepted, it leaves demand 2's block, by what the three calls ensure.
+  pub walk-done : a ≡ Accepted → {o : Opening} {m : Move} {b : Answer} {left : List ℕ} → Opens block o
+      → Moves shifted 10 (toStop set tenLookups) (o .walk) m → Fetches shifted 10 lent (m .walk) b left → left ≡ walkLeaves set block lent
   unfolding walkLeaves
-  walk-done f u v left s m g = (g ∙ rw (m, s, starred .all-lookups)) ∙ left-new _ _ lent (sym e ∙ f)
+  walk-done f {o} {m} {b} {left} s h k =
+      calls .whole-walk block set lent left o m b s (rw (starred .all-lookups) h) k ∙ left-new _ _ lent (sym e ∙ f)

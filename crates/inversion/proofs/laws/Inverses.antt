@@ -1,12 +1,12 @@
 -- Laws, not definitions: the theorems of specs/Inverses.antt, what an elimination in code has to show to meet `invert`, and the rows that it leaves.
 -- Assumes nothing.
 use mathlib.Core.Bool.{Bool, true}
-use mathlib.Core.List.{List}
-use mathlib.Core.Path.{_≡_, refl, sym, ap, _∙_, subst}
+use mathlib.Core.List.{List, _++_}
+use mathlib.Core.Path.{_≡_, refl, sym, ap, ap₂, _∙_, subst}
 use Prim.Native.Nat.{ℕ, zero, suc, _+_, _-_, _*_, _^_, _≤_, _<_}
 use native.Mathlib.Decide.{ℕ-discrete}
 use native.Mathlib.Omega.{arith}
-use lib.ListN.{length}
+use lib.ListN.{length, drop}
 use lib.Pow.{pow-pos}
 use Rattle.bits.specs.Bytes.{Bytes}
 use Rattle.bits.specs.Lists.{at, tabulate}
@@ -14,10 +14,11 @@ use Rattle.bits.specs.Vectors.{bit, unit}
 use Rattle.bits.proofs.laws.Lists.{at-tabulate, length-tabulate, tabulate-at, ext-at}
 use Rattle.bits.proofs.laws.Vectors.{bit-lt, dot-unit, unit-lt, bit-ext}
 use Rattle.matrices.specs.Matrices.{productBy, product, identity, matrixOf, RowsFit, Undoes, Invertible}
-use Rattle.matrices.specs.Rows.{rowsOf, stored}
+use Rattle.matrices.specs.Rows.{rowsOf, stored, wordsOf}
 use Rattle.matrices.proofs.laws.Matrices.{product-lt, bit-product, product-zero, identity-length}
 use Rattle.matrices.proofs.laws.Rows.{rows-stored}
 use Rattle.matrices.proofs.laws.Stored.{matrixOf-fits, read-rows}
+use Rattle.matrices.proofs.laws.Words.{stored-words}
 use Rattle.inversion.specs.Elimination.{leftStep, rightStep, choose, pivotFrom, Inversion, inverse, singular, unlessZero, columns, invert}
 use Rattle.inversion.specs.Elimination.{rowsIn, inverseOf, hasInverse, withInverse}
 use Rattle.inversion.specs.Inverses.{UndoesBothWays, Answered, Refused, Exact, Unique}
@@ -179,6 +180,19 @@ module _ (w : ℕ) (p : List ℕ) (bytes : Bytes p) where
   unfolding inverseOf
   inverse-left b b′ has h left =
       inverse-stored (8 * w) (matrixOf w p) b b′ fits (omega arith) (invert (8 * w) (matrixOf w p)) refl has left
+
+  -- As words: those of the inverse, and behind them those of b.
+  pub inverse-words : (b b′ : List ℕ) → Invertible (8 * w) (matrixOf w p) → 16 * w ≤ length b
+      → b′ ≡ withInverse (8 * w) (invert (8 * w) (matrixOf w p)) b
+      → b′ ≡ wordsOf (8 * w) (inverseOf (8 * w) (matrixOf w p)) ++ drop (16 * w) b
+  unfolding inverseOf
+  inverse-words b b′ I h left =
+      let found = exact (8 * w) (matrixOf w p) fits I in
+      let all : 2 * (8 * w) ≡ 16 * w = omega arith in
+      left
+      ∙ ap (λ (r : Inversion). withInverse (8 * w) r b) (found .1)
+      ∙ stored-words (8 * w) (found .0) b (omega arith)
+      ∙ ap₂ (λ (c : List ℕ) (k : ℕ). wordsOf (8 * w) c ++ drop k b) (sym (ap rowsIn (found .1))) all
 
 -- What `invert_bytes` puts together: the bytes p are read into the rows m, which were m₀, and r and b′ are what their inversion answers and leaves.
 pub read-inverted : (w : ℕ) (p m₀ m b b′ : List ℕ) (r : Bool) → 16 * w ≤ length m₀ → m ≡ stored (8 * w) (at (matrixOf w p)) m₀

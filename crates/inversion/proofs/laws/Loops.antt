@@ -12,6 +12,7 @@ use lib.ListN.{length}
 use Rattle.bits.specs.Lists.{at, tabulate}
 use Rattle.bits.specs.Vectors.{unit}
 use Rattle.bits.proofs.laws.Lists.{tabulate-ext, at-tabulate}
+use Rattle.bits.proofs.laws.Words.{power-fits}
 use Rattle.matrices.specs.Matrices.{identity}
 use Rattle.matrices.specs.Rows.{rowAt, rowsOf, setRow, stored}
 use Rattle.matrices.proofs.laws.Rows.{row-set-same, row-set-other, length-setRow, stored-same}
@@ -39,10 +40,10 @@ started-none = record {
 
 module _ {n : ℕ} {a m₀ m : List ℕ} {i : ℕ} (g : Started n a m₀ m i) where
   -- Rows x and y are stored, one after the other.
-  pub started-more : {x y : ℕ} {m₁ m₂ : List ℕ} → 4 * n ≤ length m₀ → i < n → x ≡ rowAt a i → m₁ ≡ setRow m (2 * i) x
-      → y ≡ 2 ^ (n - 1 - i) → m₂ ≡ setRow m₁ (2 * i + 1) y
+  pub started-more : {x y : ℕ} {m₁ m₂ : List ℕ} → n ≤ 128 → 4 * n ≤ length m₀ → i < n → x ≡ rowAt a i → m₁ ≡ setRow m (2 * i) x
+      → y ≡ 2 ^ (n - 1 - i) % 2 ^ 128 → m₂ ≡ setRow m₁ (2 * i + 1) y
       → Started n a m₀ m₂ (i + 1)
-  started-more {x} {y} {m₁} {m₂} room h ex e₁ ey e₂ =
+  started-more {x} {y} {m₁} {m₂} few room h ex e₁ ey e₂ =
       let long-m = g .long in
       let long : length m₁ ≡ length m = ap length e₁ ∙ length-setRow m (2 * i) x in
       let place : n - 1 - i ≡ n - suc i = omega arith in
@@ -53,7 +54,8 @@ module _ {n : ℕ} {a m₀ m : List ℕ} {i : ℕ} (g : Started n a m₀ m i) wh
       let left-here : leftAt m₁ i ≡ rowAt a i =
       ap (λ (z : List ℕ). leftAt z i) e₁ ∙ row-set-same m (2 * i) x (omega arith) ∙ ex in
       let right-here : rightAt m₂ i ≡ unit n i =
-      ap (λ (z : List ℕ). rightAt z i) e₂ ∙ row-set-same m₁ (2 * i + 1) y (omega arith) ∙ ey ∙ ap (λ (z : ℕ). 2 ^ z) place in
+      ap (λ (z : List ℕ). rightAt z i) e₂ ∙ row-set-same m₁ (2 * i + 1) y (omega arith) ∙ ey ∙ power-fits (n - 1 - i) (omega arith)
+      ∙ ap (λ (z : ℕ). 2 ^ z) place in
       record {
         within = omega arith;
         long = ap length e₂ ∙ length-setRow m₁ (2 * i + 1) y ∙ long ∙ long-m;

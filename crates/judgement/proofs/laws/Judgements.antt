@@ -1,17 +1,19 @@
 -- Laws, not definitions: the theorems of specs/Judgements.antt.
 -- Assumes nothing.
-use mathlib.Core.Bool.{false}
+use mathlib.Core.Bool.{Bool, false}
 use mathlib.Core.List.{List}
-use mathlib.Core.Path.{_≡_, _∙_, subst}
+use mathlib.Core.Path.{_≡_, ap, ap₂, _∙_, subst}
 use Prim.Native.Nat.{ℕ, _≤_}
 use native.Mathlib.Omega.{arith}
 use Rattle.bits.specs.Bytes.{Bytes}
 use Rattle.bundle.specs.Format.{encodings, byteMatrices, columnMatrices, PairRight, pairBad, lengthBad, frame}
 use Rattle.bundle.specs.Format.{encodingPart, byteMatrixPart, columnMatrixPart, inputMatrixPart, outputMatrixPart}
 use Rattle.bundle.specs.Frames.{Framed}
+use Rattle.bundle.specs.FreeBytes.{SameParts}
 use Rattle.answers.specs.Answers.{refusedIf, andThen}
 use Rattle.answers.specs.Numbers.{causeOf}
 use Rattle.bundle.specs.Search.{first, refusedAt}
+use Rattle.bundle.specs.declared.found.Found.{Found}
 use Rattle.bundle.specs.declared.found.Found.the-variants.{Nothing}
 use Rattle.answers.specs.declared.Answer.{Answer}
 use Rattle.answers.specs.declared.Answer.the-variants.{Accepted, Refused}
@@ -20,13 +22,14 @@ use Rattle.answers.specs.declared.Refusal.the-variants.{KeyLength, BundleLength
 use Rattle.answers.specs.declared.Refusal.the-variants.{OutputMatrix, TableNumber, SetLength, BlockLength, Stop, Unfinished}
 use Rattle.answers.proofs.laws.Tests.{by-test}
 use Rattle.bundle.proofs.laws.Frame.{pair-good, right-good, length-good, range-good, pairs-all, framed, frame-accepted}
+use Rattle.bundle.proofs.laws.FreeBytes.{free-bytes}
 use Rattle.bundle.proofs.laws.Parts.{at-bytes, part-refused, part-behind, part-here, part-long}
-use Rattle.bundle.proofs.laws.Search.{none-all, all-none, at-bad, bad-at}
+use Rattle.bundle.proofs.laws.Search.{first-same, none-all, all-none, at-bad, bad-at}
 use Rattle.bundle.proofs.laws.Tests.{clash, not-false-true, by-refusedAt}
-use Rattle.judgement.specs.Judge.{noInverse, encodingBad, byteMatrixBad, columnMatrixBad}
+use Rattle.judgement.specs.Judge.{noPermutation, noInverse, mixingBad, encodingBad, byteMatrixBad, columnMatrixBad}
 use Rattle.judgement.specs.Judge.{judgeEncodings, judgeByteMatrices, judgeColumnMatrices, judgeBlockMatrices, judge}
 use Rattle.judgement.specs.Judgements.{GoodEncoding, GoodByteMatrix, GoodColumnMatrix, GoodInputMatrix, GoodOutputMatrix}
-use Rattle.judgement.specs.Judgements.{GoodEncodings, GoodByteMatrices, GoodColumnMatrices, Sound, Why, Reasoned, Only, AcceptedExactly, Parts}
+use Rattle.judgement.specs.Judgements.{GoodEncodings, GoodByteMatrices, GoodColumnMatrices, Sound, Why, Reasoned, Only, AcceptedExactly, Parts, FreeBytes}
 use Rattle.judgement.proofs.laws.Encodings.{good-permutation, permutation-good}
 use Rattle.judgement.proofs.laws.Matrices.{good-invertible, invertible-good, good-mixing, mixing-good}
 
@@ -227,3 +230,33 @@ parts nr l s n h = record {
   behind = part-behind nr l s n h;
   refused = λ r e c. part-refused nr l s n r (judged-frame nr l r e c);
 }
+
+-- ---- free bytes: the judgement is of the frame and of the parts
+found-same : (count : ℕ) (p q : ℕ → Bool) (r : ℕ → Refusal) → ((n : ℕ) → p n ≡ q n) → refusedAt (first count p) r ≡ refusedAt (first count q) r
+found-same count p q r e = ap (λ (f : Found). refusedAt f r) (first-same count p q (λ n h. e n))
+
+module _ (nr : ℕ) (l l′ : List ℕ) (S : SameParts nr l l′) where
+  encodings-same : judgeEncodings nr l ≡ judgeEncodings nr l′
+  unfolding judgeEncodings
+  encodings-same = found-same (encodings nr) _ _ Encoding (λ n. ap noPermutation (S .parts 0 n (omega arith)))
+
+  bytes-same : judgeByteMatrices nr l ≡ judgeByteMatrices nr l′
+  unfolding judgeByteMatrices
+  bytes-same = found-same (byteMatrices nr) _ _ ByteMatrix (λ n. ap (mixingBad 1) (S .parts 1 n (omega arith)))
+
+  columns-same : judgeColumnMatrices nr l ≡ judgeColumnMatrices nr l′
+  unfolding judgeColumnMatrices
+  columns-same = found-same (columnMatrices nr) _ _ ColumnMatrix (λ n. ap (mixingBad 4) (S .parts 2 n (omega arith)))
+
+  blocks-same : judgeBlockMatrices nr l ≡ judgeBlockMatrices nr l′
+  unfolding judgeBlockMatrices
+  blocks-same =
+      ap₂ (λ (p q : List ℕ). andThen (refusedIf (noInverse 16 p) InputMatrix) (refusedIf (noInverse 16 q) OutputMatrix))
+      (S .parts 3 0 (omega arith)) (S .parts 4 0 (omega arith))
+
+  judge-same : judge nr l ≡ judge nr l′
+  unfolding judge
+  judge-same = ap₂ andThen (S .frames) (ap₂ andThen encodings-same (ap₂ andThen bytes-same (ap₂ andThen columns-same blocks-same)))
+
+pub free-judged : FreeBytes
+free-judged nr l l′ agree = judge-same nr l l′ (free-bytes nr l l′ agree)

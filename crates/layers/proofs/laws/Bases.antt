@@ -13,6 +13,7 @@ use Rattle.matrices.specs.Rows.{rowsOf, stored}
 use Rattle.matrices.proofs.laws.Stored.{read-rows}
 use Rattle.bundle.specs.Format.{byteMatrices, partCount, partSize, sectionLength, frame, sectionOf, partOf, partAt, byteMatrix}
 use Rattle.bundle.proofs.laws.Frame.{section-length}
+use Rattle.layers.specs.Layers.{spreadWord}
 
 -- ---- row k of first halves and of the exit
 -- The word of the byte y: the vector that f makes of it, times the matrix that the bytes p write.
@@ -25,15 +26,10 @@ pub read-row : (w : ℕ) (p m m′ : List ℕ) (f : ℕ → ℕ) (k x y v : ℕ)
 read-row w p m m′ f k x y v h e ex ey ev = ev ∙ ap₂ (product (8 * w)) (read-rows w p m m′ h e) (ey ∙ ap f ex)
 
 -- ---- row k of the entry and of second halves
--- The word of the byte y at place i of n bytes, by the matrix m and then by the byte matrices from number `first` on.
-abbrev pub spreadWord : (nr : ℕ) (l m : List ℕ) (n i first : ℕ) → ℕ → ℕ
-spreadWord nr l m n i first y =
-    number n (λ j. product 8 (byteMatrix nr l (first + j)) (byte n j (product (8 * n) (rowsOf (8 * n) m) (placed n i y))))
-
--- The section of the byte matrices, which for ten rounds has as many bytes as the code asks for.
-pub byte-section-long : (l s : List ℕ) → s ≡ sectionOf 10 l 1 → frame 10 l ≡ Accepted → length s ≡ 1280
-unfolding sectionLength partCount partSize byteMatrices
-byte-section-long l s e f = ap length e ∙ section-length 10 l f 1 (omega arith)
+-- The section of the byte matrices, which has 8 bytes of each, `count` as the number that the code has.
+pub byte-section-long : (nr count : ℕ) (l s : List ℕ) → byteMatrices nr ≡ count → s ≡ sectionOf nr l 1 → frame nr l ≡ Accepted → length s ≡ count * 8
+unfolding sectionLength partCount partSize
+byte-section-long nr count l s n e f = ap length e ∙ section-length nr l f 1 (omega arith) ∙ ap (λ (k : ℕ). k * 8) n
 
 module _ (nr : ℕ) (l s : List ℕ) (e : s ≡ sectionOf nr l 1) where
   byte-matrices-in : _≡_ {A = ℕ → List ℕ} (λ n. matrixOf 1 (partOf 8 s n)) (byteMatrix nr l)
@@ -42,7 +38,7 @@ module _ (nr : ℕ) (l s : List ℕ) (e : s ≡ sectionOf nr l 1) where
 
   -- x is 2^k, p the vector with x at its place, v its product with m, r that with the byte matrices.
   pub spread-row : (m : List ℕ) (n i first k x p v r : ℕ) → x ≡ 2 ^ k → p ≡ placed n i x → v ≡ product (8 * n) (rowsOf (8 * n) m) p
-      → r ≡ number n (λ j. product 8 (matrixOf 1 (partOf 8 s (first + j))) (byte n j v)) → r ≡ spreadWord nr l m n i first (2 ^ k)
+      → r ≡ number n (λ j. product 8 (matrixOf 1 (partOf 8 s (first + j))) (byte n j v)) → r ≡ spreadWord nr l (rowsOf (8 * n) m) n i first (2 ^ k)
   spread-row m n i first k x p v r ex ep ev er =
       let is = ev ∙ ap (product (8 * n) (rowsOf (8 * n) m)) (ep ∙ ap (placed n i) ex) in
       er ∙ ap₂ (λ (f : ℕ → List ℕ) (z : ℕ). number n (λ j. product 8 (f (first + j)) (byte n j z))) byte-matrices-in is

@@ -1,24 +1,31 @@
--- Laws, not definitions: the inverses of a bundle's matrices, as the code works them out and chooses among them.
+-- Laws, not definitions: the inverses of a bundle's matrices for nr rounds, as the code works them out and chooses among them.
 -- Assumes nothing.
-use mathlib.Core.List.{List}
-use mathlib.Core.Path.{_≡_, sym, ap, _∙_, subst}
-use Prim.Native.Nat.{ℕ, _+_, _-_, _*_, _/_, _≤_, _<_}
+use mathlib.Core.List.{List, [], _++_, append-nil}
+use mathlib.Core.Path.{_≡_, refl, sym, ap, ap₂, _∙_, subst}
+use Prim.Native.Nat.{ℕ, _+_, _-_, _*_, _≤_, _<_}
 use native.Mathlib.Decide.{decLt}
 use native.Mathlib.Omega.{arith}
+use borrow.Author.Tests.{lt-ltb, le-ltb}
 use borrow.Rule.Slice.PartMut.{putMid}
-use lib.ListN.{length, take, drop}
+use lib.ListN.{length, take, drop, length-take}
+use lib.Seq.{drop-length, take-length, take-append-seam}
 use Rattle.answers.specs.declared.Answer.the-variants.{Accepted}
 use Rattle.bits.specs.Bytes.{Bytes}
-use Rattle.bits.proofs.laws.Lists.{cut, cut-is, length-cut, put-here, put-before}
+use Rattle.bits.proofs.laws.Lists.{length-concat, cut, cut-is}
+use Rattle.bits.proofs.laws.Offsets.{concat-row}
+use Rattle.bits.proofs.laws.Parts.{Parts, part-lent, parts-more}
 use Rattle.matrices.specs.Matrices.{matrixOf, Invertible}
-use Rattle.matrices.specs.Rows.{rowsOf}
+use Rattle.matrices.specs.Rows.{wordsOf}
+use Rattle.matrices.proofs.laws.Words.{length-words}
 use Rattle.inversion.specs.Elimination.{inverseOf}
 use Rattle.bundle.specs.Format.{columnMatrices, columnMatrixPart, inputMatrixPart, columnMatrix, inputMatrix}
 use Rattle.judgement.specs.Judge.{judge}
 use Rattle.judgement.proofs.laws.Judgements.{accepted-sound}
 use Rattle.layout.specs.declared.stage.Stage.{Stage}
-use Rattle.layout.specs.declared.stage.Stage.the-variants.{Entry, First, Second, Exit}
-use Rattle.layers.specs.Layers.{columnWords, ColumnInverses, Ready, InverseFor}
+use Rattle.layout.specs.declared.stage.Stage.the-variants.{Entry, First, Second, Exit, Beyond}
+use Rattle.layers.specs.Layers.{InRounds, Begins, inputWords, columnWords, inputInverse, columnInverse, columnInverses, columnNumber}
+use Rattle.layers.specs.Layers.{spreadInverse, inverseFor, spreadChosen, chosenFrom}
+use Rattle.layers.specs.Inverses.{Chosen, ColumnsLong}
 use Rattle.layers.proofs.laws.Code.{frame-of, column-part-long, input-part-long}
 
 -- ---- the parts p of an accepted bundle that hold a matrix
@@ -33,69 +40,119 @@ module _ (nr : ℕ) (l p : List ℕ) (bytes : Bytes l) (ok : judge nr l ≡ Acce
       let long = column-part-long nr l p (frame-of nr l ok) n h e in
       (omega arith, subst (λ (t : List ℕ). Invertible 32 (matrixOf 4 t)) (sym e) (accepted-sound nr l bytes ok .columns n h))
 
--- ---- the loop over the column matrices: the inverses of the first n stand in t
-pub record Inverted (l t : List ℕ) (n : ℕ) : Type 0 where
-  pub within : n ≤ 36
-  pub long : length t ≡ columnWords
-  pub rows : (k : ℕ) → k < n → rowsOf 32 (take 64 (drop (k * 64) t)) ≡ inverseOf 32 (columnMatrix 10 l k)
+-- ---- words over the front of a list
+-- Where they are as many as the list, they are all of it.
+all-written : (w d d′ : List ℕ) (k : ℕ) → d′ ≡ w ++ drop k d → length d ≡ k → d′ ≡ w
+all-written w d d′ k e h = e ∙ ap (λ (r : List ℕ). w ++ r) (ap (λ (n : ℕ). drop n d) (sym h) ∙ drop-length d) ∙ append-nil w
 
-pub inverted-none : (l t : List ℕ) → length t ≡ columnWords → Inverted l t 0
-inverted-none l t e = record { within = omega arith; long = e; rows = λ k h. absurd (omega arith) }
+pub written-begins : (w r m : List ℕ) → m ≡ w ++ r → Begins w m
+written-begins w r m e = ap (take (length w)) e ∙ take-append-seam w r
 
--- The place of the next, 64 words that the code lends from n * 64 to n * 64 + 64, and what it leaves with the words u there.
-module _ {l t : List ℕ} {n : ℕ} (I : Inverted l t n) (h : n < 36) where
-  pub place-long : length (cut t (n * 64) (n * 64 + 64)) ≡ 64
-  place-long = let long = I .long in length-cut t (n * 64) 64 (omega arith)
+-- ---- the inverses, from the part p that holds the matrix: what the words d have become
+pub input-inverse : (nr : ℕ) (l p d d′ : List ℕ) → p ≡ inputMatrixPart nr l → length d ≡ inputWords
+    → d′ ≡ wordsOf 128 (inverseOf 128 (matrixOf 16 p)) ++ drop inputWords d → d′ ≡ inputInverse nr l
+input-inverse nr l p d d′ e h w = all-written _ d d′ inputWords w h ∙ ap (λ (t : List ℕ). wordsOf 128 (inverseOf 128 (matrixOf 16 t))) e
 
-  pub inverted-more : (u : List ℕ) → length u ≡ length (cut t (n * 64) (n * 64 + 64))
-      → rowsOf 32 u ≡ inverseOf 32 (columnMatrix 10 l n)
-      → length (putMid (n * 64) (n * 64 + 64 - n * 64) t u) ≡ length t
-      → Inverted l (putMid (n * 64) (n * 64 + 64 - n * 64) t u) (n + 1)
-  inverted-more u k e q = record {
-    within = omega arith;
-    long = q ∙ I .long;
-    rows = λ i g. elim (decLt i n) [
-      | yes m ↦ ap (rowsOf 32) (put-before (n * 64) t u room (n * 64 + 64 - n * 64) 64 (i * 64) (omega arith)) ∙ I .rows i m
-      | no m ↦
-          let is : i ≡ n = omega arith in
-          subst (λ (i : ℕ). rowsOf 32 (take 64 (drop (i * 64) (putMid (n * 64) (n * 64 + 64 - n * 64) t u))) ≡ inverseOf 32 (columnMatrix 10 l i))
-          (sym is)
-          (ap (rowsOf 32) (put-here (n * 64) t u room (n * 64 + 64 - n * 64) 64 (k ∙ place-long)) ∙ e)
-    ];
-  }
-    where
-      room : n * 64 ≤ length t
-      room = let long = I .long in omega arith
+pub column-inverse : (nr n : ℕ) (l p d d′ : List ℕ) → p ≡ columnMatrixPart nr l n
+    → d′ ≡ wordsOf 32 (inverseOf 32 (matrixOf 4 p)) ++ drop columnWords d → d′ ≡ columnInverse nr l n ++ drop columnWords d
+column-inverse nr n l p d d′ e w = w ∙ ap (λ (t : List ℕ). wordsOf 32 (inverseOf 32 (matrixOf 4 t)) ++ drop columnWords d) e
 
-pub inverted-all : {l t : List ℕ} {n : ℕ} → Inverted l t n → 36 ≤ n → ColumnInverses l t
-inverted-all I h = record { long = I .long; rows = λ k g. I .rows k (omega arith) }
+-- Those of all column matrices: a loop that fills their parts of the words d, and gets the part of matrix n back as ys.
+pub columns-more : (nr count n : ℕ) (l d₀ d ys : List ℕ) → Parts count columnWords (columnInverse nr l) d₀ d n → n < count
+    → length ys ≡ length (cut d (n * columnWords) (n * columnWords + columnWords))
+    → ys ≡ columnInverse nr l n ++ drop columnWords (cut d (n * columnWords) (n * columnWords + columnWords))
+    → Parts count columnWords (columnInverse nr l) d₀ (putMid (n * columnWords) (n * columnWords + columnWords - n * columnWords) d ys) (n + 1)
+columns-more nr count n l d₀ d ys g h kept e = parts-more g h kept (all-written _ (cut d (n * columnWords) (n * columnWords + columnWords)) ys columnWords e (part-lent g h .long))
 
--- ---- the one inverse that spread table p of stage s needs: the rows m
-module _ {s : Stage} (l : List ℕ) (p : ℕ) (m : List ℕ) where
-  as-told : {t : Stage} → s ≡ t → InverseFor l t p m → InverseFor l s p m
-  as-told e = subst (λ (t : Stage). InverseFor l t p m) (sym e)
+pub columns-long : ColumnsLong
+unfolding columnInverses
+columns-long nr l = length-concat columnWords (columnInverse nr l) (columnMatrices nr) (λ n h. length-words 32 (inverseOf 32 (columnMatrix nr l n)))
 
-  pub for-entry : s ≡ Entry → 256 ≤ length m → rowsOf 128 m ≡ inverseOf 128 (inputMatrix 10 l) → InverseFor l s p m
-  for-entry e h q = as-told e (h, q)
+-- ---- the one that table j of stage s is made with, into the front of the words d, which have become d′
+module _ (nr : ℕ) (l : List ℕ) (s : Stage) (j : ℕ) where
+  none-for : 15 < j → inverseFor nr l s j ≡ []
+  unfolding inverseFor
+  none-for h = rw (le-ltb j 16 (omega arith))
 
-  pub for-first : {r : ℕ} → s ≡ First r → InverseFor l s p m
-  for-first e = as-told e tt
+  spread-for : j ≤ 15 → (t : Stage) → s ≡ t → inverseFor nr l s j ≡ spreadInverse nr l t j
+  unfolding inverseFor
+  spread-for h t e = rw (lt-ltb j 16 (omega arith)) (ap (λ (t : Stage). spreadInverse nr l t j) e)
 
-  pub for-second : {r n : ℕ} → s ≡ Second r → n ≡ 4 * (r - 1) + p / 4 → 64 ≤ length m
-      → rowsOf 32 m ≡ inverseOf 32 (columnMatrix 10 l n) → InverseFor l s p m
-  for-second e f h q = as-told e (h, q ∙ ap (λ (n : ℕ). inverseOf 32 (columnMatrix 10 l n)) f)
+module _ (nr : ℕ) (l : List ℕ) (s : Stage) (j : ℕ) (d d′ : List ℕ) where
+  abbrev Written : Type 0
+  Written = d′ ≡ inverseFor nr l s j ++ drop (length (inverseFor nr l s j)) d
 
-  pub for-exit : s ≡ Exit → InverseFor l s p m
-  for-exit e = as-told e tt
+  told : (w : List ℕ) (k : ℕ) → inverseFor nr l s j ≡ w → length w ≡ k → d′ ≡ w ++ drop k d → Written
+  told w k e h q = q ∙ ap₂ (λ (u : List ℕ) (n : ℕ). u ++ drop n d) (sym e) (sym h ∙ ap length (sym e))
 
--- Where all are worked out, the words of column matrix n stand in `columns` from n * 64 on.
-module _ {s : Stage} (columns input : List ℕ) (p : ℕ) where
-  pub entry-chosen : s ≡ Entry → (l : List ℕ) → Ready l columns input → InverseFor l s p input
-  entry-chosen e l ready = let long = ready .long in for-entry l p input e (omega arith) (ready .rows)
+  pub made-entry : j ≤ 15 → s ≡ Entry → length d ≡ inputWords → d′ ≡ inputInverse nr l → Written
+  made-entry h e long q =
+      let rest : drop inputWords d ≡ [] = ap (λ (n : ℕ). drop n d) (sym long) ∙ drop-length d in
+      told (inputInverse nr l) inputWords (spread-for nr l s j h _ e) (length-words 128 (inverseOf 128 (inputMatrix nr l)))
+      (q ∙ sym (append-nil (inputInverse nr l)) ∙ ap (λ (r : List ℕ). inputInverse nr l ++ r) (sym rest))
 
-  pub second-chosen : {r n : ℕ} → s ≡ Second r → n ≡ 4 * (r - 1) + p / 4 → n < 36 → (l : List ℕ) → Ready l columns input
-      → InverseFor l s p (cut columns (n * 64) (n * 64 + 64))
-  second-chosen {r} {n} e f h l ready =
-      let all = ready .inverses .long in
-      let long = length-cut columns (n * 64) 64 (omega arith) in
-      for-second l p _ e f (omega arith) (ap (rowsOf 32) (cut-is columns (n * 64) 64) ∙ ready .inverses .rows n h)
+  pub made-second : (r n : ℕ) → j ≤ 15 → s ≡ Second r → n ≡ columnNumber r j → d′ ≡ columnInverse nr l n ++ drop columnWords d → Written
+  made-second r n h e number q =
+      told (columnInverse nr l (columnNumber r j)) columnWords (spread-for nr l s j h _ e)
+      (length-words 32 (inverseOf 32 (columnMatrix nr l (columnNumber r j))))
+      (q ∙ ap (λ (n : ℕ). columnInverse nr l n ++ drop columnWords d) number)
+
+  -- The words are as they were where the table is made with none: an XOR table, or in a stage t whose tables are.
+  pub made-xor : 15 < j → d′ ≡ d → Written
+  made-xor h q = told [] 0 (none-for nr l s j h) refl q
+
+  pub made-none : (t : Stage) → j ≤ 15 → s ≡ t → spreadInverse nr l t j ≡ [] → d′ ≡ d → Written
+  made-none t h e none q = told [] 0 (spread-for nr l s j h _ e ∙ none) refl q
+
+-- ---- where all are worked out: the words that are handed over for table j of stage s
+module _ (columns input : List ℕ) (s : Stage) (j : ℕ) where
+  pub chosen-xor : 15 < j → input ≡ chosenFrom columns input s j
+  unfolding chosenFrom
+  chosen-xor h = rw (le-ltb j 16 (omega arith)) refl
+
+  pub chosen-spread : (t : Stage) (m : List ℕ) → j ≤ 15 → s ≡ t → m ≡ spreadChosen columns input t j → m ≡ chosenFrom columns input s j
+  unfolding chosenFrom
+  chosen-spread t m h e q = q ∙ rw (lt-ltb j 16 (omega arith)) (ap (λ (t : Stage). spreadChosen columns input t j) (sym e))
+
+  -- The code lends the words of column matrix n.
+  pub chosen-second : (r n : ℕ) → j ≤ 15 → s ≡ Second r → n ≡ columnNumber r j
+      → cut columns (n * columnWords) (n * columnWords + columnWords) ≡ chosenFrom columns input s j
+  chosen-second r n h e number =
+      chosen-spread _ _ h e (cut-is columns (n * columnWords) columnWords ∙ ap (λ (n : ℕ). take columnWords (drop (n * columnWords) columns)) number)
+
+module _ (nr : ℕ) (l : List ℕ) where
+  column-begins : (n : ℕ) → n < columnMatrices nr → Begins (columnInverse nr l n) (take columnWords (drop (n * columnWords) (columnInverses nr l)))
+  unfolding columnInverses
+  column-begins n h =
+      let here = concat-row columnWords (columnInverse nr l) (columnMatrices nr) (λ n h. length-words 32 (inverseOf 32 (columnMatrix nr l n))) n h in
+      ap (take (length (columnInverse nr l n))) here ∙ take-length (columnInverse nr l n)
+
+  begins-spread : (s : Stage) (j : ℕ) → j < 16 → InRounds nr s → Begins (spreadInverse nr l s j) (spreadChosen (columnInverses nr l) (inputInverse nr l) s j)
+  unfolding columnMatrices
+  begins-spread Entry j h k = take-length (inputInverse nr l)
+  begins-spread (First r) j h k = refl
+  begins-spread (Second r) j h k = column-begins (columnNumber r j) (omega arith)
+  begins-spread Exit j h k = refl
+  begins-spread Beyond j h k = refl
+
+-- ---- words m that begin with the inverse that spread table p of stage s is made with
+taken : (k : ℕ) (w u m : List ℕ) → u ≡ w → length w ≡ k → Begins u m → (k ≤ length m) × (take k m ≡ w)
+taken k w u m e h b =
+    let front : take k m ≡ w = ap (λ (n : ℕ). take n m) (sym h ∙ ap length (sym e)) ∙ b ∙ e in
+    (omega (arith, sym (length-take k m) ∙ ap length front, h), front)
+
+module _ (nr : ℕ) (l : List ℕ) (s : Stage) (p : ℕ) (m : List ℕ) (small : p < 16) (b : Begins (inverseFor nr l s p) m) where
+  pub begins-entry : s ≡ Entry → (inputWords ≤ length m) × (take inputWords m ≡ inputInverse nr l)
+  begins-entry e = taken inputWords _ _ m (spread-for nr l s p (omega arith) Entry e) (length-words 128 (inverseOf 128 (inputMatrix nr l))) b
+
+  pub begins-second : (r : ℕ) → s ≡ Second r → (columnWords ≤ length m) × (take columnWords m ≡ columnInverse nr l (columnNumber r p))
+  begins-second r e =
+      taken columnWords _ _ m (spread-for nr l s p (omega arith) (Second r) e) (length-words 32 (inverseOf 32 (columnMatrix nr l (columnNumber r p)))) b
+
+-- ---- what is chosen begins with it
+pub chosen-begins : Chosen
+unfolding inverseFor chosenFrom
+chosen-begins nr l s j k = elim (decLt j 16) [
+  | yes h ↦ rw (lt-ltb j 16 h) (begins-spread nr l s j h k)
+  | no h ↦ rw (le-ltb j 16 (omega arith)) refl
+]

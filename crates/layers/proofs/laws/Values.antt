@@ -1,32 +1,32 @@
 -- Laws, not definitions: the byte behind the S-box, from the products of nibbles, the S-box as a table and the two key bytes.
 -- Assumes nothing.
 use mathlib.Core.Bool.{cond}
-use mathlib.Core.List.{List}
+use mathlib.Core.List.{List, _++_}
 use mathlib.Core.Path.{_≡_, refl, sym, ap, ap₂, _∙_, subst}
 use Prim.Native.Nat.{ℕ, _+_, _-_, _*_, _/_, _%_, _≤_, _<_}
 use native.Mathlib.Omega.{arith}
 use borrow.Author.Tests.{eq-eqb, ne-eqb}
 use lib.Bits.{bitXor, xor-lt}
 use lib.Dec.{eqb}
-use lib.ListN.{length, set}
+use lib.ListN.{length, set, take}
+use lib.Seq.{take-at}
 use Rattle.answers.specs.declared.Answer.the-variants.{Accepted}
 use Rattle.bits.specs.Bytes.{Bytes}
 use Rattle.bits.specs.Lists.{at, tabulate}
 use Rattle.bits.proofs.laws.Filled.{Filled, filled-more}
 use Rattle.bits.proofs.laws.Lists.{at-tabulate, tabulate-ext}
 use Rattle.matrices.specs.Matrices.{product, matrixOf, Invertible}
-use Rattle.matrices.specs.Rows.{rowsOf}
+use Rattle.matrices.specs.Rows.{rowsOf, wordsOf}
 use Rattle.matrices.proofs.laws.Matrices.{product-lt, product-xor}
+use Rattle.matrices.proofs.laws.Words.{length-words, product-of-words}
 use Rattle.inversion.specs.Elimination.{inverseOf}
-use Rattle.field.specs.Sbox.{sboxOf}
 use Rattle.round.specs.Key.{keyOf}
 use Rattle.round.proofs.laws.Key.{key-at}
-use Rattle.bundle.specs.Format.{byteMatrices, byteMatrixPart, byteMatrix}
+use Rattle.bundle.specs.Format.{byteMatrices, byteMatrixPart}
 use Rattle.judgement.specs.Judge.{judge}
 use Rattle.judgement.proofs.laws.Judgements.{accepted-sound}
-use Rattle.layout.specs.Stages.{shifted}
 use Rattle.whitebox.specs.Bundles.{codingsOf}
-use Rattle.whitebox.specs.Parts.{forward}
+use Rattle.whitebox.specs.Parts.{Parts}
 use Rattle.whitebox.specs.Words.{substituted}
 use Rattle.entries.specs.Spread.{nibbleByte}
 use Rattle.entries.proofs.laws.Combined.{by-nibbles}
@@ -41,25 +41,25 @@ pub products-more : (m : List ℕ) {t : List ℕ} {r x v : ℕ} → Filled 32 (n
 products-more m F h ex ev = filled-more F h (ev ∙ ap (product 8 (rowsOf 8 m)) ex)
 
 -- ---- the byte behind the S-box, for every byte that is read
--- The byte x times the rows of m, then xor `before`, S-box, xor `behind`.
-abbrev pub behindSbox : List ℕ → ℕ → ℕ → ℕ → ℕ
-behindSbox m before behind x = bitXor (sboxOf (bitXor (product 8 (rowsOf 8 m) x) before)) behind
+-- The byte x times the rows of m, then xor `before`, S-box, xor `behind`; the S-box is any, `box`.
+abbrev pub behindSbox : (ℕ → ℕ) → List ℕ → ℕ → ℕ → ℕ → ℕ
+behindSbox box m before behind x = bitXor (box (bitXor (product 8 (rowsOf 8 m) x) before)) behind
 
 -- Of byte k of `read`.
-abbrev pub behindAt : List ℕ → ℕ → ℕ → List ℕ → ℕ → ℕ
-behindAt m before behind read k = behindSbox m before behind (at read k)
+abbrev pub behindAt : (ℕ → ℕ) → List ℕ → ℕ → ℕ → List ℕ → ℕ → ℕ
+behindAt box m before behind read k = behindSbox box m before behind (at read k)
 
-module _ (m products sbox : List ℕ) (before behind : ℕ) (p : products ≡ tabulate 32 (nibbleProduct m))
-    (s : sbox ≡ tabulate 256 sboxOf) (b : before < 256) where
+module _ (box : ℕ → ℕ) (m products sbox : List ℕ) (before behind : ℕ) (p : products ≡ tabulate 32 (nibbleProduct m))
+    (s : sbox ≡ tabulate 256 box) (b : before < 256) where
   abbrev times : ℕ → ℕ
   times = product 8 (rowsOf 8 m)
 
   -- y is the byte read, as an index; the products of its two nibbles add up to its own.
   substituted-is : (read y : ℕ) → y ≡ read → y < 256
-      → at sbox (bitXor (bitXor (at products (y % 16)) (at products (16 + y / 16))) before) ≡ sboxOf (bitXor (times read) before)
+      → at sbox (bitXor (bitXor (at products (y % 16)) (at products (16 + y / 16))) before) ≡ box (bitXor (times read) before)
   substituted-is read y e h =
       ap₂ (λ (t : List ℕ) (x : ℕ). at t (bitXor x before)) s sum
-      ∙ at-tabulate 256 sboxOf _ (xor-lt 8 (times read) before (product-lt 8 (at (rowsOf 8 m)) read) b)
+      ∙ at-tabulate 256 box _ (xor-lt 8 (times read) before (product-lt 8 (at (rowsOf 8 m)) read) b)
     where
       product-at : (r : ℕ) → r < 32 → at products r ≡ times (nibbleByte r)
       product-at r k = ap (λ (t : List ℕ). at t r) p ∙ at-tabulate 32 (nibbleProduct m) r k
@@ -70,18 +70,18 @@ module _ (m products sbox : List ℕ) (before behind : ℕ) (p : products ≡ ta
           ∙ by-nibbles times (product-xor 8 (at (rowsOf 8 m))) y
           ∙ ap times e
 
-  pub substituted-more : (read : List ℕ) {t : List ℕ} {x v : ℕ} (y : ℕ) → Filled 256 (behindAt m before behind read) t x → x < 256
+  pub substituted-more : (read : List ℕ) {t : List ℕ} {x v : ℕ} (y : ℕ) → Filled 256 (behindAt box m before behind read) t x → x < 256
       → y ≡ at read x → y < 256 → v ≡ bitXor (at sbox (bitXor (bitXor (at products (y % 16)) (at products (16 + y / 16))) before)) behind
-      → Filled 256 (behindAt m before behind read) (set t x v) (x + 1)
+      → Filled 256 (behindAt box m before behind read) (set t x v) (x + 1)
   substituted-more read {x = x} y F h e k ev =
       filled-more F h (ev ∙ ap (λ (z : ℕ). bitXor z behind) (substituted-is (at read x) y e k))
 
--- ---- the key byte behind the S-box
-pub behind-last : (keys : List ℕ) (r p : ℕ) → r ≡ 10 → p < 16 → at keys (160 + p) ≡ cond (eqb r 10) (at (keyOf keys 10) p) 0
-behind-last keys r p e h = rw (eq-eqb r 10 e) (sym (key-at keys 10 p h))
+-- ---- the key byte behind the S-box of nr rounds
+pub behind-last : (nr : ℕ) (keys : List ℕ) (r p : ℕ) → r ≡ nr → p < 16 → at keys (16 * nr + p) ≡ cond (eqb r nr) (at (keyOf keys nr) p) 0
+behind-last nr keys r p e h = rw (eq-eqb r nr e) (sym (key-at keys nr p h))
 
-pub behind-none : (keys : List ℕ) (r p : ℕ) → (r ≡ 10 → ⊥) → 0 ≡ cond (eqb r 10) (at (keyOf keys 10) p) 0
-behind-none keys r p e = rw (ne-eqb r 10 e) refl
+pub behind-none : (nr : ℕ) (keys : List ℕ) (r p : ℕ) → (r ≡ nr → ⊥) → 0 ≡ cond (eqb r nr) (at (keyOf keys nr) p) 0
+behind-none nr keys r p e = rw (ne-eqb r nr e) refl
 
 -- ---- round r of nr, position p, of an accepted bundle l: j is the position that p reads, part the byte matrix of round r there
 module _ (nr : ℕ) (l part : List ℕ) (r j : ℕ) (low : 1 ≤ r) (high : r ≤ nr) (h : j < 16) (ep : part ≡ byteMatrixPart nr l (16 * (r - 1) + j)) where
@@ -96,18 +96,19 @@ module _ (nr : ℕ) (l part : List ℕ) (r j : ℕ) (low : 1 ≤ r) (high : r �
   byte-part-invertible bytes a =
       subst (λ (t : List ℕ). Invertible 8 (matrixOf 1 t)) (sym ep) (accepted-sound nr l bytes a .bytes (16 * (r - 1) + j) number-lt)
 
-  -- rows has the rows of the inverse, t the bytes that `substitute` leaves.
-  pub behind-is : (keys read rows : List ℕ) (p behind : ℕ) (t : List ℕ) → j ≡ shifted p
-      → rowsOf 8 rows ≡ inverseOf 8 (matrixOf 1 part) → behind ≡ cond (eqb r nr) (at (keyOf keys nr) p) 0
-      → t ≡ tabulate 256 (λ x. behindSbox rows (at keys (16 * (r - 1) + j)) behind (at read x))
-      → t ≡ tabulate 256 (λ x. substituted (forward nr keys) (codingsOf nr l) r p (at read x))
-  unfolding substituted forward
-  behind-is keys read rows p behind t ej er eb e =
+  -- Of a cipher of the parts P: rows has the words of the inverse, `before` and `behind` are the key bytes, t the bytes that are left.
+  pub behind-is : (P : Parts) (read rest rows : List ℕ) (p before behind : ℕ) (t : List ℕ) → j ≡ P .reads p
+      → rows ≡ wordsOf 8 (inverseOf 8 (matrixOf 1 part)) ++ rest → before ≡ P .before r j → behind ≡ P .behind r p
+      → t ≡ tabulate 256 (behindAt (P .substitute) rows before behind read)
+      → t ≡ tabulate 256 (λ x. substituted P (codingsOf nr l) r p (at read x))
+  unfolding substituted
+  behind-is P read rest rows p before behind t ej er ea eb e =
       let n = 16 * (r - 1) + j in
+      let words = wordsOf 8 (inverseOf 8 (matrixOf 1 part)) in
+      let begins = ap (take 16) er ∙ take-at words rest 16 (length-words 8 (inverseOf 8 (matrixOf 1 part))) in
       let matrix = sym (byte-is nr l n number-lt) ∙ ap (λ (k : ℕ). codingsOf nr l .byteMatrix (16 * (r - 1) + k)) ej in
-      let inverse = er ∙ ap (λ (q : List ℕ). inverseOf 8 (matrixOf 1 q)) ep ∙ ap (inverseOf 8) matrix in
-      let key = sym (key-at keys (r - 1) j h) ∙ ap (at (keyOf keys (r - 1))) ej in
+      let inverse = ap (λ (q : List ℕ). inverseOf 8 (matrixOf 1 q)) ep ∙ ap (inverseOf 8) matrix in
+      let key = ea ∙ ap (P .before r) ej in
       e ∙ tabulate-ext 256 _ _ (λ x g.
-      let decoded = ap (λ (m : List ℕ). product 8 m (at read x)) inverse in
-      let keyed = ap₂ bitXor decoded key in
-      ap₂ bitXor (ap sboxOf keyed) eb)
+      let decoded = product-of-words 8 (inverseOf 8 (matrixOf 1 part)) rows begins (at read x) ∙ ap (λ (m : List ℕ). product 8 m (at read x)) inverse in
+      ap₂ bitXor (ap (P .substitute) (ap₂ bitXor decoded key)) eb)

@@ -19,7 +19,6 @@ use Rattle.matrices.specs.Rows.{rowsOf}
 use Rattle.matrices.proofs.laws.Matrices.{product-lt, product-rows}
 use Rattle.matrices.proofs.laws.Stored.{matrixOf-at}
 use Rattle.field.specs.Field.{mul}
-use Rattle.round.specs.State.{mixRows, entry}
 use Rattle.bundle.specs.Format.{partOf}
 use Rattle.bundle.proofs.laws.Parts.{part-length}
 
@@ -54,17 +53,17 @@ unfolding productBy
 joined-byte p x {r} b J h q = low-byte (matrixOf 1 p) x r b (joined-all J h ∙ part-rows p x) q
 
 -- ---- bytes that a loop fills
--- Row t of column q of MixColumns, times the byte y.
-abbrev pub mixedBy : ℕ → ℕ → ℕ → ℕ
-mixedBy q y t = mul (entry mixRows t q) y
+-- Row t of column q of a column mixing with the coefficients c, times the byte y.
+abbrev pub mixedBy : (ℕ → ℕ → ℕ) → ℕ → ℕ → ℕ → ℕ
+mixedBy c q y t = mul (c t q) y
 
 -- All four rows, as a number.
-abbrev pub mixedColumn : ℕ → ℕ → ℕ
-mixedColumn q y = number 4 (mixedBy q y)
+abbrev pub mixedColumn : (ℕ → ℕ → ℕ) → ℕ → ℕ → ℕ
+mixedColumn c q y = number 4 (mixedBy c q y)
 
-pub mixed-more : (q y : ℕ) {b : List ℕ} {t c v : ℕ} → Filled 16 (mixedBy q y) b t → t < 4 → c ≡ entry mixRows t q → v ≡ mul c y
-    → Filled 16 (mixedBy q y) (set b t v) (t + 1)
-mixed-more q y F h ec ev = filled-more F (omega arith) (ev ∙ ap (λ (z : ℕ). mul z y) ec)
+pub mixed-more : (c : ℕ → ℕ → ℕ) (q y : ℕ) {b : List ℕ} {t k v : ℕ} → Filled 16 (mixedBy c q y) b t → t < 4 → k ≡ c t q → v ≡ mul k y
+    → Filled 16 (mixedBy c q y) (set b t v) (t + 1)
+mixed-more c q y F h ec ev = filled-more F (omega arith) (ev ∙ ap (λ (z : ℕ). mul z y) ec)
 
 module _ (s : List ℕ) (first n v : ℕ) where
   -- Byte j of the n bytes of v, times its byte matrix of the section s.
@@ -76,6 +75,6 @@ module _ (s : List ℕ) (first n v : ℕ) where
   times-more {j = j} p x F h k ep ex ey =
       filled-more F (omega arith) (ey ∙ ap₂ (λ (t : List ℕ) (z : ℕ). product 8 (matrixOf 1 t) z) ep (byte-from-bottom n j v x ex))
 
--- A byte matrix of its section has 8 bytes.
-pub part-room : (s p : List ℕ) (first n j : ℕ) → length s ≡ 1280 → first + n ≤ 160 → j < n → p ≡ partOf 8 s (first + j) → 8 ≤ length p
-part-room s p first n j l h k e = omega (arith, ap length e, part-length 8 s (first + j) (omega arith))
+-- A byte matrix of its section of `count` has 8 bytes.
+pub part-room : (count : ℕ) (s p : List ℕ) (first n j : ℕ) → length s ≡ count * 8 → first + n ≤ count → j < n → p ≡ partOf 8 s (first + j) → 8 ≤ length p
+part-room count s p first n j l h k e = omega (arith, ap length e, part-length 8 s (first + j) (omega arith))

@@ -7,12 +7,12 @@ use Prim.Native.Nat.{ℕ, zero, suc, _+_, _-_, _≤_, _<_}
 use native.Mathlib.Nat.{le-refl}
 use lib.ListN.{length, take, drop}
 use Rattle.bits.specs.Lists.{concat}
+use Rattle.bits.proofs.laws.Offsets.{offset-mono}
 use Rattle.network.specs.Lookups.{Shape}
 use Rattle.network.specs.Numbers.{startNumbers}
 use Rattle.network.specs.Sizes.{lookupsIn, sizeIn, offsetIn}
 use Rattle.network.specs.Tables.{Layer, Good, AllGood, shapeOf, shapesOf, widthsOf, tableAt}
 use Rattle.network.proofs.laws.Layers.{offset-none}
-use Rattle.network.proofs.laws.Parts.{offset-mono}
 use Rattle.network.proofs.laws.Sizes.{offset-zero, offset-suc, length-table, set-length, set-part}
 use Rattle.layout.specs.Stages.{rounds, stages, widthOf, shapeAt, shapes, widths, lookups, tablesBytes, tableSize, tableOffset}
 use Rattle.layout.specs.declared.stage.Stage.{Stage}

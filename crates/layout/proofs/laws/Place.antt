@@ -2,13 +2,13 @@
 -- spread lookup reads.
 -- Assumes nothing.
 use mathlib.Core.Path.{_≡_, sym, ap, ap₂, _∙_}
-use Prim.Native.Nat.{ℕ, _+_, _-_, _*_, _/_, _%_, _≤_, _<_, min}
+use Prim.Native.Nat.{ℕ, _+_, _-_, _*_, _≤_, _<_, min}
 use native.Mathlib.Decide.{decLt}
 use native.Mathlib.Nat.{mul-le-mul-right}
 use native.Mathlib.Omega.{arith}
 use borrow.Author.Tests.{lt-ltb, le-ltb}
-use Rattle.layout.specs.Stages.{widthOf, shifted, sourceOf, lookups, tenLookups, tenTablesBytes, stageOf, firstLookup, firstByte, indexOf}
-use Rattle.layout.specs.Stages.{placeOf, placeFrom, placeInRound}
+use Rattle.layout.specs.Stages.{widthOf, shifted, sourceOf, lookups, entryLookups, halfLookups, stageOf, roundAt, inRound}
+use Rattle.layout.specs.Stages.{firstLookup, firstByte, indexOf, placeOf, placeFrom, placeInRound}
 use Rattle.layout.specs.declared.stage.Place.{Place}
 use Rattle.layout.specs.declared.stage.Stage.{Stage}
 use Rattle.layout.specs.declared.stage.Stage.the-variants.{Entry, First, Second, Exit, Beyond}
@@ -42,68 +42,70 @@ place-at nr k s h e =
     (ap₂ (λ (x y : ℕ). record { stage = stageOf nr k; index = k - firstLookup nr (stageOf nr k); size = x; offset = y })
     (sym (by-stage nr .size-is k h)) (sym (by-stage nr .offset-is k h)))
 
-pub in-entry : (k : ℕ) {p : Place} → k < 496 → p ≡ placeFrom Entry 16 0 k → p ≡ placeOf 10 k
-in-entry k h q =
-    q ∙ ap (placeFrom Entry 16 0) (let e : k ≡ k - 0 = omega arith in e) ∙ place-at 10 k Entry (omega (arith, lookups-are 10)) (stage-entry 10 k h)
+-- ---- by the range, of nr rounds
+module _ (nr k : ℕ) {p : Place} where
+  pub in-entry : k < entryLookups → p ≡ placeFrom Entry 16 0 k → p ≡ placeOf nr k
+  in-entry h q =
+      q ∙ ap (placeFrom Entry 16 0) (let e : k ≡ k - 0 = omega arith in e) ∙ place-at nr k Entry (omega (arith, lookups-are nr)) (stage-entry nr k h)
 
-pub in-exit : (k : ℕ) {p : Place} → 2512 ≤ k → k < tenLookups → p ≡ placeFrom Exit 16 643072 (k - 2512) → p ≡ placeOf 10 k
-in-exit k lo hi q = q ∙ place-at 10 k Exit (omega (arith, lookups-are 10)) (stage-exit 10 k lo hi)
+  pub in-exit : firstLookup nr Exit ≤ k → k < firstLookup nr Beyond → p ≡ placeFrom Exit 16 (firstByte nr Exit) (k - firstLookup nr Exit) → p ≡ placeOf nr k
+  in-exit lo hi q = q ∙ place-at nr k Exit (omega (arith, lookups-are nr)) (stage-exit nr k lo hi)
 
-pub beyond : (k : ℕ) → tenLookups ≤ k → record { stage = Beyond; index = k - tenLookups; size = 0; offset = tenTablesBytes } ≡ placeOf 10 k
+  pub in-rounds : entryLookups ≤ k → k < firstLookup nr Exit → p ≡ placeInRound nr (roundAt k) (inRound k) → p ≡ placeOf nr k
+  unfolding placeInRound
+  in-rounds lo hi q = q ∙ go (decLt (inRound k) halfLookups)
+    where
+      r : ℕ
+      r = roundAt k
+
+      less : k < lookups nr
+      less = omega (arith, lookups-are nr)
+
+      go : Dec (inRound k < halfLookups) → placeInRound nr r (inRound k) ≡ placeOf nr k
+      go (yes h) =
+          rw (lt-ltb (inRound k) halfLookups h)
+          (ap (placeFrom (First r) 4 (firstByte nr (First r))) (let e : inRound k ≡ k - firstLookup nr (First r) = omega arith in e)
+          ∙ place-at nr k (First r) less (stage-first nr k lo hi h))
+      go (no h) =
+          rw (le-ltb (inRound k) halfLookups (omega arith))
+          (ap (placeFrom (Second r) 4 (firstByte nr (Second r))) (let e : inRound k - halfLookups ≡ k - firstLookup nr (Second r) = omega arith in e)
+          ∙ place-at nr k (Second r) less (stage-second nr k lo hi (omega arith)))
+
+pub beyond : (nr k : ℕ) → firstLookup nr Beyond ≤ k
+    → record { stage = Beyond; index = k - firstLookup nr Beyond; size = 0; offset = firstByte nr Beyond } ≡ placeOf nr k
 unfolding indexOf
-beyond k lo =
-    rw (stage-beyond 10 k lo)
-    (ap₂ (λ (x y : ℕ). record { stage = Beyond; index = k - tenLookups; size = x; offset = y })
-    (sym (by-stage 10 .size-none k (omega (arith, lookups-are 10))))
-    (sym (by-stage 10 .offset-none k (omega (arith, lookups-are 10)) ∙ by-stage 10 .table-bytes)))
-
-pub in-rounds : (k : ℕ) {p : Place} → 496 ≤ k → k < 2512 → p ≡ placeInRound ((k - 496) / 224 + 1) ((k - 496) % 224) → p ≡ placeOf 10 k
-unfolding placeInRound
-in-rounds k lo hi q = q ∙ go (decLt j 112)
-  where
-    j : ℕ
-    j = (k - 496) % 224
-
-    r : ℕ
-    r = (k - 496) / 224 + 1
-
-    less : k < lookups 10
-    less = omega (arith, lookups-are 10)
-
-    go : Dec (j < 112) → placeInRound r j ≡ placeOf 10 k
-    go (yes h) =
-        rw (lt-ltb j 112 h)
-        (ap (placeFrom (First r) 4 (126976 + 57344 * (r - 1))) (let e : j ≡ k - (496 + 224 * (r - 1)) = omega arith in e)
-        ∙ place-at 10 k (First r) less (stage-first 10 k lo hi h))
-    go (no h) =
-        rw (le-ltb j 112 (omega arith))
-        (ap (placeFrom (Second r) 4 (155648 + 57344 * (r - 1))) (let e : j - 112 ≡ k - (608 + 224 * (r - 1)) = omega arith in e)
-        ∙ place-at 10 k (Second r) less (stage-second 10 k lo hi (omega arith)))
+beyond nr k lo =
+    rw (stage-beyond nr k lo)
+    (ap₂ (λ (x y : ℕ). record { stage = Beyond; index = k - firstLookup nr Beyond; size = x; offset = y })
+    (sym (by-stage nr .size-none k (omega (arith, lookups-are nr))))
+    (sym (by-stage nr .offset-none k (omega (arith, lookups-are nr)) ∙ by-stage nr .table-bytes)))
 
 -- ---- the two arms inside a round
-pub first-half : (r j : ℕ) {p : Place} → j < 112 → p ≡ placeFrom (First r) 4 (126976 + 57344 * (r - 1)) j → p ≡ placeInRound r j
-unfolding placeInRound
-first-half r j h q = rw (lt-ltb j 112 h) q
+module _ (nr r j : ℕ) {p : Place} where
+  pub first-half : j < halfLookups → p ≡ placeFrom (First r) 4 (firstByte nr (First r)) j → p ≡ placeInRound nr r j
+  unfolding placeInRound
+  first-half h q = rw (lt-ltb j halfLookups h) q
 
-pub second-half : (r j : ℕ) {p : Place} → 112 ≤ j → p ≡ placeFrom (Second r) 4 (155648 + 57344 * (r - 1)) (j - 112) → p ≡ placeInRound r j
-unfolding placeInRound
-second-half r j h q = rw (le-ltb j 112 h) q
+  pub second-half : halfLookups ≤ j → p ≡ placeFrom (Second r) 4 (firstByte nr (Second r)) (j - halfLookups) → p ≡ placeInRound nr r j
+  unfolding placeInRound
+  second-half h q = rw (le-ltb j halfLookups h) q
 
 -- ---- where a spread lookup reads: one of the 16 standing bytes
 pub shifted-lt : (p : ℕ) → p < 16 → shifted p < 16
 unfolding shifted
 shifted-lt p h = omega arith
 
-pub source-lt : (s : Stage) (p : ℕ) → p < 16 → sourceOf shifted s p < 16
-source-lt Entry p h = h
-source-lt (First r) p h = shifted-lt p h
-source-lt (Second r) p h = h
-source-lt Exit p h = shifted-lt p h
-source-lt Beyond p h = h
+module _ (reads : ℕ → ℕ) where
+  pub source-lt : ((p : ℕ) → p < 16 → reads p < 16) → (s : Stage) (p : ℕ) → p < 16 → sourceOf reads s p < 16
+  source-lt small Entry p h = h
+  source-lt small (First r) p h = small p h
+  source-lt small (Second r) p h = h
+  source-lt small Exit p h = small p h
+  source-lt small Beyond p h = h
 
--- By the stage: through the row shift in a first half and in the exit.
-pub reads-first : (s : Stage) (r p x : ℕ) → s ≡ First r → x ≡ shifted p → x ≡ sourceOf shifted s p
-reads-first s r p x e q = q ∙ ap (λ (s : Stage). sourceOf shifted s p) (sym e)
+  -- By the stage: through the row shift in a first half and in the exit.
+  pub reads-first : (s : Stage) (r p x : ℕ) → s ≡ First r → x ≡ reads p → x ≡ sourceOf reads s p
+  reads-first s r p x e q = q ∙ ap (λ (s : Stage). sourceOf reads s p) (sym e)
 
-pub reads-exit : (s : Stage) (p x : ℕ) → s ≡ Exit → x ≡ shifted p → x ≡ sourceOf shifted s p
-reads-exit s p x e q = q ∙ ap (λ (s : Stage). sourceOf shifted s p) (sym e)
+  pub reads-exit : (s : Stage) (p x : ℕ) → s ≡ Exit → x ≡ reads p → x ≡ sourceOf reads s p
+  reads-exit s p x e q = q ∙ ap (λ (s : Stage). sourceOf reads s p) (sym e)

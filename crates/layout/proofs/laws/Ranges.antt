@@ -1,109 +1,141 @@
 -- Laws, not definitions: the stage of a lookup by ranges of its number is the layer that the network has there.
 -- Assumes nothing.
 use mathlib.Core.List.{List, _∷_, _++_, map, map-map, map-append}
+use mathlib.Core.Logic.{_⊎_, inl, inr}
 use mathlib.Core.Path.{_≡_, refl, sym, ap, ap₂, _∙_, subst, fun-ext}
-use Prim.Native.Nat.{ℕ, _+_, _-_, _*_, _/_, _%_, _≤_, _<_}
+use Prim.Native.Nat.{ℕ, _+_, _-_, _*_, _≤_, _<_}
 use native.Mathlib.Decide.{decLt}
 use native.Mathlib.Omega.{arith}
 use borrow.Author.Tests.{lt-ltb, le-ltb}
 use Rattle.network.specs.Lookups.{State, Shape, lookupIn, lookupAt}
 use Rattle.network.specs.Numbers.{Numbers, startNumbers, numbersAfter}
 use Rattle.network.specs.Order.{layerLookups}
-use Rattle.network.specs.Sizes.{sizeOf, offsetOf, lookupsIn, resultsIn, sizeIn, offsetIn}
-use Rattle.network.specs.Tables.{Layer, widthsOf, tableIn, tableAt}
-use Rattle.network.proofs.laws.Layers.{lookup-past, table-past, size-past, offset-past, lookup-first, table-first, size-first, offset-first}
+use Rattle.network.specs.Rule.{Labels, labels, firstResult, ruleIn, ruleAt}
+use Rattle.network.specs.Sizes.{sizeOf, offsetOf, layerBytes, lookupsIn, resultsIn, sizeIn, offsetIn}
+use Rattle.network.specs.Tables.{Layer, AllGood, widthsOf, tableIn, tableAt}
+use Rattle.network.proofs.laws.Layers.{lookup-past, table-past, rule-past, size-past, offset-past}
+use Rattle.network.proofs.laws.Layers.{lookup-first, table-first, rule-first, size-first, offset-first}
 use Rattle.network.proofs.laws.Layers.{lookup-none, size-none, offset-none}
+use Rattle.network.proofs.laws.Rule.{rule-tables}
 use Rattle.layout.specs.Stages.{stages, widthOf, shapeAt, shapes, widths, lookups, tablesBytes, setBytes, encodings}
-use Rattle.layout.specs.Stages.{tableSize, tableOffset, stageOf, firstLookup, firstByte, numbersOf, indexOf}
+use Rattle.layout.specs.Stages.{tableSize, tableOffset, entryLookups, halfLookups, stageOf, roundAt, inRound, firstLookup, firstByte, numbersOf, indexOf}
 use Rattle.layout.specs.Theorems.{ByStage}
 use Rattle.layout.specs.declared.stage.Stage.{Stage}
 use Rattle.layout.specs.declared.stage.Stage.the-variants.{Entry, First, Second, Exit, Beyond}
-use Rattle.layout.proofs.laws.Stages.{lookups-16, lookups-4, Found, found-entry, found-first, found-second, found-exit}
+use Rattle.layout.proofs.laws.Instance.{stage-widths}
+use Rattle.layout.proofs.laws.Stages.{lookups-16, lookups-4, bytes-16, bytes-4, Found, found-entry, found-first, found-second, found-exit}
 use Rattle.layout.proofs.laws.Stages.{all-lookups-of, all-bytes-of, all-results-of, numbers-end, sums-16}
 
 -- ---- the stage by the range
-pub stage-entry : (nr k : ℕ) → k < 496 → stageOf nr k ≡ Entry
+pub stage-entry : (nr k : ℕ) → k < entryLookups → stageOf nr k ≡ Entry
 unfolding stageOf
-stage-entry nr k h = rw (lt-ltb k 496 h)
+stage-entry nr k h = rw (lt-ltb k entryLookups h)
 
-module _ (nr k : ℕ) (lo : 496 ≤ k) (hi : k < 496 + 224 * (nr - 1)) where
-  pub stage-first : (k - 496) % 224 < 112 → stageOf nr k ≡ First ((k - 496) / 224 + 1)
+module _ (nr k : ℕ) (lo : entryLookups ≤ k) (hi : k < firstLookup nr Exit) where
+  pub stage-first : inRound k < halfLookups → stageOf nr k ≡ First (roundAt k)
   unfolding stageOf
-  stage-first h = rw (le-ltb k 496 lo, lt-ltb k (496 + 224 * (nr - 1)) hi, lt-ltb ((k - 496) % 224) 112 h)
+  stage-first h = rw (le-ltb k entryLookups lo, lt-ltb k (firstLookup nr Exit) hi, lt-ltb (inRound k) halfLookups h)
 
-  pub stage-second : 112 ≤ (k - 496) % 224 → stageOf nr k ≡ Second ((k - 496) / 224 + 1)
+  pub stage-second : halfLookups ≤ inRound k → stageOf nr k ≡ Second (roundAt k)
   unfolding stageOf
-  stage-second h = rw (le-ltb k 496 lo, lt-ltb k (496 + 224 * (nr - 1)) hi, le-ltb ((k - 496) % 224) 112 h)
+  stage-second h = rw (le-ltb k entryLookups lo, lt-ltb k (firstLookup nr Exit) hi, le-ltb (inRound k) halfLookups h)
 
-pub stage-exit : (nr k : ℕ) → 496 + 224 * (nr - 1) ≤ k → k < 992 + 224 * (nr - 1) → stageOf nr k ≡ Exit
+pub stage-exit : (nr k : ℕ) → firstLookup nr Exit ≤ k → k < firstLookup nr Beyond → stageOf nr k ≡ Exit
 unfolding stageOf
 stage-exit nr k lo hi =
-    rw (le-ltb k 496 (omega arith), le-ltb k (496 + 224 * (nr - 1)) lo, lt-ltb k (992 + 224 * (nr - 1)) hi)
+    rw (le-ltb k entryLookups (omega arith), le-ltb k (firstLookup nr Exit) lo, lt-ltb k (firstLookup nr Beyond) hi)
 
-pub stage-beyond : (nr k : ℕ) → 992 + 224 * (nr - 1) ≤ k → stageOf nr k ≡ Beyond
+pub stage-beyond : (nr k : ℕ) → firstLookup nr Beyond ≤ k → stageOf nr k ≡ Beyond
 unfolding stageOf
 stage-beyond nr k lo =
-    rw (le-ltb k 496 (omega arith), le-ltb k (496 + 224 * (nr - 1)) (omega arith), le-ltb k (992 + 224 * (nr - 1)) lo)
+    rw (le-ltb k entryLookups (omega arith), le-ltb k (firstLookup nr Exit) (omega arith), le-ltb k (firstLookup nr Beyond) lo)
 
 -- ---- by the round's number
 module _ (nr r k : ℕ) (low : 1 ≤ r) (high : r < nr) where
-  pub first-here : 496 + 224 * (r - 1) ≤ k → k < 608 + 224 * (r - 1) → stageOf nr k ≡ First r
+  first-here : firstLookup nr (First r) ≤ k → k < firstLookup nr (Second r) → stageOf nr k ≡ First r
   first-here a b =
-      let e : (k - 496) / 224 + 1 ≡ r = omega arith in
+      let e : roundAt k ≡ r = omega arith in
       stage-first nr k (omega arith) (omega arith) (omega arith) ∙ ap First e
 
-  pub second-here : 608 + 224 * (r - 1) ≤ k → k < 720 + 224 * (r - 1) → stageOf nr k ≡ Second r
+  second-here : firstLookup nr (Second r) ≤ k → k < firstLookup nr (First (r + 1)) → stageOf nr k ≡ Second r
   second-here a b =
-      let e : (k - 496) / 224 + 1 ≡ r = omega arith in
+      let e : roundAt k ≡ r = omega arith in
       stage-second nr k (omega arith) (omega arith) (omega arith) ∙ ap Second e
 
+-- ---- all lookups
+pub lookups-are : (nr : ℕ) → lookups nr ≡ firstLookup nr Beyond
+unfolding lookups widths
+lookups-are nr = all-lookups-of nr
+
 -- What holds of the stage or half of lookup k, range by range.
-pub by-range : (nr k : ℕ) → k < 992 + 224 * (nr - 1) → (P : Stage → Type 0)
-    → (k < 496 → P Entry)
-    → ((r : ℕ) → 1 ≤ r → r < nr → 496 + 224 * (r - 1) ≤ k → k < 608 + 224 * (r - 1) → P (First r))
-    → ((r : ℕ) → 1 ≤ r → r < nr → 608 + 224 * (r - 1) ≤ k → k < 720 + 224 * (r - 1) → P (Second r))
-    → (496 + 224 * (nr - 1) ≤ k → P Exit)
+pub by-range : (nr k : ℕ) → k < lookups nr → (P : Stage → Type 0)
+    → (k < entryLookups → P Entry)
+    → ((r : ℕ) → 1 ≤ r → r < nr → firstLookup nr (First r) ≤ k → k < firstLookup nr (Second r) → P (First r))
+    → ((r : ℕ) → 1 ≤ r → r < nr → firstLookup nr (Second r) ≤ k → k < firstLookup nr (First (r + 1)) → P (Second r))
+    → (firstLookup nr Exit ≤ k → k < firstLookup nr Beyond → P Exit)
     → P (stageOf nr k)
-by-range nr k h P entry first second exit = elim (decLt k 496) [
-  | yes a ↦ subst P (sym (stage-entry nr k a)) (entry a)
-  | no a ↦ elim (decLt k (496 + 224 * (nr - 1))) [
-    | no b ↦ subst P (sym (stage-exit nr k (omega arith) h)) (exit (omega arith))
-    | yes b ↦ elim (decLt ((k - 496) % 224) 112) [
-      | yes d ↦ subst P (sym (stage-first nr k (omega arith) b d))
-          (first ((k - 496) / 224 + 1) (omega arith) (omega arith) (omega arith) (omega arith))
-      | no d ↦ subst P (sym (stage-second nr k (omega arith) b (omega arith)))
-          (second ((k - 496) / 224 + 1) (omega arith) (omega arith) (omega arith) (omega arith))
+by-range nr k h P entry first second exit =
+    let all : k < firstLookup nr Beyond = omega (arith, lookups-are nr) in
+    elim (decLt k entryLookups) [
+      | yes a ↦ subst P (sym (stage-entry nr k a)) (entry a)
+      | no a ↦ elim (decLt k (firstLookup nr Exit)) [
+        | no b ↦ subst P (sym (stage-exit nr k (omega arith) all)) (exit (omega arith) all)
+        | yes b ↦ elim (decLt (inRound k) halfLookups) [
+          | yes d ↦ subst P (sym (stage-first nr k (omega arith) b d))
+              (first (roundAt k) (omega arith) (omega arith) (omega arith) (omega arith))
+          | no d ↦ subst P (sym (stage-second nr k (omega arith) b (omega arith)))
+              (second (roundAt k) (omega arith) (omega arith) (omega arith) (omega arith))
+        ]
+      ]
     ]
-  ]
-]
 
--- ---- lookup k is in the layer of its stage
-record In (nr k : ℕ) (s : Stage) : Type 0 where
-  found : Found nr s
-  from : firstLookup nr s ≤ k
-  within : k - firstLookup nr s < layerLookups (widthOf s)
+-- ---- lookup n is one of the stage or half s
+pub record InStage (nr n : ℕ) (s : Stage) : Type 0 where
+  pub found : Found nr s
+  pub width : (widthOf s ≡ 4) ⊎ (widthOf s ≡ 16)
+  pub from : firstLookup nr s ≤ n
+  pub within : n - firstLookup nr s < layerLookups (widthOf s)
+  pub room : firstLookup nr s + layerLookups (widthOf s) ≤ lookups nr
+  pub bytes : firstByte nr s + layerBytes (widthOf s) ≤ tablesBytes nr
+  pub same : (k : ℕ) → firstLookup nr s ≤ k → k < firstLookup nr s + layerLookups (widthOf s) → stageOf nr k ≡ s
 
-in-stage : (nr k : ℕ) → k < 992 + 224 * (nr - 1) → In nr k (stageOf nr k)
-in-stage nr k h =
-    by-range nr k h (In nr k)
-    (λ a. record { found = found-entry nr; from = omega arith; within = omega (arith, lookups-16) })
-    (λ r lo hi a b. record {
-      found = subst (λ (x : ℕ). Found nr (First x)) (back r lo) (found-first nr (r - 1) (omega arith));
-      from = a;
-      within = omega (arith, lookups-4);
-    })
-    (λ r lo hi a b. record {
-      found = subst (λ (x : ℕ). Found nr (Second x)) (back r lo) (found-second nr (r - 1) (omega arith));
-      from = a;
-      within = omega (arith, lookups-4);
-    })
-    (λ a. record { found = found-exit nr; from = a; within = omega (arith, lookups-16) })
+tables-are : (nr : ℕ) → tablesBytes nr ≡ firstByte nr Beyond
+unfolding tablesBytes widths
+tables-are nr = all-bytes-of nr
+
+-- It has `count` lookups, whose tables have `size` bytes.
+in-layer : (nr n : ℕ) (s : Stage) (count size : ℕ) → Found nr s → (widthOf s ≡ 4) ⊎ (widthOf s ≡ 16)
+    → layerLookups (widthOf s) ≡ count → layerBytes (widthOf s) ≡ size
+    → firstLookup nr s ≤ n → n < firstLookup nr s + count → firstLookup nr s + count ≤ firstLookup nr Beyond → firstByte nr s + size ≤ firstByte nr Beyond
+    → ((k : ℕ) → firstLookup nr s ≤ k → k < firstLookup nr s + count → stageOf nr k ≡ s) → InStage nr n s
+in-layer nr n s count size f w c d lo hi room bytes same =
+    record {
+      found = f;
+      width = w;
+      from = lo;
+      within = omega (arith, c);
+      room = omega (arith, c, lookups-are nr);
+      bytes = omega (arith, d, tables-are nr);
+      same = λ k a b. same k a (omega (arith, c));
+    }
+
+pub in-stage : (nr n : ℕ) → n < lookups nr → InStage nr n (stageOf nr n)
+in-stage nr n h =
+    by-range nr n h (InStage nr n)
+    (λ a. in-layer nr n Entry _ _ (found-entry nr) (inr refl) lookups-16 bytes-16 (omega arith) (omega arith) (omega arith) (omega arith)
+    (λ k p q. stage-entry nr k (omega arith)))
+    (λ r lo hi a b. in-layer nr n (First r) _ _ (subst (λ (x : ℕ). Found nr (First x)) (back r lo) (found-first nr (r - 1) (omega arith)))
+    (inl refl) lookups-4 bytes-4 a (omega arith) (omega arith) (omega arith) (λ k p q. first-here nr r k lo hi p (omega arith)))
+    (λ r lo hi a b. in-layer nr n (Second r) _ _ (subst (λ (x : ℕ). Found nr (Second x)) (back r lo) (found-second nr (r - 1) (omega arith)))
+    (inl refl) lookups-4 bytes-4 a (omega arith) (omega arith) (omega arith) (λ k p q. second-here nr r k lo hi p (omega arith)))
+    (λ a b. in-layer nr n Exit _ _ (found-exit nr) (inr refl) lookups-16 bytes-16 a (omega arith) (omega arith) (omega arith)
+    (λ k p q. stage-exit nr k p (omega arith)))
   where
     back : (r : ℕ) → 1 ≤ r → r - 1 + 1 ≡ r
     back r lo = omega arith
 
 -- ---- what is said by going through the layers
-module _ (nr k : ℕ) (s : Stage) (at : In nr k s) where
+module _ (nr k : ℕ) (s : Stage) (at : InStage nr k s) where
   j : ℕ
   j = k - firstLookup nr s
 
@@ -138,26 +170,31 @@ module _ (nr k : ℕ) (s : Stage) (at : In nr k s) where
       ∙ offset-past (map widthOf (at .found .before)) (widthOf s ∷ map widthOf (at .found .behind)) j
       ∙ ap₂ (λ (x y : ℕ). x + y) (at .found .bytes-before) (offset-first (widthOf s) (map widthOf (at .found .behind)) j (unfold j in at .within))
 
-  table-in : (E : ℕ → List ℕ) (F : Stage → Layer) → ((s : Stage) → F s .width ≡ widthOf s)
-      → tableAt E (map F (stages nr)) startNumbers k ≡ tableIn E (F s) (numbersOf nr s) j
-  table-in E F e =
-      ap₂ (λ (Ls : List Layer) (n : ℕ). tableAt E Ls startNumbers n) (split-map F) (count-is (widthsOf As) widths-are)
-      ∙ table-past E As (F s ∷ map F (at .found .behind)) startNumbers j
-      ∙ table-first E (F s) (map F (at .found .behind)) (numbersAfter (widthsOf As) startNumbers) j
-      (subst (λ (m : ℕ). j < layerLookups m) (sym (e s)) (unfold j in at .within))
-      ∙ ap (λ (N : Numbers). tableIn E (F s) N j) (ap (λ (ms : List ℕ). numbersAfter ms startNumbers) widths-are ∙ at .found .numbers-before)
-    where
-      As : List Layer
-      As = map F (at .found .before)
+  -- The layers F of the stages before s, and their widths.
+  module _ (F : Stage → Layer) (e : (s : Stage) → F s .width ≡ widthOf s) where
+    abbrev As : List Layer
+    As = map F (at .found .before)
 
-      widths-are : widthsOf As ≡ map widthOf (at .found .before)
-      widths-are = map-map (λ (L : Layer). L .width) F (at .found .before) ∙ ap (λ (f : Stage → ℕ). map f (at .found .before)) (fun-ext e)
+    widths-before : widthsOf As ≡ map widthOf (at .found .before)
+    widths-before = map-map (λ (L : Layer). L .width) F (at .found .before) ∙ ap (λ (f : Stage → ℕ). map f (at .found .before)) (fun-ext e)
+
+    inside : j < layerLookups (F s .width)
+    inside = subst (λ (m : ℕ). j < layerLookups m) (sym (e s)) (unfold j in at .within)
+
+    table-in : (E : ℕ → List ℕ) → tableAt E (map F (stages nr)) startNumbers k ≡ tableIn E (F s) (numbersOf nr s) j
+    table-in E =
+        ap₂ (λ (Ls : List Layer) (n : ℕ). tableAt E Ls startNumbers n) (split-map F) (count-is (widthsOf As) widths-before)
+        ∙ table-past E As (F s ∷ map F (at .found .behind)) startNumbers j
+        ∙ table-first E (F s) (map F (at .found .behind)) (numbersAfter (widthsOf As) startNumbers) j inside
+        ∙ ap (λ (N : Numbers). tableIn E (F s) N j) (ap (λ (ms : List ℕ). numbersAfter ms startNumbers) widths-before ∙ at .found .numbers-before)
+
+    rule-in : (E : ℕ → List ℕ) (n : ℕ) (T : Labels) → ruleAt E (map F (stages nr)) k n T ≡ ruleIn E (F s) j n T
+    rule-in E n T =
+        ap₂ (λ (Ls : List Layer) (i : ℕ). ruleAt E Ls i n T) (split-map F) (count-is (widthsOf As) widths-before)
+        ∙ rule-past E As (F s ∷ map F (at .found .behind)) j n T
+        ∙ rule-first E (F s) (map F (at .found .behind)) j n T inside
 
 -- ---- the statement
-pub lookups-are : (nr : ℕ) → lookups nr ≡ 992 + 224 * (nr - 1)
-unfolding lookups widths
-lookups-are nr = all-lookups-of nr
-
 pub by-stage : (nr : ℕ) → ByStage nr
 unfolding indexOf tablesBytes setBytes encodings widths numbersOf j
 by-stage nr =
@@ -168,7 +205,8 @@ by-stage nr =
       all-encodings = ap (λ (n : ℕ). 32 + n) (all-results-of nr) ∙ omega arith;
       output-numbers = output;
       lookup-is = λ reads k h t w. lookup-in nr k (stageOf nr k) (at k h) reads t w;
-      table-is = λ E F e k h. table-in nr k (stageOf nr k) (at k h) E F e;
+      table-is = λ E F e k h. table-in nr k (stageOf nr k) (at k h) F e E;
+      table-by-rule = by-rule;
       size-is = λ k h. size-in nr k (stageOf nr k) (at k h);
       offset-is = λ k h. offset-in nr k (stageOf nr k) (at k h);
       lookup-none = λ reads k h t w. none-looked reads k h t w;
@@ -182,8 +220,16 @@ by-stage nr =
         ∙ sums-16 (1024 + 448 * (nr - 1)) q b
         ∙ omega (arith, all-results-of nr)
 
-    at : (k : ℕ) → k < lookups nr → In nr k (stageOf nr k)
-    at k h = in-stage nr k (omega (arith, lookups-are nr))
+    at : (k : ℕ) → k < lookups nr → InStage nr k (stageOf nr k)
+    at = in-stage nr
+
+    by-rule : (E : ℕ → List ℕ) (F : Stage → Layer) → ((s : Stage) → F s .width ≡ widthOf s) → AllGood (map F (stages nr)) → (k : ℕ) → k < lookups nr
+        → tableAt E (map F (stages nr)) startNumbers k
+        ≡ ruleIn E (F (stageOf nr k)) (k - firstLookup nr (stageOf nr k)) (firstResult (widths nr) k) (labels (widths nr) k)
+    by-rule E F e good k h =
+        rule-tables E (map F (stages nr)) good k (subst (λ (ms : List ℕ). k < lookupsIn ms) (sym (stage-widths F e nr)) (unfold lookups in h))
+        ∙ ap (λ (ms : List ℕ). ruleAt E (map F (stages nr)) k (firstResult ms k) (labels ms k)) (stage-widths F e nr)
+        ∙ rule-in nr k (stageOf nr k) (at k h) F e E (firstResult (widths nr) k) (labels (widths nr) k)
 
     all : (k : ℕ) → lookups nr ≤ k → lookupsIn (map widthOf (stages nr)) ≤ k
     all k h = omega (arith, lookups-are nr, all-lookups-of nr)

@@ -9,7 +9,7 @@ use Rattle.network.specs.Numbers.{Numbers, encodingNumber, sumNumber, layerResu
 use Rattle.network.specs.Order.{GoodWidth, xors, layerLookups}
 use Rattle.network.specs.Sizes.{layerBytes, lookupsIn, bytesIn, resultsIn}
 use Rattle.network.proofs.laws.Layers.{lookups-append, bytes-append, results-append, numbers-append, first-after}
-use Rattle.layout.specs.Stages.{rounds, stages, widthOf, afterRound, firstLookup, firstByte, numbersOf}
+use Rattle.layout.specs.Stages.{rounds, stages, widthOf, entryLookups, halfLookups, roundLookups, afterRound, firstLookup, firstByte, numbersOf}
 use Rattle.layout.specs.declared.stage.Stage.{Stage}
 use Rattle.layout.specs.declared.stage.Stage.the-variants.{Entry, First, Second, Exit, Beyond}
 
@@ -20,11 +20,11 @@ good-16 = record { wide = omega arith; most = omega arith; whole = refl }
 pub good-4 : GoodWidth 4
 good-4 = record { wide = omega arith; most = omega arith; whole = refl }
 
-pub lookups-16 : layerLookups 16 ≡ 496
+pub lookups-16 : layerLookups 16 ≡ entryLookups
 unfolding layerLookups xors
 lookups-16 = refl
 
-pub lookups-4 : layerLookups 4 ≡ 112
+pub lookups-4 : layerLookups 4 ≡ halfLookups
 unfolding layerLookups xors
 lookups-4 = refl
 
@@ -56,7 +56,7 @@ rounds-split r (suc i) n =
     ∙ ap (λ (ss : List Stage). First r ∷ Second r ∷ ss)
     (rounds-split (suc r) i n ∙ ap (λ (x : ℕ). rounds (suc r) i ++ rounds x n) (let e : suc r + i ≡ r + suc i = omega arith in e))
 
-rounds-lookups : (r n : ℕ) → lookupsIn (widthsIn (rounds r n)) ≡ 224 * n
+rounds-lookups : (r n : ℕ) → lookupsIn (widthsIn (rounds r n)) ≡ roundLookups * n
 unfolding rounds lookupsIn
 rounds-lookups r zero = omega arith
 rounds-lookups r (suc n) = omega (arith, lookups-4, rounds-lookups (suc r) n)
@@ -78,7 +78,7 @@ numbers p q = λ i. record { first = p i; standing = q i }
 abbrev entered : ℕ → List Stage
 entered n = Entry ∷ rounds 1 n
 
-entered-lookups : (n : ℕ) → lookupsIn (widthsIn (entered n)) ≡ 496 + 224 * n
+entered-lookups : (n : ℕ) → lookupsIn (widthsIn (entered n)) ≡ entryLookups + roundLookups * n
 unfolding lookupsIn
 entered-lookups n = omega (arith, lookups-16, rounds-lookups 1 n)
 
@@ -171,7 +171,7 @@ module _ (nr i : ℕ) (h : suc i < nr) where
           ≡ record { first = 1248 + 448 * i; standing = sumNumber 4 (1024 + 448 * i) }
       next-is = unfold numbersAfter in unfold nextNumbers in numbers (omega (arith, results-4)) refl
 
-      one-lookups : lookupsIn (4 ∷ []) ≡ 112
+      one-lookups : lookupsIn (4 ∷ []) ≡ halfLookups
       one-lookups = unfold lookupsIn in omega (arith, lookups-4)
 
       one-bytes : bytesIn (4 ∷ []) ≡ 28672
@@ -197,12 +197,12 @@ widths-all : (nr : ℕ) → map widthOf (stages nr) ≡ all nr
 unfolding stages
 widths-all nr = map-append widthOf (entered (nr - 1)) (Exit ∷ [])
 
-pub all-lookups-of : (nr : ℕ) → lookupsIn (map widthOf (stages nr)) ≡ 992 + 224 * (nr - 1)
+pub all-lookups-of : (nr : ℕ) → lookupsIn (map widthOf (stages nr)) ≡ firstLookup nr Beyond
 unfolding lookupsIn
 all-lookups-of nr =
     ap lookupsIn (widths-all nr) ∙ lookups-append (widthsIn (entered (nr - 1))) (16 ∷ []) ∙ omega (arith, entered-lookups (nr - 1), lookups-16)
 
-pub all-bytes-of : (nr : ℕ) → bytesIn (map widthOf (stages nr)) ≡ 253952 + 57344 * (nr - 1)
+pub all-bytes-of : (nr : ℕ) → bytesIn (map widthOf (stages nr)) ≡ firstByte nr Beyond
 unfolding bytesIn
 all-bytes-of nr = ap bytesIn (widths-all nr) ∙ bytes-append (widthsIn (entered (nr - 1))) (16 ∷ []) ∙ omega (arith, entered-bytes (nr - 1), bytes-16)
 

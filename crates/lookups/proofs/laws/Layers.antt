@@ -15,7 +15,7 @@ use Rattle.bits.proofs.laws.Lists.{length-tabulate}
 use Rattle.network.specs.Lookups.{State, stateAt, Shape, spreadArea, xorArea, sums, zeroArea, lookupIn}
 use Rattle.network.specs.Order.{xors, layerLookups, sumPlace, addedPlace}
 use Rattle.network.proofs.laws.Sizes.{spread-size, xor-size}
-use Rattle.layout.specs.Stages.{widthOf}
+use Rattle.layout.specs.Stages.{widthOf, entryLookups}
 use Rattle.layout.specs.declared.stage.Stage.{Stage}
 use Rattle.layout.specs.declared.stage.Stage.the-variants.{Entry, First, Second, Exit, Beyond}
 use Rattle.layout.proofs.laws.Stages.{lookups-16, lookups-4}
@@ -117,7 +117,7 @@ module _ {s : Stage} {j long : ℕ} (f : Fits s j long) where
   pub xor-width : {m : ℕ} → m ≡ widthOf s → 16 ≤ j → (m ≡ 4) ⊎ (m ≡ 16)
   xor-width e h = ⊎-elim (λ p. inr (p .0)) (λ p. inl (p .0)) (xor-within e h)
 
-  pub xor-below : 16 ≤ j → j < 496
+  pub xor-below : 16 ≤ j → j < entryLookups
   xor-below h = ⊎-elim (λ p. omega arith) (λ p. omega arith) (kind s h (f .within))
 
 pub length-sums : (m : ℕ) (a : List ℕ) → length (sums m a) ≡ 16

@@ -16,7 +16,6 @@ use Rattle.network.specs.Lookups.{Shape, spreadArea, xorArea, sums}
 use Rattle.network.specs.Order.{xors, layerLookups}
 use Rattle.network.specs.Sizes.{layerBytes}
 use Rattle.network.proofs.laws.Order.{layer-lookups}
-use Rattle.layout.specs.Stages.{tenSetBytes}
 use Rattle.lookups.specs.InPlace.{XorIn, tableFrom, spreadsIn, xorsIn, sumsIn}
 use Rattle.lookups.proofs.laws.Layers.{length-xor, length-sums}
 
@@ -41,31 +40,32 @@ module _ (set : List ℕ) (from m k : ℕ) where
       let f : from + (16 * (256 * m) + (16 + k - 16) * 128) ≡ x = omega arith in
       rw (le-ltb (16 + k) 16 (omega arith), e, f)
 
-pub spreads-room : (from m : ℕ) → from + layerBytes m ≤ tenSetBytes → from + 4096 * m ≤ tenSetBytes
+-- In memory of that length the tables of the spread lookups end, where those of the whole layer do.
+pub spreads-room : (from m bytes : ℕ) → from + layerBytes m ≤ bytes → from + 4096 * m ≤ bytes
 unfolding layerBytes
-spreads-room from m h = omega arith
+spreads-room from m bytes h = omega arith
 
 -- ---- the loop over the spread lookups, of width m: p of them are made, and the area a₀ has become a
 pub record Spreads (S : Shape) (set : List ℕ) (from m : ℕ) (s a₀ a : List ℕ) (p : ℕ) : Type 0 where
   pub within : p ≤ 16
   pub width : m ≡ S .width
-  pub room : from + 4096 * m ≤ tenSetBytes
+  pub room : from + 4096 * m ≤ length set
   pub long : length a ≡ 256
   pub made : a ≡ spreadsIn S set from s p a₀
 
-pub spreads-none : {S : Shape} {set : List ℕ} {from m : ℕ} {s a : List ℕ} → m ≡ S .width → from + layerBytes (S .width) ≤ tenSetBytes → length a ≡ 256
+pub spreads-none : {S : Shape} {set : List ℕ} {from m : ℕ} {s a : List ℕ} → m ≡ S .width → from + layerBytes (S .width) ≤ length set → length a ≡ 256
     → Spreads S set from m s a a 0
 unfolding spreadsIn
-spreads-none {S} {from = from} e b l =
-    record { within = omega arith; width = e; room = rw e (spreads-room from (S .width) b); long = l; made = refl }
+spreads-none {S} {set} {from} e b l =
+    record { within = omega arith; width = e; room = rw e (spreads-room from (S .width) (length set) b); long = l; made = refl }
 
 module _ {S : Shape} {set : List ℕ} {from m : ℕ} {s a₀ a : List ℕ} {p : ℕ} (I : Spreads S set from m s a₀ a p) where
   -- The table of the turn, of 256 words, ends within the set.
-  pub table-ends : p < 16 → spreadAt from m p + 256 * m ≤ tenSetBytes
+  pub table-ends : p < 16 → spreadAt from m p + 256 * m ≤ length set
   table-ends h = omega (arith, I .room, row-inside p (256 * m) 16 h)
 
-  pub table-long : p < 16 → length set ≡ tenSetBytes → length (cut set (spreadAt from m p) (spreadAt from m p + 256 * m)) ≡ 256 * m
-  table-long h l = length-cut set (spreadAt from m p) (256 * m) (omega (arith, table-ends h))
+  pub table-long : p < 16 → length (cut set (spreadAt from m p) (spreadAt from m p + 256 * m)) ≡ 256 * m
+  table-long h = length-cut set (spreadAt from m p) (256 * m) (table-ends h)
 
   pub spreads-more : (i : ℕ) (a′ : List ℕ) → p < 16 → i ≡ S .source p
       → a′ ≡ paste a (p * m) (drop (at s i * m) (cut set (spreadAt from m p) (spreadAt from m p + 256 * m))) m
@@ -93,7 +93,7 @@ pub record Xors (m : ℕ) (set : List ℕ) (from n : ℕ) (a₀ a : List ℕ) (y
   pub within : y ≤ n
   pub width : (m ≡ 4) ⊎ (m ≡ 16)
   pub twice : 2 * n ≡ xors m
-  pub room : from + 4096 * m + n * 256 ≤ tenSetBytes
+  pub room : from + 4096 * m + n * 256 ≤ length set
   pub long : length a ≡ 256
   pub made : a ≡ xorsIn m set from (2 * y) a₀
 
@@ -109,7 +109,7 @@ xors-16 = refl
 pub spreads-least : (m all : ℕ) → all ≡ layerLookups m → 16 ≤ all
 spreads-least m all e = omega (arith, layer-lookups m)
 
-pub xors-none : {m : ℕ} {set : List ℕ} {from all : ℕ} {a : List ℕ} → (m ≡ 4) ⊎ (m ≡ 16) → all ≡ layerLookups m → from + layerBytes m ≤ tenSetBytes
+pub xors-none : {m : ℕ} {set : List ℕ} {from all : ℕ} {a : List ℕ} → (m ≡ 4) ⊎ (m ≡ 16) → all ≡ layerLookups m → from + layerBytes m ≤ length set
     → length a ≡ 256 → Xors m set from ((all - 16) / 2) a a 0
 unfolding xorsIn layerBytes
 xors-none {m = m} {all = all} k e b l =
@@ -132,9 +132,9 @@ module _ {m : ℕ} {set : List ℕ} {from n : ℕ} {a₀ a : List ℕ} {y : ℕ}
   lowTable = cut set (pairAt from m y + 128) (pairAt from m y + 128 + 128)
 
   -- What the two lookups of a turn ask: their tables, one behind the other, have 128 bytes each.
-  pub pair-asked : y < n → length set ≡ tenSetBytes
+  pub pair-asked : y < n
       → XorIn m (2 * y + 1) × (length highTable ≡ 128) × (length lowTable ≡ 128) × (length a ≡ 256)
-  pair-asked h l = (
+  pair-asked h = (
     xor-inside h,
     length-cut set (pairAt from m y) 128 (omega (arith, I .room)),
     length-cut set (pairAt from m y + 128) 128 (omega (arith, I .room)),

@@ -1,6 +1,6 @@
 -- Laws, not definitions: the product of a matrix and a vector. It is linear, which is why tables made from it add up.
 -- Assumes nothing.
-use mathlib.Core.Path.{_≡_, sym, ap, ap₂, _∙_}
+use mathlib.Core.Path.{_≡_, sym, ap, ap₂, _∙_, subst}
 use Prim.Native.Nat.{ℕ, _+_, _%_, _^_, _<_}
 use lib.Bits.{bitXor, xor-lt}
 use lib.ListN.{length}
@@ -8,8 +8,8 @@ use Rattle.bits.specs.Lists.{at, tabulate}
 use Rattle.bits.specs.Vectors.{bit, unit, dot}
 use Rattle.bits.proofs.laws.Lists.{at-tabulate, length-tabulate}
 use Rattle.bits.proofs.laws.Groups.{joined-same, joined-zero}
-use Rattle.bits.proofs.laws.Vectors.{dot-lt, dot-xor, dot-zero-r, bit-xor, bit-ext, bit-vector, vector-lt, unit-dot}
-use Rattle.matrices.specs.Matrices.{productBy, product, identity}
+use Rattle.bits.proofs.laws.Vectors.{dot-lt, dot-xor, dot-zero-r, bit-xor, bit-ext, bit-vector, vector-lt, unit-lt, unit-dot}
+use Rattle.matrices.specs.Matrices.{productBy, product, identity, RowsFit, Invertible}
 
 pub product-lt : (n : ℕ) (f : ℕ → ℕ) (v : ℕ) → productBy n f v < 2 ^ n
 unfolding productBy
@@ -57,3 +57,10 @@ product-identity n v hv = product-tabulate n (unit n) v ∙ product-unit n v hv
 pub identity-length : (n : ℕ) → length (identity n) ≡ n
 unfolding identity
 identity-length n = length-tabulate n (unit n)
+
+pub identity-fits : (n : ℕ) → RowsFit n (at (identity n))
+unfolding identity
+identity-fits n i h = subst (λ (x : ℕ). x < 2 ^ n) (sym (at-tabulate n (unit n) i h)) (unit-lt n i h)
+
+pub identity-invertible : (n : ℕ) → Invertible n (identity n)
+identity-invertible n = (λ v. v, λ v h. product-identity n v h)

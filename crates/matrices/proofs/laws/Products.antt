@@ -1,8 +1,7 @@
 -- Laws, not definitions: the theorems of specs/Products.antt.
 -- Assumes nothing.
 use Rattle.bits.specs.Lists.{at}
-use Rattle.bits.proofs.laws.Bytes.{xor-of-placed}
-use Rattle.matrices.specs.Products.{Bits, Bounded, Linear, Neutral, Placed}
+use Rattle.matrices.specs.Products.{Bits, Bounded, Linear, Neutral}
 use Rattle.matrices.proofs.laws.Matrices.{bit-product, product-lt, product-xor, product-identity}
 
 pub bits : Bits
@@ -16,6 +15,3 @@ linear n m x y = product-xor n (at m) x y
 
 pub neutral : Neutral
 neutral n v h = product-identity n v h
-
-pub of-placed : Placed
-of-placed n v h = xor-of-placed n v h

@@ -8,9 +8,9 @@ use native.Mathlib.Omega.{arith}
 use lib.ListN.{length}
 use Rattle.bits.specs.Bytes.{Bytes, number, byte, bytesOf}
 use Rattle.bits.specs.Lists.{at}
-use Rattle.bits.proofs.laws.Bytes.{length-bytesOf, at-bytesOf}
+use Rattle.bits.proofs.laws.Bytes.{length-bytesOf, at-bytesOf, bytesOf-bytes}
 use Rattle.bits.proofs.laws.Groups.{joined-lt, joined-same, joined-group, group-joined}
-use Rattle.bits.proofs.laws.Lists.{tabulate-at, length-tabulate, at-tabulate, ext-at, concat-same, length-concat, at-concat}
+use Rattle.bits.proofs.laws.Lists.{tabulate-at, length-tabulate, at-tabulate, ext-at, concat-same, concat-below, length-concat, at-concat}
 use Rattle.bits.proofs.laws.Multiples.{row-inside}
 use Rattle.bits.proofs.laws.Parts.{Parts, parts-all}
 use Rattle.matrices.specs.Rows.{rowAt, rowsOf, stored}
@@ -35,6 +35,10 @@ rows-long w m i h = length-bytesOf w (at m i)
 pub length-matrixBytes : (w : ℕ) (m : List ℕ) → length (matrixBytes w m) ≡ 8 * w * w
 unfolding matrixBytes
 length-matrixBytes w m = length-concat w (λ i. bytesOf w (at m i)) (8 * w) (rows-long w m)
+
+pub matrixBytes-bytes : (w : ℕ) (m : List ℕ) → Bytes (matrixBytes w m)
+unfolding matrixBytes
+matrixBytes-bytes w m = concat-below 256 (8 * w) _ (omega arith) (λ i h. bytesOf-bytes w (at m i))
 
 matrixBytes-at : (w : ℕ) (m : List ℕ) (i j : ℕ) → i < 8 * w → j < w → at (matrixBytes w m) (i * w + j) ≡ byte w j (at m i)
 unfolding matrixBytes

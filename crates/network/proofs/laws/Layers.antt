@@ -9,6 +9,7 @@ use borrow.Author.Tests.{lt-ltb, le-ltb}
 use Rattle.network.specs.Lookups.{State, Shape, lookupIn, lookupAt}
 use Rattle.network.specs.Numbers.{Numbers, nextNumbers, numbersAfter}
 use Rattle.network.specs.Order.{layerLookups}
+use Rattle.network.specs.Rule.{Labels, ruleIn, ruleAt}
 use Rattle.network.specs.Sizes.{sizeOf, offsetOf, layerBytes, lookupsIn, bytesIn, resultsIn, sizeIn, offsetIn}
 use Rattle.network.specs.Tables.{Layer, widthsOf, tableIn, tableAt}
 
@@ -34,6 +35,13 @@ table-past E (L ∷ As) Bs N k =
     rw (le-ltb (layerLookups (L .width) + lookupsIn (widthsOf As) + k) (layerLookups (L .width)) (omega arith), past (layerLookups (L .width)) (lookupsIn (widthsOf As)) k)
     (table-past E As Bs (nextNumbers (L .width) N) k)
 
+pub rule-past : (E : ℕ → List ℕ) (As Bs : List Layer) (k n : ℕ) (T : Labels) → ruleAt E (As ++ Bs) (lookupsIn (widthsOf As) + k) n T ≡ ruleAt E Bs k n T
+unfolding ruleAt lookupsIn
+rule-past E [] Bs k n T = ap (λ (i : ℕ). ruleAt E Bs i n T) (let e : 0 + k ≡ k = omega arith in e)
+rule-past E (L ∷ As) Bs k n T =
+    rw (le-ltb (layerLookups (L .width) + lookupsIn (widthsOf As) + k) (layerLookups (L .width)) (omega arith), past (layerLookups (L .width)) (lookupsIn (widthsOf As)) k)
+    (rule-past E As Bs k n T)
+
 pub size-past : (ms ns : List ℕ) (k : ℕ) → sizeIn (ms ++ ns) (lookupsIn ms + k) ≡ sizeIn ns k
 unfolding sizeIn lookupsIn
 size-past [] ns k = ap (sizeIn ns) (let e : 0 + k ≡ k = omega arith in e)
@@ -55,6 +63,10 @@ lookup-first S Bs k t w b = rw (lt-ltb k (layerLookups (S .width)) b)
 pub table-first : (E : ℕ → List ℕ) (L : Layer) (Bs : List Layer) (N : Numbers) (k : ℕ) → k < layerLookups (L .width) → tableAt E (L ∷ Bs) N k ≡ tableIn E L N k
 unfolding tableAt
 table-first E L Bs N k b = rw (lt-ltb k (layerLookups (L .width)) b)
+
+pub rule-first : (E : ℕ → List ℕ) (L : Layer) (Bs : List Layer) (k n : ℕ) (T : Labels) → k < layerLookups (L .width) → ruleAt E (L ∷ Bs) k n T ≡ ruleIn E L k n T
+unfolding ruleAt
+rule-first E L Bs k n T b = rw (lt-ltb k (layerLookups (L .width)) b)
 
 pub size-first : (m : ℕ) (ns : List ℕ) (k : ℕ) → k < layerLookups m → sizeIn (m ∷ ns) k ≡ sizeOf m k
 unfolding sizeIn

@@ -12,6 +12,7 @@ use borrow.Author.Tests.{lt-ltb, le-ltb}
 use lib.Dec.{ltb}
 use lib.ListN.{length, take, drop}
 use Rattle.bits.proofs.laws.Nibbles.{length-packed}
+use Rattle.bits.proofs.laws.Offsets.{concat-length, concat-part}
 use Rattle.bits.specs.Lists.{concat}
 use Rattle.network.specs.Numbers.{Numbers, nextNumbers}
 use Rattle.network.specs.Order.{xors, layerLookups}
@@ -20,7 +21,6 @@ use Rattle.network.specs.Tables.{Layer, widthsOf, spreadTable, xorTable,
 use Rattle.network.specs.Theorems.{TableParts}
 use Rattle.network.proofs.laws.Layers.{offset-none}
 use Rattle.network.proofs.laws.Order.{layer-lookups}
-use Rattle.network.proofs.laws.Parts.{concat-length, concat-part}
 
 -- ---- the two kinds of table: the first 16 of a layer are spread tables, the others XOR tables
 pub spread-size : (m j : ℕ) → j < 16 → sizeOf m j ≡ 256 * m

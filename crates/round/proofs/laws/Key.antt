@@ -1,6 +1,6 @@
 -- Laws, not definitions: of the key expansion word by word, of the loop that adds a round key, and that round keys are bytes.
 -- Assumes nothing.
-use mathlib.Core.Path.{_≡_, sym, ap, ap₂, _∙_}
+use mathlib.Core.Path.{_≡_, sym, ap, _∙_}
 use mathlib.Core.Bool.{Bool, true, false, cond, _&&_}
 use mathlib.Core.List.{List, [], _∷_}
 use Prim.Native.Nat.{ℕ, zero, suc, _+_, _-_, _*_, _/_, _%_, _≤_, _<_}
@@ -10,11 +10,11 @@ use native.Mathlib.Decide.{decLt}
 use borrow.Author.Tests.{eq-eqb, ne-eqb}
 use lib.Dec.{eqb, ltb, eqb→eq, lit<}
 use lib.Bits.{bitXor, xor-lt, xor-zero-r}
-use lib.ListN.{length, take, drop, length-append, length-take}
+use lib.ListN.{length, take, drop, length-take}
 use lib.Seq.{getD-take, getD-drop}
 use Rattle.bits.specs.Lists.{at, tabulate}
 use Rattle.bits.specs.Bytes.{Bytes}
-use Rattle.bits.proofs.laws.Lists.{length-tabulate, tabulate-ext, tabulate-below, append-below, at-past}
+use Rattle.bits.proofs.laws.Lists.{tabulate-ext, tabulate-below, append-below, at-past}
 use Rattle.bits.proofs.laws.Filled.{Filled}
 use Rattle.bits.proofs.laws.Checked as checked
 use Rattle.field.specs.Field.{xtime}
@@ -22,9 +22,9 @@ use Rattle.field.specs.Sbox.{sboxOf}
 use Rattle.field.proofs.laws.Field.{xtime-lt}
 use Rattle.field.proofs.laws.Sbox.{sbox-lt}
 use Rattle.round.specs.Key.{rcon, wordAt, RotWord, SubWord, xorWord, Rcon, temp, nextWord, expand, KeyExpansion, keyOf}
-use Rattle.round.specs.RoundKeys.{RoundKeyBytes, RoundKeyLength}
+use Rattle.round.specs.RoundKeys.{RoundKeyBytes}
 use Rattle.round.specs.State.{cell, AddRoundKey}
-use Rattle.round.proofs.laws.State.{filled-state}
+use Rattle.round.proofs.laws.State.{is-block, filled-state}
 
 -- The first bytes of the round constants of ten rounds, as the code has them.
 unfoldable pub rconTable : List ℕ
@@ -67,6 +67,14 @@ unfolding AddRoundKey
 add-filled s w n =
     filled-state (λ r c. bitXor (cell s r c) (cell (keyOf w n) r c)) (λ k. bitXor (at s k) (at w (16 * n + k)))
     (λ r c p q. ap (bitXor (cell s r c)) (sym (key-at w n (r + 4 * c) (omega arith))))
+
+-- Behind the last round key of w there is nothing to add.
+pub add-none : (s w : List ℕ) (n : ℕ) → length s ≡ 16 → length w ≤ 16 * n → s ≡ AddRoundKey s (keyOf w n)
+unfolding AddRoundKey
+add-none s w n long past =
+    sym (is-block (λ r c. bitXor (cell s r c) (cell (keyOf w n) r c)) s long
+    (λ r c p q. ap (bitXor (cell s r c)) (key-at w n (r + 4 * c) (omega arith) ∙ at-past w (16 * n + (r + 4 * c)) (omega arith))
+    ∙ xor-zero-r (cell s r c)))
 
 -- ---- Round keys are bytes.
 key-short : (w : List ℕ) (r : ℕ) → length (keyOf w r) ≤ 16
@@ -138,16 +146,3 @@ expand-bytes nk key (suc n) p =
 pub round-key-bytes : RoundKeyBytes
 unfolding KeyExpansion
 round-key-bytes nk key p = expand-bytes nk key _ p
-
--- ---- The number of the round keys.
-expand-length : (nk : ℕ) (key : List ℕ) (n : ℕ) → length key ≡ 4 * nk → length (expand nk key n) ≡ 4 * (nk + n)
-unfolding expand nextWord xorWord
-expand-length nk key zero e = omega arith
-expand-length nk key (suc n) e =
-    length-append (expand nk key n) _
-    ∙ ap₂ (λ (x y : ℕ). x + y) (expand-length nk key n e) (length-tabulate 4 _)
-    ∙ omega arith
-
-pub round-key-length : RoundKeyLength
-unfolding KeyExpansion
-round-key-length nk key e = expand-length nk key _ e ∙ omega arith

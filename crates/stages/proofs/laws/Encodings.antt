@@ -3,8 +3,6 @@
 use mathlib.Core.List.{List}
 use mathlib.Core.Path.{_≡_, ap, _∙_}
 use Prim.Native.Nat.{ℕ, _+_, _*_, _/_, _%_, _<_}
-use native.Mathlib.Omega.{arith}
-use lib.ListN.{length}
 use Rattle.answers.specs.declared.Answer.the-variants.{Accepted}
 use Rattle.bits.specs.Bytes.{Bytes}
 use Rattle.bits.specs.Encodings.{decode, Permutation}
@@ -12,21 +10,14 @@ use Rattle.bits.specs.Lists.{tabulate}
 use Rattle.bits.specs.Nibbles.{pack}
 use Rattle.bits.proofs.laws.Lists.{tabulate-ext}
 use Rattle.bundle.specs.Format.{encodings, partSize, sectionOf, partAt, encodingOf}
-use Rattle.bundle.proofs.laws.Code.{multiple}
 use Rattle.judgement.specs.Judge.{judge}
 use Rattle.judgement.proofs.laws.Judgements.{accepted-sound}
 use Rattle.layout.specs.Stages.{sourceOf, standingNumber}
 use Rattle.layout.specs.declared.stage.Stage.{Stage}
 use Rattle.entries.specs.Encodings.{encodingIn}
-use Rattle.layers.specs.Layers.{readByte}
+use Rattle.stages.specs.Spread.{readByte}
 
 module _ (nr : ℕ) (l s : List ℕ) (e : s ≡ sectionOf nr l 0) where
-  pub whole-encodings : length s % 8 ≡ 0
-  unfolding partSize
-  whole-encodings =
-      let whole : length (sectionOf nr l 0) / 8 * 8 ≡ length (sectionOf nr l 0) = multiple nr l 0 (omega arith) (omega arith) in
-      omega (arith, ap length e, whole)
-
   pub encodings-in : _≡_ {A = ℕ → List ℕ} (encodingIn s) (encodingOf nr l)
   unfolding partAt partSize
   encodings-in = ap {B = ℕ → List ℕ} (λ (t : List ℕ). encodingIn t) e

@@ -1,12 +1,12 @@
 -- Laws, not definitions: a spread table from the bytes, the words and the images that the code gathers.
 -- Assumes nothing.
-use mathlib.Core.List.{List}
+use mathlib.Core.List.{List, _++_}
 use mathlib.Core.Path.{_≡_, refl, sym, ap, ap₂, _∙_, subst}
 use Prim.Native.Nat.{ℕ, zero, suc, _+_, _-_, _*_, _/_, _%_, _^_, _≤_, _<_}
 use native.Mathlib.Nat.{div-add-mod', div-lt-iff-lt-mul, mod-lt}
 use native.Mathlib.Omega.{arith}
 use lib.ListN.{length, take}
-use lib.Seq.{getD-take}
+use lib.Seq.{getD-take, take-at}
 use Rattle.answers.specs.declared.Answer.the-variants.{Accepted}
 use Rattle.bits.specs.Bytes.{Bytes, number, byte, bytesOf, placed}
 use Rattle.bits.specs.Encodings.{decode}
@@ -31,21 +31,23 @@ use Rattle.judgement.proofs.laws.Judgements.{accepted-sound}
 use Rattle.network.specs.Numbers.{encodingNumber}
 use Rattle.network.specs.Tables.{spreadEntry, spreadTable}
 use Rattle.network.proofs.laws.Order.{at-div, at-mod}
-use Rattle.layout.specs.Stages.{widthOf, shifted, sourceOf, firstNumber, afterRound, standingNumber, numbersOf}
+use Rattle.layout.specs.Stages.{widthOf, sourceOf, firstNumber, afterRound, standingNumber, numbersOf}
 use Rattle.layout.specs.declared.stage.Stage.{Stage}
 use Rattle.layout.specs.declared.stage.Stage.the-variants.{Entry, First, Second, Exit, Beyond}
+use Rattle.layout.proofs.laws.Place.{source-lt}
 use Rattle.whitebox.specs.Bundles.{codingsOf}
 use Rattle.whitebox.specs.Codings.{Codings, byteMatrixAt, columnMatrixAt}
-use Rattle.whitebox.specs.Parts.{Parts, Fine, forward}
+use Rattle.whitebox.specs.Parts.{Parts, Fine}
 use Rattle.whitebox.specs.Tables.{wordOf, layerOf}
 use Rattle.whitebox.specs.Words.{entryWord, mixedWord, secondWord, placedWord, substituted}
 use Rattle.whitebox.proofs.laws.Bundles.{encoding-is}
-use Rattle.whitebox.proofs.laws.States.{forward-fine, substituted-lt}
+use Rattle.whitebox.proofs.laws.States.{substituted-lt}
 use Rattle.whitebox.proofs.laws.Values.{entry-bytes, mixed-word-bytes, second-bytes, placed-word-bytes}
 use Rattle.entries.specs.Encodings.{encodingIn}
 use Rattle.entries.specs.Spread.{combined, encodedBytes, encodedWord}
-use Rattle.layers.specs.Layers.{roundOf, acted, linearWord, wordNumber, readByte}
+use Rattle.layers.specs.Layers.{InRounds}
 use Rattle.layers.proofs.laws.Linear.{by-powers, spread-xor, mixed-xor, exit-xor}
+use Rattle.stages.specs.Spread.{acted, linearWord, wordNumber, readByte}
 
 -- ---- 256 words of m bytes, one after the other
 module _ (m : ℕ) (f : ℕ → ℕ → ℕ) (pos : 0 < m) where
@@ -78,6 +80,12 @@ module _ (m : ℕ) (f : ℕ → ℕ → ℕ) (pos : 0 < m) where
       ext-at (256 * m) _ _ (length-packed (256 * m) nibbles) (length-concat m words 256 (λ k g. length-packed m (f k)))
       (λ i h. at-packed (256 * m) nibbles i h ∙ byte-of-word i h)
 
+-- ---- the images of d encodings, from number n on, in the front of a list
+pub images-front : (section images rest : List ℕ) (n d : ℕ) → images ≡ concat d (λ h. encodingIn section (n + h)) ++ rest
+    → take (d * 16) images ≡ concat d (λ h. encodingIn section (n + h))
+images-front section images rest n d e =
+    ap (take (d * 16)) e ∙ take-at _ rest (d * 16) (length-concat 16 (λ h. encodingIn section (n + h)) d (λ k g. images-long _))
+
 -- ---- the words by stage, as numbers
 module _ (P : Parts) (C : Codings) (p y : ℕ) where
   pub entry-form : number 16 (λ j. product 8 (byteMatrixAt C 1 j) (byte 16 j (product 128 (inverseOf 128 (C .inputMatrix)) (placed 16 p y)))) ≡ wordNumber P C Entry p y
@@ -101,26 +109,25 @@ module _ (P : Parts) (C : Codings) (p y : ℕ) where
 on-bytes : (f g : ℕ → ℕ) → ((y : ℕ) → f y ≡ g y) → OnBytes f → OnBytes g
 on-bytes f g e lin x y h k = sym (e _) ∙ lin x y h k ∙ ap₂ lib.Bits.bitXor (e x) (e y)
 
-module _ (P : Parts) (fine : Fine P) (C : Codings) (p : ℕ) where
-  word-linear : (s : Stage) → 1 ≤ roundOf s → OnBytes (wordNumber P C s p)
+module _ (P : Parts) (fine : Fine P) (C : Codings) (nr p : ℕ) where
+  word-linear : (s : Stage) → InRounds nr s → OnBytes (wordNumber P C s p)
   word-linear Entry h = on-bytes _ _ (λ y. entry-form P C p y) (spread-xor 16 128 p (inverseOf 128 (C .inputMatrix)) (byteMatrixAt C 1))
   word-linear (First r) h =
       on-bytes _ _ (λ y. first-form P C p y r) (mixed-xor (columnMatrixAt C r (p / 4)) (λ t. P .coefficient t (p % 4)) (λ t g. fine .coefficient-lt t (p % 4)))
   word-linear (Second r) h =
       on-bytes _ _ (λ y. second-form P C p y r) (spread-xor 4 32 (p % 4) (inverseOf 32 (columnMatrixAt C r (p / 4))) (λ t. byteMatrixAt C (suc r) (4 * (p / 4) + t)))
   word-linear Exit h = on-bytes _ _ (λ y. exit-form P C p y) (exit-xor (C .outputMatrix) p)
-  word-linear Beyond h = absurd (omega arith)
+  word-linear Beyond h = absurd h
 
-module _ (P : Parts) (fine : Fine P) (C : Codings) (nr p : ℕ) where
-  word-bytes : (s : Stage) → 1 ≤ roundOf s → (y : ℕ) → Bytes (linearWord P C s p y) × (bytesOf (widthOf s) (wordNumber P C s p y) ≡ linearWord P C s p y)
+  word-bytes : (s : Stage) → InRounds nr s → (y : ℕ) → Bytes (linearWord P C s p y) × (bytesOf (widthOf s) (wordNumber P C s p y) ≡ linearWord P C s p y)
   unfolding wordNumber entryWord mixedWord secondWord placedWord
-  word-bytes Entry h y = let b = entry-bytes P fine C nr p y in (b, bytesOf-numberOf 16 _ (length-tabulate 16 _) b)
-  word-bytes (First r) h y = let b = mixed-word-bytes P fine C nr r p y in (b, bytesOf-numberOf 4 _ (length-bytesOf 4 _) b)
-  word-bytes (Second r) h y = let b = second-bytes P fine C nr r p y in (b, bytesOf-numberOf 4 _ (length-tabulate 4 _) b)
-  word-bytes Exit h y = let b = placed-word-bytes P fine C nr p y in (b, bytesOf-numberOf 16 _ (length-bytesOf 16 _) b)
-  word-bytes Beyond h y = absurd (omega arith)
+  word-bytes Entry h y = let b = entry-bytes P C p y in (b, bytesOf-numberOf 16 _ (length-tabulate 16 _) b)
+  word-bytes (First r) h y = let b = mixed-word-bytes P C r p y in (b, bytesOf-numberOf 4 _ (length-bytesOf 4 _) b)
+  word-bytes (Second r) h y = let b = second-bytes P C r p y in (b, bytesOf-numberOf 4 _ (length-tabulate 4 _) b)
+  word-bytes Exit h y = let b = placed-word-bytes P C p y in (b, bytesOf-numberOf 16 _ (length-bytesOf 16 _) b)
+  word-bytes Beyond h y = absurd h
 
-  acted-lt : (s : Stage) → 1 ≤ roundOf s → (x : ℕ) → x < 256 → acted P C nr s p x < 256
+  acted-lt : (s : Stage) → InRounds nr s → (x : ℕ) → x < 256 → acted P C nr s p x < 256
   unfolding substituted
   acted-lt Entry h x k = k
   acted-lt (First r) h x k = substituted-lt P fine _ r (P .reads p) p (product-lt 8 _ _)
@@ -136,45 +143,37 @@ module _ (P : Parts) (fine : Fine P) (C : Codings) (nr p : ℕ) where
   word-is Beyond x = refl
 
 -- ---- numbers in range, for a stage of nr rounds
-source-lt : (P : Parts) → Fine P → (s : Stage) (p : ℕ) → p < 16 → sourceOf (P .reads) s p < 16
-source-lt P fine Entry p h = h
-source-lt P fine (First r) p h = fine .reads-lt p h
-source-lt P fine (Second r) p h = h
-source-lt P fine Exit p h = fine .reads-lt p h
-source-lt P fine Beyond p h = h
-
 after-lt : (nr r q : ℕ) → r < nr → q < 32 → afterRound r q < encodings nr
 unfolding encodingNumber encodings
 after-lt nr zero q h k = omega arith
 after-lt nr (suc r) q h k = omega arith
 
-standing-lt : (nr : ℕ) (s : Stage) (q : ℕ) → 1 ≤ roundOf s → roundOf s < nr → q < 32 → standingNumber nr s q < encodings nr
+standing-lt : (nr : ℕ) (s : Stage) (q : ℕ) → InRounds nr s → q < 32 → standingNumber nr s q < encodings nr
 unfolding encodingNumber encodings
-standing-lt nr Entry q h g k = omega arith
-standing-lt nr (First r) q h g k = after-lt nr (r - 1) q (omega arith) k
-standing-lt nr (Second r) q h g k = omega arith
-standing-lt nr Exit q h g k = after-lt nr (nr - 1) q (omega arith) k
-standing-lt nr Beyond q h g k = absurd (omega arith)
+standing-lt nr Entry q h k = omega arith
+standing-lt nr (First r) q h k = after-lt nr (r - 1) q (omega arith) k
+standing-lt nr (Second r) q h k = omega arith
+standing-lt nr Exit q h k = after-lt nr (nr - 1) q (omega arith) k
+standing-lt nr Beyond q h k = absurd h
 
-own-lt : (nr : ℕ) (s : Stage) (p h : ℕ) → 1 ≤ roundOf s → roundOf s < nr → p < 16 → h < 2 * widthOf s
-    → firstNumber nr s + p * (2 * widthOf s) + h < encodings nr
+own-lt : (nr : ℕ) (s : Stage) (p h : ℕ) → InRounds nr s → p < 16 → h < 2 * widthOf s → firstNumber nr s + p * (2 * widthOf s) + h < encodings nr
 unfolding encodings
-own-lt nr Entry p h a b c d = omega arith
-own-lt nr (First r) p h a b c d = omega arith
-own-lt nr (Second r) p h a b c d = omega arith
-own-lt nr Exit p h a b c d = omega arith
-own-lt nr Beyond p h a b c d = absurd (omega arith)
+own-lt nr Entry p h a c d = omega arith
+own-lt nr (First r) p h a c d = omega arith
+own-lt nr (Second r) p h a c d = omega arith
+own-lt nr Exit p h a c d = omega arith
+own-lt nr Beyond p h a c d = absurd a
 
-wide : (s : Stage) → 1 ≤ roundOf s → 0 < widthOf s
-wide Entry h = omega arith
-wide (First r) h = omega arith
-wide (Second r) h = omega arith
-wide Exit h = omega arith
-wide Beyond h = absurd (omega arith)
+wide : (nr : ℕ) (s : Stage) → InRounds nr s → 0 < widthOf s
+wide nr Entry h = omega arith
+wide nr (First r) h = omega arith
+wide nr (Second r) h = omega arith
+wide nr Exit h = omega arith
+wide nr Beyond h = absurd h
 
 -- ---- the table, of a cipher of the parts P and nr rounds
 module _ (P : Parts) (fine : Fine P) (nr : ℕ) (l : List ℕ) (bytes : Bytes l) (accepted : judge nr l ≡ Accepted)
-    (s : Stage) (low : 1 ≤ roundOf s) (high : roundOf s < nr) (p : ℕ) (hp : p < 16) where
+    (s : Stage) (round : InRounds nr s) (p : ℕ) (hp : p < 16) where
   abbrev C : Codings
   C = codingsOf nr l
 
@@ -182,10 +181,10 @@ module _ (P : Parts) (fine : Fine P) (nr : ℕ) (l : List ℕ) (bytes : Bytes l)
   unfolding readByte
   read-lt x h =
       let j = sourceOf (P .reads) s p in
-      let small = source-lt P fine s p hp in
+      let small = source-lt (P .reads) (fine .reads-lt) s p hp in
       let S = accepted-sound nr l bytes accepted in
-      let a = decode-lt _ (S .lists (standingNumber nr s (2 * j)) (standing-lt nr s (2 * j) low high (omega arith))) (x / 16) (omega arith) in
-      let b = decode-lt _ (S .lists (standingNumber nr s (2 * j + 1)) (standing-lt nr s (2 * j + 1) low high (omega arith))) (x % 16) (omega arith) in
+      let a = decode-lt _ (S .lists (standingNumber nr s (2 * j)) (standing-lt nr s (2 * j) round (omega arith))) (x / 16) (omega arith) in
+      let b = decode-lt _ (S .lists (standingNumber nr s (2 * j + 1)) (standing-lt nr s (2 * j + 1) round (omega arith))) (x % 16) (omega arith) in
       omega arith
 
   entry-is : (images : List ℕ) (v x h : ℕ) → x < 256 → h < 2 * widthOf s
@@ -195,21 +194,21 @@ module _ (P : Parts) (fine : Fine P) (nr : ℕ) (l : List ℕ) (bytes : Bytes l)
   unfolding spreadEntry numbersOf encodingNumber readByte
   entry-is images v x h hx hh e f =
       let m = widthOf s in
-      let B = word-bytes P fine C nr p s low (acted P C nr s p (readByte nr (P .reads) l s p x)) in
+      let B = word-bytes P fine C nr p s round (acted P C nr s p (readByte nr (P .reads) l s p x)) in
       let word = ap (bytesOf m) f ∙ B .1 in
       let u = nibble (bytesOf m v) h in
       let hu : u < 16 = subst (λ (t : List ℕ). nibble t h < 16) (sym word) (nibble-lt _ (B .0) h) in
       let j = sourceOf (P .reads) s p in
-      let small = source-lt P fine s p hp in
-      let a = encoding-is nr l (standingNumber nr s (2 * j)) (standing-lt nr s (2 * j) low high (omega arith)) in
-      let b = encoding-is nr l (standingNumber nr s (2 * j + 1)) (standing-lt nr s (2 * j + 1) low high (omega arith)) in
+      let small = source-lt (P .reads) (fine .reads-lt) s p hp in
+      let a = encoding-is nr l (standingNumber nr s (2 * j)) (standing-lt nr s (2 * j) round (omega arith)) in
+      let b = encoding-is nr l (standingNumber nr s (2 * j + 1)) (standing-lt nr s (2 * j + 1) round (omega arith)) in
       let read = sym (ap₂ (λ (c d : List ℕ). pack (decode c (x / 16)) (decode d (x % 16))) a b) in
       let i : 16 * h + u ≡ h * 16 + u = omega arith in
       ap (at images) i
       ∙ sym (getD-take (2 * m * 16) images (h * 16 + u) 0 (omega arith))
       ∙ ap (λ (t : List ℕ). at t (h * 16 + u)) e
       ∙ at-concat 16 (λ k. encodingOf nr l (firstNumber nr s + p * (2 * m) + k)) (2 * m) (λ k g. images-long _) h u hh hu
-      ∙ ap₂ at (sym (encoding-is nr l (firstNumber nr s + p * (2 * m) + h) (own-lt nr s p h low high hp hh)))
+      ∙ ap₂ at (sym (encoding-is nr l (firstNumber nr s + p * (2 * m) + h) (own-lt nr s p h round hp hh)))
       (ap (λ (t : List ℕ). nibble t h) (word ∙ word-is P fine C nr p s (readByte nr (P .reads) l s p x) ∙ ap (wordOf P C nr s p) read))
 
   spread-is : (values images dst : List ℕ) (f : ℕ → ℕ) → dst ≡ concat 256 (λ x. encodedWord (at images) (widthOf s) (combined f (at values x)))
@@ -219,37 +218,28 @@ module _ (P : Parts) (fine : Fine P) (nr : ℕ) (l : List ℕ) (bytes : Bytes l)
       → dst ≡ spreadTable (C .encoding) (layerOf P C nr s) (numbersOf nr s) p
   unfolding encodedBytes spreadTable
   spread-is values images dst f d v b i =
-      let lin = word-linear P fine C p s low in
+      let lin = word-linear P fine C nr p s round in
       d
       ∙ concat-same 256 _ _ (λ x hx.
       packed-ext (widthOf s) _ _ (λ h hh.
       entry-is images (combined f (at values x)) x h hx hh i
       (ap (combined f) (ap (λ (t : List ℕ). at t x) v ∙ at-tabulate 256 _ x hx)
-      ∙ by-powers (wordNumber P C s p) f lin b _ (acted-lt P fine C nr p s low _ (read-lt x hx)))))
-      ∙ sym (packed-words (widthOf s) (spreadEntry (C .encoding) (layerOf P C nr s) (numbersOf nr s) p) (wide s low))
+      ∙ by-powers (wordNumber P C s p) f lin b _ (acted-lt P fine C nr p s round _ (read-lt x hx)))))
+      ∙ sym (packed-words (widthOf s) (spreadEntry (C .encoding) (layerOf P C nr s) (numbersOf nr s) p) (wide nr s round))
 
--- The same for ten rounds and FIPS 197's cipher, from what the code has: the width m, the first number, the section of encodings, and each list as
--- the call that fills it leaves it.
-module _ (l w : List ℕ) (bytes : Bytes l) (keys : Bytes w) (accepted : judge 10 l ≡ Accepted)
-    (s : Stage) (low : 1 ≤ roundOf s) (high : roundOf s ≤ 9) (p : ℕ) (hp : p < 16) where
-  abbrev P : Parts
-  P = forward 10 w
-
-  abbrev C10 : Codings
-  C10 = codingsOf 10 l
-
-  pub spread-made : (m first : ℕ) (section values basis old images dst : List ℕ)
+  -- The same from what the code has: the width m, the first number, the section of encodings, and each list as the call that fills it leaves it.
+  pub spread-made : (m first : ℕ) (section values basis old images rest dst : List ℕ)
       → m ≡ widthOf s
-      → first ≡ firstNumber 10 s
-      → section ≡ sectionOf 10 l 0
+      → first ≡ firstNumber nr s
+      → section ≡ sectionOf nr l 0
       → 16 ≤ length old
-      → values ≡ tabulate 256 (λ x. acted P C10 10 s p (readByte 10 shifted l s p x))
-      → basis ≡ stored 8 (λ k. wordNumber P C10 s p (2 ^ k)) old
-      → take (2 * m * 16) images ≡ concat (2 * m) (λ h. encodingIn section (first + p * (2 * m) + h))
+      → values ≡ tabulate 256 (λ x. acted P C nr s p (readByte nr (P .reads) l s p x))
+      → basis ≡ stored 8 (λ k. wordNumber P C s p (2 ^ k)) old
+      → images ≡ concat (2 * m) (λ h. encodingIn section (first + p * (2 * m) + h)) ++ rest
       → dst ≡ concat 256 (λ x. encodedWord (at images) m (combined (rowAt basis) (at values x)))
-      → dst ≡ spreadTable (C10 .encoding) (layerOf P C10 10 s) (numbersOf 10 s) p
-  unfolding partAt partSize forward
-  spread-made m first section values basis old images dst width number sect long val bas img written =
-      spread-is P (forward-fine 10 w keys) 10 l bytes accepted s low (omega arith) p hp values images dst (rowAt basis) (rw width at written) val
+      → dst ≡ spreadTable (C .encoding) (layerOf P C nr s) (numbersOf nr s) p
+  unfolding partAt partSize
+  spread-made m first section values basis old images rest dst width number sect long val bas img written =
+      spread-is values images dst (rowAt basis) (rw width at written) val
       (λ k h. ap (λ (t : List ℕ). rowAt t k) bas ∙ row-stored 8 _ old long k h)
-      (rw (width, number, sect) at img)
+      (rw (width, number, sect) at (images-front section images rest (first + p * (2 * m)) (2 * m) img))

@@ -13,7 +13,7 @@ use Rattle.bits.specs.Encodings.{encode, decode}
 use Rattle.bits.specs.Nibbles.{packed}
 use Rattle.bits.proofs.laws.Nibbles.{packed-ext}
 use Rattle.bits.proofs.laws.Multiples.{product-le}
-use Rattle.bundle.specs.Format.{encodings, tenEncodings, sectionOf}
+use Rattle.bundle.specs.Format.{encodings, sectionOf}
 use Rattle.network.specs.Numbers.{encodingNumber, layerResults}
 use Rattle.network.specs.Order.{GoodWidth, xors, turnOf, groupOf, nibbleOf, addedOf, sumOf}
 use Rattle.network.specs.Tables.{xorEntry, xorTable}
@@ -80,9 +80,9 @@ module _ (m : ℕ) (good : GoodWidth m) (first x : ℕ) where
       let R = own _ _ result-is (omega (arith, lt w (suc k) h (omega arith) (omega arith) hh)) in
       d ∙ packed-ext 128 _ _ (λ e g. ap₂ encode R (ap₂ (λ (u v : List ℕ). bitXor (decode u (e / 16)) (decode v (e % 16))) A B))
 
--- What the code's sums and products stay below.
-pub record Within (m first x : ℕ) : Type 0 where
-  pub result : first + 16 * (2 * m) + x < tenEncodings
+-- What the code's sums and products stay below, where there are `count` encodings.
+pub record Within (count m first x : ℕ) : Type 0 where
+  pub result : first + 16 * (2 * m) + x < count
   pub sum : sumOf m x * (2 * m) ≤ 480
   pub next : (sumOf m x + addedOf m x + 1) * (2 * m) ≤ 480
   pub word : sumOf m x < 16
@@ -91,8 +91,8 @@ pub record Within (m first x : ℕ) : Type 0 where
   pub wide : 2 ≤ m
   pub most : m ≤ 16
 
-pub xor-within : (m first x : ℕ) → GoodWidth m → first + layerResults m ≤ tenEncodings → x < xors m → Within m first x
-xor-within m first x good room made =
+pub xor-within : (count m first x : ℕ) → GoodWidth m → first + layerResults m ≤ count → x < xors m → Within count m first x
+xor-within count m first x good room made =
     let within = added-word-lt m good x made in
     let few = added-lt m good x in
     let hh = nibble-in m good x in

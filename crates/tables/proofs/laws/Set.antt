@@ -1,50 +1,56 @@
 -- Laws, not definitions: a table by the place that the code has of it, and a loop that writes the tables of a set one by one.
 -- Assumes nothing.
 use mathlib.Core.List.{List, _++_}
-use mathlib.Core.Path.{_≡_, refl, sym, ap, ap₂, _∙_}
-use Prim.Native.Nat.{ℕ, _+_, _-_, _≤_, _<_}
+use mathlib.Core.Path.{_≡_, refl, sym, ap, ap₂, _∙_, subst}
+use Prim.Native.Nat.{ℕ, _+_, _-_, _*_, _≤_, _<_}
 use native.Mathlib.Numerals.{add-one}
 use native.Mathlib.Omega.{arith}
 use borrow.Rule.Slice.PartMut.{putMid}
-use lib.ListN.{length, take, drop, length-take, length-drop}
-use lib.Seq.{take-all}
+use lib.ListN.{length}
 use Rattle.bits.specs.Lists.{concat}
-use Rattle.bits.proofs.laws.Lists.{concat-next, take-put}
+use Rattle.bits.proofs.laws.Lists.{cut}
+use Rattle.bits.proofs.laws.Parts.{PartsAt, parts-at-more, parts-at-all}
+use Rattle.bundle.specs.Format.{columnMatrices}
 use Rattle.network.specs.Tables.{tableIn}
-use Rattle.layout.specs.Stages.{stageOf, indexOf, lookups, tablesBytes, tenLookups, tenTablesBytes, tableSize, tableOffset, numbersOf, placeOf}
+use Rattle.layout.specs.Stages.{stageOf, indexOf, lookups, tablesBytes, tableSize, tableOffset, numbersOf, placeOf}
 use Rattle.layout.specs.declared.stage.Place.{Place}
-use Rattle.layout.specs.declared.stage.Stage.{Stage}
-use Rattle.layout.proofs.laws.Cases.{starred}
-use Rattle.layout.proofs.laws.Instance.{first-offset, next-offset}
+use Rattle.layout.proofs.laws.Instance.{next-offset}
 use Rattle.layout.proofs.laws.Lookup.{stands}
 use Rattle.layout.proofs.laws.Ranges.{by-range, by-stage}
 use Rattle.whitebox.specs.Codings.{Codings}
 use Rattle.whitebox.specs.Parts.{Parts}
 use Rattle.whitebox.specs.Tables.{layerOf, layers, tableOf}
-use Rattle.layers.specs.Layers.{roundOf, InverseFor}
-use Rattle.layers.proofs.laws.Numbers.{Round}
+use Rattle.layers.specs.Layers.{InRounds, columnWords, columnInverses, inputInverse, inverseFor, Begins, chosenFrom}
+use Rattle.layers.proofs.laws.Inverses.{written-begins, columns-long, chosen-begins}
 
 -- ---- a table by the place that the code has of it
-round-of : (n : ℕ) → n < tenLookups → Round (roundOf (stageOf 10 n))
-round-of n h =
-    by-range 10 n h (λ (s : Stage). Round (roundOf s))
-    (λ a. record { low = omega arith; high = omega arith })
-    (λ r lo hi a b. record { low = lo; high = omega arith })
-    (λ r lo hi a b. record { low = lo; high = omega arith })
-    (λ a. record { low = omega arith; high = omega arith })
-
--- Its stage has a round of 1 to 9.
-pub round-at : (n : ℕ) (q : Place) → q ≡ placeOf 10 n → n < tenLookups → Round (roundOf (q .stage))
-round-at n q e h = rw e (round-of n h)
+-- Its stage or half is one of nr rounds.
+in-rounds : (nr n : ℕ) → 1 ≤ nr → n < lookups nr → InRounds nr (stageOf nr n)
+in-rounds nr n some h = by-range nr n h (InRounds nr) (λ a. some) (λ r lo hi a b. (lo, hi)) (λ r lo hi a b. (lo, hi)) (λ a b. some)
 
 module _ (nr n : ℕ) (q : Place) (e : q ≡ placeOf nr n) where
-  -- The inverse that the table needs, by the place and by the number.
+  pub round-at : 1 ≤ nr → n < lookups nr → InRounds nr (q .stage)
+  round-at some h = rw e (in-rounds nr n some h)
+
+  -- The words m begin with the inverse that the table is made with: by the place and by the number.
   module _ (l m : List ℕ) where
-    pub inverse-by-place : (indexOf nr n < 16 → InverseFor l (stageOf nr n) (indexOf nr n) m) → q .index < 16 → InverseFor l (q .stage) (q .index) m
+    pub inverse-by-place : Begins (inverseFor nr l (stageOf nr n) (indexOf nr n)) m → Begins (inverseFor nr l (q .stage) (q .index)) m
     inverse-by-place i = rw e i
 
-    pub inverse-by-number : (q .index < 16 → InverseFor l (q .stage) (q .index) m) → indexOf nr n < 16 → InverseFor l (stageOf nr n) (indexOf nr n) m
+    pub inverse-by-number : Begins (inverseFor nr l (q .stage) (q .index)) m → Begins (inverseFor nr l (stageOf nr n) (indexOf nr n)) m
     inverse-by-number i = rw e at i
+
+    -- Worked out for this table alone, and chosen from all.
+    pub inverse-worked : (r : List ℕ) → m ≡ inverseFor nr l (q .stage) (q .index) ++ r → Begins (inverseFor nr l (stageOf nr n) (indexOf nr n)) m
+    inverse-worked r w = inverse-by-number (written-begins _ r m w)
+
+    pub inverse-chosen : (columns input : List ℕ) → 1 ≤ nr → n < lookups nr → columns ≡ columnInverses nr l → input ≡ inputInverse nr l
+        → m ≡ chosenFrom columns input (q .stage) (q .index) → Begins (inverseFor nr l (stageOf nr n) (indexOf nr n)) m
+    inverse-chosen columns input some h c i w =
+        inverse-by-number
+        (subst (Begins (inverseFor nr l (q .stage) (q .index)))
+        (sym (w ∙ ap₂ (λ (x y : List ℕ). chosenFrom x y (q .stage) (q .index)) c i))
+        (chosen-begins nr l (q .stage) (q .index) (round-at some h)))
 
   pub table-made : (P : Parts) (C : Codings) (dst : List ℕ) → n < lookups nr
       → dst ≡ tableIn (C .encoding) (layerOf P C nr (q .stage)) (numbersOf nr (q .stage)) (q .index)
@@ -52,50 +58,32 @@ module _ (nr n : ℕ) (q : Place) (e : q ≡ placeOf nr n) where
   unfolding tableOf layers
   table-made P C dst h d = (rw e at d) ∙ sym (by-stage nr .table-is (C .encoding) (layerOf P C nr) (λ s. refl) n h)
 
--- ---- a loop that writes table after table
--- The loop's invariant: the memory begins with the first n tables. `count` and `bytes` are the sizes as the numbers that the code has.
-pub record Begun (nr count bytes : ℕ) (t : ℕ → List ℕ) (memory : List ℕ) (n : ℕ) : Type 0 where
-  pub within : n ≤ count
-  pub long : length memory ≡ bytes
-  pub front : take (tableOffset nr n) memory ≡ concat n t
+-- ---- the inverses of all column matrices, whose number is `count`
+pub columns-lent : (nr count : ℕ) (l columns : List ℕ) → columnMatrices nr ≡ count → columns ≡ columnInverses nr l
+    → length columns ≡ count * columnWords
+columns-lent nr count l columns n c = ap length c ∙ columns-long nr l ∙ ap (λ (k : ℕ). k * columnWords) n
 
-pub begun-none : (nr count bytes : ℕ) (t : ℕ → List ℕ) (memory : List ℕ) → length memory ≡ bytes → Begun nr count bytes t memory 0
-unfolding concat
-begun-none nr count bytes t memory l = record { within = omega arith; long = l; front = ap (λ (k : ℕ). take k memory) (first-offset nr) }
-
-module _ {nr count bytes : ℕ} (number : lookups nr ≡ count) (size : tablesBytes nr ≡ bytes)
-    {t : ℕ → List ℕ} {memory : List ℕ} {n : ℕ} (b : Begun nr count bytes t memory n) where
-  -- A turn: the part at the place of table n is lent, and comes back with the table.
-  pub begun-next : n < count → (q : Place) → q ≡ placeOf nr n → (table : List ℕ)
-      → table ≡ t n
-      → length table ≡ length (take (q .offset + q .size - q .offset) (drop (q .offset) memory))
-      → length (putMid (q .offset) (q .offset + q .size - q .offset) memory table) ≡ length memory
-      → Begun nr count bytes t (putMid (q .offset) (q .offset + q .size - q .offset) memory table) (n + 1)
-  begun-next h q e table made part kept =
+-- ---- a loop that writes table after table: the memory begins with the first n of them (`PartsAt` of bits). `count` and `bytes` are the sizes as the
+-- numbers that the code has.
+module _ (nr : ℕ) {count bytes : ℕ} (number : lookups nr ≡ count) (size : tablesBytes nr ≡ bytes) {t : ℕ → List ℕ} {memory₀ memory : List ℕ} {n : ℕ}
+    (long : length memory₀ ≡ bytes) (g : PartsAt count (tableOffset nr) t memory₀ memory n) where
+  -- The part at the place of table n lies within the memory.
+  pub table-room : n < count → (q : Place) → q ≡ placeOf nr n → q .offset + q .size ≤ length memory
+  table-room h q e =
       let inside : n < lookups nr = omega (arith, number) in
       let at = stands inside e in
-      let a = q .offset in
-      let z = q .size in
-      let lent : length (take (a + z - a) (drop a memory)) ≡ z = simp (length-take, length-drop) (omega (arith, at .end, size, b .long)) in
+      omega (arith, at .end, size, g .long)
+
+  -- A turn: that part is lent, and comes back with the table.
+  pub table-next : n < count → (q : Place) → q ≡ placeOf nr n → (table : List ℕ)
+      → length table ≡ length (cut memory (q .offset) (q .offset + q .size)) → table ≡ t n
+      → PartsAt count (tableOffset nr) t memory₀ (putMid (q .offset) (q .offset + q .size - q .offset) memory table) (n + 1)
+  table-next h q e table part made =
+      let inside : n < lookups nr = omega (arith, number) in
+      let at = stands inside e in
       let next : tableOffset nr (n + 1) ≡ tableOffset nr n + tableSize nr n = ap (tableOffset nr) (add-one n) ∙ next-offset nr n inside in
-      let before : take a memory ≡ concat n t = ap (λ (k : ℕ). take k memory) (at .offset) ∙ b .front in
-      record {
-        within = omega arith;
-        long = kept ∙ b .long;
-        front = take-put a (a + z - a) (tableOffset nr (n + 1)) memory table (omega (arith, at .end, size, b .long)) (omega (arith, at .offset, at .size))
-            ∙ ap₂ (λ u v. u ++ v) before made
-            ∙ sym (concat-next n t);
-      }
+      parts-at-more g (q .offset) (q .size) h (at .offset) (omega (arith, at .offset, at .size, next)) (table-room h q e) part made
 
-  begun-end : count ≤ n → memory ≡ concat count t
-  begun-end h =
-      let all : n ≡ count = omega (arith, b .within) in
-      let end : tableOffset nr n ≡ bytes = by-stage nr .offset-none n (omega (arith, number)) ∙ size in
-      sym (take-all bytes memory (omega (arith, b .long)))
-      ∙ ap (λ (k : ℕ). take k memory) (sym end)
-      ∙ b .front
-      ∙ ap (λ (k : ℕ). concat k t) all
-
--- All tables of a set of ten rounds.
-pub begun-all : {t : ℕ → List ℕ} {memory : List ℕ} {n : ℕ} → Begun 10 tenLookups tenTablesBytes t memory n → tenLookups ≤ n → memory ≡ concat tenLookups t
-begun-all = begun-end (starred .all-lookups) (starred .table-bytes)
+  -- Behind the last turn the memory is all tables.
+  pub tables-all : count ≤ n → memory ≡ concat count t
+  tables-all h = parts-at-all g h (long ∙ sym size ∙ sym (by-stage nr .offset-none count (omega (arith, number))))

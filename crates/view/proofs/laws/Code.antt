@@ -1,21 +1,17 @@
 -- Laws, not definitions: starts, sections and parts as the code meets them, by the test of a branch.
 -- Assumes nothing.
-use mathlib.Core.Bool.{Bool, true, false}
 use mathlib.Core.List.{List, []}
-use mathlib.Core.Path.{_≡_, refl, sym, ap, _∙_}
-use Prim.Native.Nat.{ℕ, _+_, _-_, _*_, _/_, _≤_, _<_}
-use native.Mathlib.Nat.{zero-mul}
+use mathlib.Core.Path.{_≡_, sym, ap, _∙_}
+use Prim.Native.Nat.{ℕ, _+_, _-_, _≤_, _<_}
 use native.Mathlib.Omega.{arith}
-use lib.Dec.{eqb, ltb}
-use lib.ListN.{length, take, drop, length-take, length-drop}
-use borrow.Author.Tests.{eq-eqb, ne-eqb, lt-ltb, le-ltb, ltb-false}
-use Rattle.bits.proofs.laws.Multiples.{multiple-of}
-use Rattle.bundle.specs.Format.{partCount, partSize, sectionLength, offset, frame}
+use lib.ListN.{length, take, drop}
+use borrow.Author.Tests.{eq-eqb, ne-eqb, lt-ltb, le-ltb}
+use Rattle.bits.proofs.laws.Lists.{cut-is}
+use Rattle.bundle.specs.Format.{sectionLength, offset, frame}
 use Rattle.answers.specs.declared.Answer.{Answer}
 use Rattle.answers.specs.declared.Answer.the-variants.{Accepted, Refused}
 use Rattle.answers.specs.declared.Refusal.{Refusal}
-use Rattle.bundle.proofs.laws.Tests.{or-right}
-use Rattle.view.specs.Views.{startOf, startsOf, emptyWhen, sectionFrom, partFrom}
+use Rattle.view.specs.Views.{startOf, startsOf, sectionFrom, partFrom}
 use Rattle.view.specs.Serving.{noStarts}
 use Rattle.view.specs.declared.part.Part.{Part}
 use Rattle.view.specs.declared.starts.Starts.{Starts}
@@ -70,29 +66,7 @@ module _ (nr : ℕ) (l : List ℕ) (s a : ℕ) where
 
       pub from-cut : n ≤ length l → a ≤ length l - n → take ((a + n) - a) (drop a l) ≡ sectionFrom nr l s a
       from-cut k m =
-          let q : (a + n) - a ≡ sectionLength nr s = omega arith in
-          ap (λ (x : ℕ). take x (drop a l)) q ∙ from-here (omega arith)
-
--- The bytes of a section are those of whole parts.
-whole-by : (size : ℕ) (b : Bool) (t : List ℕ) → 0 < size → (b ≡ false → length t / size * size ≡ length t)
-    → length (emptyWhen b t) / size * size ≡ length (emptyWhen b t)
-whole-by size true t p h = multiple-of 0 size 0 p (sym (zero-mul size))
-whole-by size false t p h = h refl
-
-whole : (nr : ℕ) (l : List ℕ) (s a : ℕ) → 0 < partSize s
-    → length (sectionFrom nr l s a) / partSize s * partSize s ≡ length (sectionFrom nr l s a)
-unfolding sectionFrom sectionLength
-whole nr l s a p =
-    let n = partCount nr s * partSize s in
-    whole-by (partSize s) _ (take n (drop a l)) p
-    (λ e.
-    let k : a + n ≤ length l = ltb-false (length l) (a + n) (or-right (eqb a 0) (ltb (length l) (a + n)) e) in
-    multiple-of (partCount nr s) (partSize s) (length (take n (drop a l))) p (simp (length-take, length-drop) (omega arith)))
-
--- What `part` asks, of the section and the size that the code has.
-pub parts-asked : (nr : ℕ) (l : List ℕ) (s a : ℕ) {size : ℕ} {t : List ℕ} → t ≡ sectionFrom nr l s a → (size ≡ partSize s) × (1 ≤ size) × (size ≤ 2048)
-    → (1 ≤ size) × (length t / size * size ≡ length t)
-parts-asked nr l s a e z = (z .1, rw (e, z .0) (whole nr l s a (omega arith)))
+          cut-is l a n ∙ ap (λ (x : ℕ). take x (drop a l)) e ∙ from-here (omega arith)
 
 -- ---- parts: x is the part's name p as the code tells it
 pub part-named : (nr : ℕ) (l : List ℕ) (t : Starts) {p x : Part} {r : List ℕ} → p ≡ x → r ≡ partFrom nr l t x → r ≡ partFrom nr l t p

@@ -2,7 +2,7 @@
 -- Assumes nothing.
 use mathlib.Core.Bool.{cond}
 use mathlib.Core.List.{List}
-use mathlib.Core.Path.{_≡_, sym, subst}
+use mathlib.Core.Path.{_≡_}
 use Prim.Native.Nat.{ℕ, _≤_, _<_}
 use native.Mathlib.Decide.{decLt}
 use native.Mathlib.Omega.{arith}
@@ -10,35 +10,22 @@ use borrow.Author.Tests.{lt-ltb, le-ltb}
 use lib.Dec.{ltb}
 use Rattle.answers.specs.declared.Answer.the-variants.{Accepted}
 use Rattle.bits.specs.Bytes.{Bytes}
-use Rattle.bits.specs.Encodings.{decode, Permutation}
-use Rattle.bits.specs.Lists.{tabulate}
-use Rattle.bits.specs.Vectors.{unit}
-use Rattle.bits.proofs.laws.Encodings.{permutation-by-test}
-use Rattle.bits.proofs.laws.Lists.{at-tabulate}
-use Rattle.bits.proofs.laws.Vectors.{unit-lt}
+use Rattle.bits.specs.Encodings.{Permutation, plainEncoding}
+use Rattle.bits.proofs.laws.Encodings.{plain-permutation}
 use Rattle.matrices.specs.Matrices.{identity}
 use Rattle.matrices.proofs.laws.Stored.{matrixOf-fits}
-use Rattle.matrices.proofs.laws.Matrices.{product-identity}
+use Rattle.matrices.proofs.laws.Matrices.{identity-fits, identity-invertible}
 use Rattle.bundle.specs.Format.{encodings, byteMatrices, columnMatrices, encodingOf, byteMatrix, columnMatrix, byteMatrixPart, columnMatrixPart, inputMatrixPart, outputMatrixPart}
 use Rattle.bundle.proofs.laws.Parts.{at-bytes}
 use Rattle.judgement.specs.Judge.{judge}
 use Rattle.judgement.proofs.laws.Judgements.{accepted-sound}
 use Rattle.layout.specs.Stages as stages
 use Rattle.layout.proofs.laws.Ranges.{by-stage}
-use Rattle.whitebox.specs.Bundles.{plainEncoding, codingsOf}
+use Rattle.whitebox.specs.Bundles.{codingsOf}
 use Rattle.whitebox.specs.Codings.{GoodMatrix, Sound}
 
-plain-good : Permutation plainEncoding
-unfolding plainEncoding tabulate decode
-plain-good = permutation-by-test plainEncoding tt
-
 identity-good : (n : ℕ) → GoodMatrix n (identity n)
-unfolding identity
-identity-good n =
-    record {
-      fits = λ i h. subst (λ (x : ℕ). x < Prim.Native.Nat._^_ 2 n) (sym (at-tabulate n (unit n) i h)) (unit-lt n i h);
-      has = (λ v. v, λ v h. product-identity n v h);
-    }
+identity-good n = record { fits = identity-fits n; has = identity-invertible n }
 
 -- In range the bundle's own, behind the last number one that changes nothing.
 chosen : {A : Type 0} (Q : A → Type 0) (n m : ℕ) (a b : A) → (n < m → Q a) → Q b → Q (cond (ltb n m) a b)
@@ -52,7 +39,7 @@ unfolding codingsOf
 codings-sound nr l bytes e =
     let S = accepted-sound nr l bytes e in
     record {
-      encodings = λ n. chosen Permutation n (encodings nr) (encodingOf nr l n) plainEncoding (λ h. S .lists n h) plain-good;
+      encodings = λ n. chosen Permutation n (encodings nr) (encodingOf nr l n) plainEncoding (λ h. S .lists n h) plain-permutation;
       bytes = λ n.
           chosen (GoodMatrix 8) n (byteMatrices nr) (byteMatrix nr l n) (identity 8)
           (λ h. record { fits = matrixOf-fits 1 (byteMatrixPart nr l n) (at-bytes nr l 1 n bytes); has = S .bytes n h }) (identity-good 8);

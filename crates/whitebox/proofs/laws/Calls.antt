@@ -8,17 +8,19 @@ use Prim.Native.Nat.{ℕ, zero, suc, _+_, _-_, _≤_, _<_}
 use native.Mathlib.Decide.{ℕ-discrete, decLt}
 use native.Mathlib.Omega.{arith}
 use borrow.Author.Tests.{lt-ltb, le-ltb, eq-eqb, ne-eqb}
-use lib.ListN.{length, take, drop}
+use lib.ListN.{length, take, drop, replicate}
 use Rattle.answers.specs.Answers.{Reply, accepted, refused, replyOf, ifAccepted}
 use Rattle.answers.specs.declared.Answer.{Answer}
 use Rattle.answers.specs.declared.Answer.the-variants.{Accepted, Refused}
 use Rattle.answers.specs.declared.Refusal.{Refusal}
 use Rattle.answers.specs.declared.Refusal.the-variants.{SetLength, BlockLength, Stop, Unfinished}
 use Rattle.answers.proofs.laws.Tests.{left-new, left-old}
-use Rattle.network.specs.Lookups.{State}
+use Rattle.network.specs.Lookups.{State, stateAt, zeroArea, lookup}
+use Rattle.network.proofs.laws.Walks.{count-in}
 use Rattle.layout.specs.Stages.{lookups, setBytes, tableSize, tableOffset}
+use Rattle.layout.proofs.laws.Ranges.{by-stage}
 use Rattle.whitebox.specs.Calls.{Held, holding, changed, Call, toStop, oneLookup, fetch, step, advance, reply, handed, blockLeft, Served, serve, lastWalk}
-use Rattle.whitebox.specs.Calls.{judgeStop, judgeOne, judgeFetch, answer}
+use Rattle.whitebox.specs.Calls.{tablePart, judgeStart, judgeStop, judgeOne, judgeFetch, started, answer}
 use Rattle.whitebox.specs.PlainCount.{Args, stopArgs, oneArgs, fetchArgs, argsOf, Counted, plain, plainCount, LentCall, Lent}
 use Rattle.whitebox.specs.PlainCount.{blockFor, blockDue, dueServed, AlikeCall, Alike, Seen, seen}
 use Rattle.whitebox.proofs.laws.Judged.{set-wrong, stop-above, stop-below, stop-right, none-left, table-wrong, table-right}
@@ -117,7 +119,7 @@ module _ (nr : ℕ) where
       ⊎-elim (λ o. ap (λ (p : Counted). p .count) (o .counted)) (λ t. ap (λ (p : Counted). p .count) (t .counted)) (fetch-view len n)
 
   -- ---- the plain count stays in range
-  next-le : (a : Args) (n : ℕ) → n ≤ lookups nr → plain nr a n .count ≤ lookups nr
+  pub next-le : (a : Args) (n : ℕ) → n ≤ lookups nr → plain nr a n .count ≤ lookups nr
   next-le (stopArgs len stop) n h = ⊎-elim
       (λ o. subst (λ (p : Counted). p .count ≤ lookups nr) (sym (o .counted)) (o .most))
       (λ t. subst (λ (p : Counted). p .count ≤ lookups nr) (sym (t .counted)) h) (stop-view len stop n)
@@ -130,6 +132,59 @@ module _ (nr : ℕ) where
   unfolding plainCount
   count-le [] n h = h
   count-le (c ∷ cs) n h = count-le cs (plain nr c n .count) (next-le c n h)
+
+-- ---- a start's walk is at count 0, a refused one's too
+pub start-count : (x : List ℕ) → started x .state .count ≡ 0
+unfolding started
+start-count x = either (judgeStart (length x))
+  where
+    either : (a : Answer) → ifAccepted a (holding (stateAt 0 x zeroArea)) (holding (stateAt 0 (replicate 16 0) zeroArea)) .state .count ≡ 0
+    either Accepted = refl
+    either (Refused r) = refl
+
+-- ---- from any walk and over any memory, the count of the walk handed back or left is the plain count's
+module _ (reads : ℕ → ℕ) (nr : ℕ) where
+  -- The walk that an accepted move of one lookup hands back.
+  pub one-handed : (t : List ℕ) (w : Held) → answer reads nr (oneLookup t) w ≡ Accepted → handed reads nr (oneLookup t) w ≡ changed (step reads nr t) w
+  unfolding answer handed
+  one-handed t w e = sym (left-new _ (changed (step reads nr t) w) w e)
+
+  pub step-count : (t : List ℕ) (s : State) → s .count < lookups nr → step reads nr t s .count ≡ suc (s .count)
+  unfolding lookup
+  step-count t s h = ap (λ (s : State). s .count) (by-stage nr .lookup-is reads (s .count) h t s) ∙ count-in _ _ t s
+
+  advance-count : (mem : List ℕ) (n : ℕ) (s : State) → s .count + n ≤ lookups nr → advance reads nr mem n s .count ≡ s .count + n
+  unfolding advance
+  advance-count mem zero s h = omega arith
+  advance-count mem (suc n) s h =
+      let t : List ℕ = tablePart nr mem (s .count) in
+      let one : step reads nr t s .count ≡ suc (s .count) = step-count t s (omega arith) in
+      let rest : advance reads nr mem n (step reads nr t s) .count ≡ step reads nr t s .count + n = advance-count mem n (step reads nr t s) (omega arith) in
+      omega arith
+
+  pub counted : (c : Call) (w : Held) → w .state .count ≤ lookups nr → handed reads nr c w .state .count ≡ plain nr (argsOf c) (w .state .count) .count
+  unfolding answer handed
+  counted (toStop mem stop) w h =
+      let n : ℕ = w .state .count in
+      ⊎-elim
+      (λ o.
+      ap (λ (v : Held). v .state .count) (sym (left-new _ (changed (advance reads nr mem (stop - n)) w) w (o .call)))
+      ∙ advance-count mem (stop - n) (w .state) (let a : stop ≤ lookups nr = o .most in let b : n ≤ stop = o .least in omega arith)
+      ∙ (let b : n ≤ stop = o .least in let e : n + (stop - n) ≡ stop = omega arith in e)
+      ∙ ap (λ (p : Counted). p .count) (sym (o .counted)))
+      (λ t.
+      ap (λ (v : Held). v .state .count) (sym (left-old _ _ (changed (advance reads nr mem (stop - n)) w) w (t .call)))
+      ∙ ap (λ (p : Counted). p .count) (sym (t .counted)))
+      (stop-view nr (length mem) stop n)
+  counted (oneLookup mem) w h =
+      ⊎-elim
+      (λ o.
+      ap (λ (v : Held). v .state .count) (one-handed mem w (o .call))
+      ∙ step-count mem (w .state) (o .inside)
+      ∙ ap (λ (p : Counted). p .count) (sym (o .counted)))
+      (λ t. ap (λ (v : Held). v .state .count) (sym (left-old _ _ (changed (step reads nr mem) w) w (t .call))) ∙ ap (λ (p : Counted). p .count) (sym (t .counted)))
+      (one-view nr (length mem) (w .state .count) h)
+  counted (fetch block) w h = sym (fetch-count nr (length block) (w .state .count))
 
 -- ---- walks whose states S are known at each count
 module _ (reads : ℕ → ℕ) (nr : ℕ) (tables : ℕ → List ℕ) (set : List ℕ) (S : ℕ → State) (end : List ℕ)

@@ -11,7 +11,7 @@ use lib.Bits.{bitXor, xor-zero-r}
 use lib.Dec.{ltb, lit<}
 use lib.ListN.{length, replicate, length-append, List·getD-append}
 use Rattle.bits.specs.Bytes.{bytesOf}
-use Rattle.bits.specs.Encodings.{encode, decode}
+use Rattle.bits.specs.Encodings.{encode, decode, plainEncoding}
 use Rattle.bits.specs.Groups.{joined, group}
 use Rattle.bits.specs.Lists.{at, tabulate}
 use Rattle.bits.specs.Nibbles.{pack, nibble}
@@ -33,7 +33,7 @@ use Rattle.layout.specs.Stages.{shifted, lookups, stageOf, indexOf, numbersOf}
 use Rattle.layout.specs.declared.stage.Stage.the-variants.{First}
 use Rattle.layout.proofs.laws.Cases as network
 use Rattle.layout.proofs.laws.Ranges.{by-stage}
-use Rattle.whitebox.specs.Bundles.{plainEncoding, codingsOf, partsOf, madeTable}
+use Rattle.whitebox.specs.Bundles.{codingsOf, partsOf, madeTable}
 use Rattle.whitebox.specs.Cases.{PlainBundle, Starred}
 use Rattle.whitebox.specs.Codings.{Codings}
 use Rattle.whitebox.specs.Parts.{forward}

@@ -6,7 +6,7 @@ use Prim.Native.Nat.{ℕ, suc, _+_, _-_, _≤_, _<_}
 use native.Mathlib.Nat.{le-refl}
 use native.Mathlib.Omega.{arith}
 use borrow.Author.Tests.{eq-eqb}
-use lib.ListN.{length, take, drop, replicate}
+use lib.ListN.{length, replicate}
 use Rattle.answers.proofs.laws.Tests.{left-new}
 use Rattle.bits.specs.Bytes.{Block}
 use Rattle.bits.specs.Encodings.{encode, decode}
@@ -33,9 +33,9 @@ use Rattle.network.proofs.laws.Places.{place-by-place}
 use Rattle.network.proofs.laws.Rule.{good-widths, rule-labels}
 use Rattle.network.proofs.laws.Values.{follows-standing, follows-area}
 use Rattle.layout.specs.Stages as stages
-use Rattle.layout.specs.Stages.{shifted, widths, lookups, setBytes, tableSize, tableOffset}
+use Rattle.layout.specs.Stages.{shifted, widths, lookups, setBytes}
 use Rattle.whitebox.specs.Bundles.{codingsOf, partsOf, madeSet, madeTable, dueAt, dueHeld}
-use Rattle.whitebox.specs.Calls.{Held, holding, started, Call, toStop, fetch, step, reply, handed, blockLeft, serve, lastWalk}
+use Rattle.whitebox.specs.Calls.{Held, holding, started, tablePart, Call, toStop, fetch, step, reply, handed, blockLeft, serve, lastWalk}
 use Rattle.whitebox.specs.Codings.{Codings, Sound}
 use Rattle.whitebox.specs.Demand2.{walkedOver, Demand2For, Demand2}
 use Rattle.whitebox.specs.Demand3.{Given, Presented, Answered, Places, TwoSets, Demand3For, Demand3}
@@ -45,8 +45,9 @@ use Rattle.whitebox.specs.States.{result}
 use Rattle.whitebox.specs.Values.{valuesAt, values, ended, dueStanding, dueArea, stateDue}
 use Rattle.whitebox.proofs.laws.Bundles.{codings-sound, encodings-agree, encoding-is}
 use Rattle.whitebox.proofs.laws.Calls.{count-le, block-is, serve-is, last-is, straight-reply, straight, alike-seen}
+use Rattle.whitebox.proofs.laws.Joined.{made-in-set}
 use Rattle.whitebox.proofs.laws.Judged.{presented-right, presented-was}
-use Rattle.whitebox.proofs.laws.Set.{widths-are, set-length, set-part, due-count, due-step, due-end}
+use Rattle.whitebox.proofs.laws.Set.{widths-are, due-count, due-step, due-end}
 use Rattle.whitebox.proofs.laws.States.{forward-fine, forward-cipher}
 use Rattle.whitebox.specs.Tables.{layers}
 use Rattle.whitebox.proofs.laws.Values.{layers-good, follows, closed-is-due}
@@ -105,13 +106,11 @@ module _ (nk : ℕ) (key l : List ℕ) (given : Given nk key l) where
         ∙ ap (λ (y : List ℕ). encoded (C .encoding) (λ q. stages.encodings nr - 32 + q) (multiply (outputMatrix nr l) y)) result-is
         ∙ packed-ext 16 _ _ (λ q h. ap (λ (e : List ℕ). encode e (nibble (multiply (outputMatrix nr l) (encipherOf nk key b)) q)) (last-encoding q h))
 
-  parts : (n : ℕ) → n < lookups nr → take (tableSize nr n) (drop (tableOffset nr n) (madeSet nk key l)) ≡ madeTable nk key l n
-  unfolding madeSet madeTable
-  parts n h = set-part P C nr n h
+  parts : (n : ℕ) → n < lookups nr → tablePart nr (madeSet nk key l) n ≡ madeTable nk key l n
+  parts = made-in-set nk key l .part
 
   long : length (madeSet nk key l) ≡ setBytes nr
-  unfolding madeSet
-  long = set-length P C nr
+  long = made-in-set nk key l .long
 
   module _ (x : List ℕ) (presented : Presented x) where
     block-x : Block x

@@ -17,11 +17,12 @@ use Rattle.bits.proofs.laws.Nibbles.{packed-ext}
 use Rattle.matrices.specs.Matrices.{product}
 use Rattle.inversion.specs.Elimination.{inverseOf}
 use Rattle.field.specs.Field.{mul}
+use Rattle.bundle.specs.Format.{byteMatrices, columnMatrices}
 use Rattle.network.specs.Numbers.{Numbers, startNumbers, nextNumbers, encodingNumber}
 use Rattle.network.specs.Order.{layerLookups}
 use Rattle.network.specs.Tables.{Layer, spreadEntry, spreadTable, tableIn, tableAt}
 use Rattle.network.proofs.laws.InRange.{in-range}
-use Rattle.layout.specs.Stages.{stages, rounds, widthOf, lookups, encodings}
+use Rattle.layout.specs.Stages.{stages, rounds, widthOf, lookups}
 use Rattle.layout.specs.declared.stage.Stage.{Stage}
 use Rattle.layout.specs.declared.stage.Stage.the-variants.{Entry, First, Second, Exit}
 use Rattle.whitebox.specs.Codings.{Codings, byteMatrixAt, columnMatrixAt}
@@ -29,6 +30,7 @@ use Rattle.whitebox.specs.InRange.{AgreeInRange, OnlyInRange}
 use Rattle.whitebox.specs.Parts.{Parts, Fine}
 use Rattle.whitebox.specs.Tables.{wordOf, layerOf, layers, tableOf, setOf}
 use Rattle.whitebox.specs.Words.{substituted, entryWord, mixedWord, secondWord, placedWord}
+use Rattle.whitebox.proofs.laws.Bundles.{encodings-agree}
 use Rattle.whitebox.proofs.laws.Set.{widths-are}
 use Rattle.whitebox.proofs.laws.Values.{layers-good}
 
@@ -61,9 +63,11 @@ module _ (E : ℕ → List ℕ) (L L′ : Layer) (width : L .width ≡ L′ .wid
 module _ (P : Parts) (fine : Fine P) (nr : ℕ) (some : 1 ≤ nr) (C C′ : Codings) (agree : AgreeInRange nr C C′) where
   -- ---- the matrices that words use
   byte-same : (r j : ℕ) → 1 ≤ r → r ≤ nr → j < 16 → byteMatrixAt C r j ≡ byteMatrixAt C′ r j
+  unfolding byteMatrices
   byte-same r j a b h = agree .bytes (16 * (r - 1) + j) (omega arith)
 
   column-same : (r c : ℕ) → 1 ≤ r → r < nr → c < 4 → columnMatrixAt C r c ≡ columnMatrixAt C′ r c
+  unfolding columnMatrices
   column-same r c a b h = agree .columns (4 * (r - 1) + c) (omega arith)
 
   substituted-same : (r p x : ℕ) → 1 ≤ r → r ≤ nr → p < 16 → substituted P C r p x ≡ substituted P C′ r p x
@@ -124,10 +128,10 @@ module _ (P : Parts) (fine : Fine P) (nr : ℕ) (some : 1 ≤ nr) (C C′ : Codi
     layers-same k = one-more Entry _ _ (λ p x h. entry-word p x) (rounds-same (nr - 1) 1 (omega arith) (omega arith)) startNumbers k
 
   tables-same : (k : ℕ) → tableOf P C nr k ≡ tableOf P C′ nr k
-  unfolding tableOf encodings
+  unfolding tableOf Rattle.layout.specs.Stages.encodings
   tables-same k =
       in-range (C .encoding) (C′ .encoding) (layers P C nr) (layers-good P fine C nr)
-      (λ n h. agree .lists n (omega (arith, ap Rattle.network.specs.Sizes.resultsIn (widths-are P C nr)))) k
+      (λ n h. agree .lists n (omega (arith, ap Rattle.network.specs.Sizes.resultsIn (widths-are P C nr), encodings-agree nr some))) k
       ∙ layers-same (C′ .encoding) k
 
 pub only-in-range : OnlyInRange

@@ -3,10 +3,13 @@
 use mathlib.Core.Bool.{Bool, _||_}
 use mathlib.Core.Path.{_≡_, sym, _∙_}
 use Prim.Native.Nat.{ℕ, _≤_, _<_}
+use native.Mathlib.Decide.{ℕ-discrete, decLt}
+use native.Mathlib.Omega.{arith}
 use lib.Dec.{ltb}
 use borrow.Author.Tests.{lt-ltb, le-ltb}
 use Rattle.answers.specs.Answers.{refusedIf, wantsLength}
 use Rattle.answers.specs.declared.Answer.the-variants.{Accepted, Refused}
+use Rattle.answers.specs.declared.Refusal.{Refusal}
 use Rattle.answers.specs.declared.Refusal.the-variants.{SetLength, BlockLength, Stop, Unfinished}
 use Rattle.answers.proofs.laws.Tests.{first-refuses, second-decides, test-refuses, test-passes, length-wrong, length-right, length-was}
 use Rattle.layout.specs.Stages.{lookups, setBytes, tableSize}
@@ -65,6 +68,36 @@ module _ (nr len count : ℕ) where
 
     pub table-right : len ≡ tableSize nr count → Accepted ≡ judgeOne nr len count
     table-right l = length-right _ len SetLength l ∙ table-decides
+
+-- An answer is not both.
+pub differ : {r : Refusal} {A : Type 0} → Accepted ≡ Refused r → A
+differ e = let z : _≡_ {A = ℕ} 0 1 = cc in absurd (omega arith)
+
+-- What a move of one lookup was lent, by what it was answered.
+pub record Right (nr len n : ℕ) : Type 0 where
+  pub inside : n < lookups nr
+  pub long : len ≡ tableSize nr n
+
+pub accepted-was : (nr len n : ℕ) → judgeOne nr len n ≡ Accepted → Right nr len n
+accepted-was nr len n e = go (decLt n (lookups nr)) (ℕ-discrete len (tableSize nr n))
+  where
+    go : Dec (n < lookups nr) → Dec (len ≡ tableSize nr n) → Right nr len n
+    go (no a) b = differ (sym e ∙ sym (none-left nr len n (omega arith)))
+    go (yes a) (no b) = differ (sym e ∙ sym (table-wrong nr len n a b))
+    go (yes a) (yes b) = record { inside = a; long = b }
+
+pub record Wrong (nr len n : ℕ) (r : Refusal) : Type 0 where
+  pub long : len ≡ tableSize nr n → ⊥
+  pub cause : r ≡ SetLength
+
+pub refused-was : (nr len n : ℕ) {r : Refusal} → n < lookups nr → judgeOne nr len n ≡ Refused r → Wrong nr len n r
+refused-was nr len n {r} h e = go (ℕ-discrete len (tableSize nr n))
+  where
+    go : Dec (len ≡ tableSize nr n) → Wrong nr len n r
+    go (no b) =
+        let same : Refused r ≡ Refused SetLength = sym e ∙ sym (table-wrong nr len n h b) in
+        record { long = b; cause = cc }
+    go (yes b) = differ (table-right nr len n h b ∙ e)
 
 -- ---- fetch: the length of the block, then the count
 module _ (nr len count : ℕ) where

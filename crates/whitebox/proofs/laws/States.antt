@@ -26,9 +26,11 @@ use Rattle.round.proofs.laws.State.{place}
 use Rattle.aes.specs.Cipher.{rounds, Cipher}
 use Rattle.layout.specs.Stages.{shifted}
 use Rattle.layout.proofs.laws.Place.{shifted-lt}
-use Rattle.whitebox.specs.Ciphers.{ForwardCipher, ForwardRounds, ForwardFine}
+use Rattle.whitebox.specs.Ciphers.{ForwardCipher, ForwardRounds, beforeMixing, InRound, ForwardKeyed, ForwardFine}
 use Rattle.whitebox.specs.Parts.{Parts, Fine, forward}
 use Rattle.whitebox.specs.States.{keyed, mixed, stateAfter, result}
+use Rattle.whitebox.specs.Values.{underColumns}
+use Rattle.whitebox.specs.Words.{mixedWord}
 
 -- ---- states are bytes
 module _ (P : Parts) (fine : Fine P) where
@@ -145,3 +147,30 @@ forward-cipher nr w b h =
 
 pub forward-rounds : ForwardRounds
 forward-rounds nr w b r h = sym (rounds-are nr w b r h)
+
+-- Round r = k + 1.
+keyed-is : (nr : ℕ) (w b : List ℕ) (k : ℕ) → suc k < nr
+    → keyed (forward nr w) (suc k) (stateAfter (forward nr w) b k) ≡ ShiftRows (SubBytes (rounds w k (AddRoundKey b (keyOf w 0))))
+keyed-is nr w b k h =
+    keyed-inner nr w k (stateAfter (forward nr w) b k) (λ e. omega arith)
+    ∙ ap (λ (s : List ℕ). ShiftRows (SubBytes s)) (sym (rounds-are nr w b k (omega arith)))
+
+in-round : (nr : ℕ) (w b : List ℕ) (k : ℕ) → suc k < nr → InRound nr w b (suc k)
+unfolding stateAfter
+in-round nr w b k h =
+    let before : ℕ → List ℕ = λ j. keyed (forward nr w) (suc k) (stateAfter (forward nr w) b j) in
+    let e : suc k - 1 ≡ k = omega arith in
+    let front : before (suc k - 1) ≡ beforeMixing w b (suc k) =
+    ap before e ∙ keyed-is nr w b k h ∙ ap (λ (j : ℕ). ShiftRows (SubBytes (rounds w j (AddRoundKey b (keyOf w 0))))) (sym e) in
+    let behind : stateAfter (forward nr w) b (suc k) ≡ MixColumns (beforeMixing w b (suc k)) =
+    mixed-is nr w (before k) ∙ ap MixColumns (ap before (sym e) ∙ front) in
+    record {
+      front = front;
+      behind = behind;
+      first-words = λ C p. ap (λ (s : List ℕ). mixedWord (forward nr w) C (suc k) p (at s p)) front;
+      second-standing = λ C. ap (underColumns C (suc k)) behind;
+    }
+
+pub forward-keyed : ForwardKeyed
+forward-keyed nr w b zero low high = absurd (omega arith)
+forward-keyed nr w b (suc k) low high = in-round nr w b k high

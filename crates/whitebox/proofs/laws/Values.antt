@@ -29,8 +29,8 @@ use Rattle.whitebox.specs.Words.{entryWord, mixedWord, secondWord, place
 use Rattle.whitebox.proofs.laws.States.{state-bytes, keyed-bytes}
 use Rattle.whitebox.proofs.laws.Words.{substituted-is, entry-next, first-next, second-next, exit-next}
 
--- ---- the layers are good
-module _ (P : Parts) (fine : Fine P) (C : Codings) (nr : ℕ) where
+-- ---- the layers are good: words are bytes, and positions read positions
+module _ (P : Parts) (C : Codings) where
   pub entry-bytes : (p x : ℕ) → Bytes (entryWord P C p x)
   unfolding entryWord
   entry-bytes p x = tabulate-below 256 16 _ (lit< tt) (λ j h. product-lt 8 (at (byteMatrixAt C 1 j)) _)
@@ -47,14 +47,17 @@ module _ (P : Parts) (fine : Fine P) (C : Codings) (nr : ℕ) where
   unfolding placedWord
   placed-word-bytes p y = bytesOf-bytes 16 _
 
-  pub layers-good : AllGood (layers P C nr)
+  pub layers-read : ((p : ℕ) → p < 16 → P .reads p < 16) → (nr : ℕ) → AllGood (layers P C nr)
   unfolding layers
-  layers-good =
+  layers-read reads nr =
       good-stages (layerOf P C nr) nr
       (record { groups = good-16; reads = λ p h. h; bytes = entry-bytes })
-      (λ r. record { groups = good-4; reads = fine .reads-lt; bytes = λ p x. mixed-word-bytes r p _ })
+      (λ r. record { groups = good-4; reads = reads; bytes = λ p x. mixed-word-bytes r p _ })
       (λ r. record { groups = good-4; reads = λ p h. h; bytes = second-bytes r })
-      (record { groups = good-16; reads = fine .reads-lt; bytes = λ p x. placed-word-bytes p _ })
+      (record { groups = good-16; reads = reads; bytes = λ p x. placed-word-bytes p _ })
+
+pub layers-good : (P : Parts) → Fine P → (C : Codings) (nr : ℕ) → AllGood (layers P C nr)
+layers-good P fine C nr = layers-read P C (fine .reads-lt) nr
 
 -- ---- the layers follow the values due
 module _ (P : Parts) (fine : Fine P) (C : Codings) (sound : Sound C) (nr : ℕ) (b : List ℕ) (block : Block b) where

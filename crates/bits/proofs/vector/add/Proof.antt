@@ -1,5 +1,5 @@
--- `bits::vector::add` meets its contract. `masked` gives c times each word of b, and the words are xored one by one: `added-words` of
--- `laws.Words` says that this is the xor of the numbers, since the low words do not reach into the high ones.
+-- `bits::vector::add` meets its contract. `masked` gives each word of b times the lowest bit of c, and the words are xored one by one: `added-words`
+-- of `laws.Words` says that this is the xor of the numbers, since the low words do not reach into the high ones.
 -- Assumes nothing.
 use native.Mathlib.Omega.{arith}
 use Rattle.bits.proofs.laws.Words.{added-words}
@@ -11,7 +11,7 @@ returns : tie.Need-returns
 returns c =
     let low : tie.After-masked2 = search in
     let high : tie.After-masked = search in
-    added-words _ _ _ _ _ _ _ (omega arith) (omega arith) (omega arith) (high .masked .ensures) (low .masked2 .ensures)
+    added-words _ _ _ _ _ _ _ (omega arith) (omega arith) (high .masked .ensures) (low .masked2 .ensures)
 
 -- ---- the needs that the search closes
 masked-requires : tie.Need-masked-requires

@@ -1,5 +1,5 @@
--- `bits::vector::masked` meets its contract. c times the word of 64 ones is a word (`scaled` of `laws.Words`), and its `and` with x is c times
--- x, for c 0 and for c 1 (`masked-is`).
+-- `bits::vector::masked` meets its contract. The lowest bit of c times the word of 64 ones is a word (`scaled` of `laws.Words`), and its `and` with x is
+-- that bit times x (`masked-is`).
 -- Assumes nothing.
 use native.Mathlib.Omega.{arith}
 use Rattle.bits.proofs.laws.Words.{masked-is, scaled}
@@ -8,10 +8,10 @@ use Rattle.bits.proofs.vector.masked.Statement.{statement}
 use Rattle.bits.proofs.vector.masked.Tie as tie
 
 mul-result : tie.Need-mul-result
-mul-result c = record { fits = scaled _ 18446744073709551615 (c .pre) (lit< tt) }
+mul-result c = record { fits = scaled _ 18446744073709551615 (lit< tt) }
 
 returns : tie.Need-returns
-returns c = masked-is _ _ (c .pre) (omega arith)
+returns c = masked-is _ _ (omega arith)
 
 pub masked-spec : {M : Type 1} → statement M
 masked-spec = tie.close (tie.spec mul-result returns)

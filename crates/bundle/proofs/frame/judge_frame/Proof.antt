@@ -3,25 +3,26 @@
 -- cause applies (`frame-right`). The search may read the pairs: a bundle that is not too short has them.
 -- Assumes nothing.
 use Rattle.bundle.proofs.laws.Code.{frame-short, frame-long, frame-pair, frame-right}
+use Rattle.bundle.proofs.laws.Frame.{sizes}
 use borrow.Author.Needs.{needs}
 use Rattle.bundle.proofs.frame.judge_frame.Statement.{statement}
 use Rattle.bundle.proofs.frame.judge_frame.Tie as tie
 
 returns : tie.Need-returns
-returns c = frame-short _ (search)
+returns c = frame-short 10 _ (sizes .low) (search)
 
 returns-2 : tie.Need-returns-2
-returns-2 c = frame-long _ (search) (search)
+returns-2 c = frame-long 10 _ (sizes .low) (sizes .high) (search) (search)
 
 returns-3 : tie.Need-returns-3
 returns-3 c =
     let pair : tie.After-i = search in
-    frame-pair _ (search) (search) (search) (pair .i .given .1)
+    frame-pair 10 _ (sizes .low) (sizes .high) (search) (search) (search) (pair .i .given .1)
 
 returns-4 : tie.Need-returns-4
 returns-4 c =
     let none : tie.After-enum-told = search in
-    frame-right _ (search) (search) (search) (none .enum-told .given .1)
+    frame-right 10 _ (sizes .low) (sizes .high) (search) (search) (search) (none .enum-told .given .1)
 
 -- ---- the needs that the search closes
 first-bad-pair-requires : tie.Need-first-bad-pair-requires

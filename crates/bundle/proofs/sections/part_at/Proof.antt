@@ -1,16 +1,10 @@
 -- `bundle::sections::part_at` meets its contract. It cuts part n out of section s: `partAt` written out, so the result is the calls' equations put
--- together. A section's length is a multiple of its parts' size, as `part` asks (`parts-asked` of `laws.Code`).
+-- together.
 -- Assumes nothing.
 use Rattle.bundle.specs.Format.{partAt}
-use Rattle.bundle.proofs.laws.Code.{parts-asked}
 use borrow.Author.Needs.{needs}
 use Rattle.bundle.proofs.sections.part_at.Statement.{statement}
 use Rattle.bundle.proofs.sections.part_at.Tie as tie
-
-part-requires : tie.Need-part-requires
-part-requires c κs =
-    let section : tie.After-section = search in
-    parts-asked 10 _ _ (search) (section .section .ensures) (c .part-size .ensures)
 
 returns : tie.Need-returns
 unfolding partAt
@@ -22,6 +16,9 @@ section-requires c κs = search needs
 
 part-size-requires : tie.Need-part-size-requires
 part-size-requires c κs = search needs
+
+part-requires : tie.Need-part-requires
+part-requires c κs = search needs
 
 pub part-at-spec : {M : Type 1} → statement M
 part-at-spec = tie.close (tie.spec section-requires part-size-requires part-requires returns)

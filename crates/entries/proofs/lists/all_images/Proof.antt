@@ -1,10 +1,10 @@
 -- `entries::lists::all_images` writes the images of `count` encodings one behind the other. The loop's invariant, `Parts` of bits: the
 -- first h lists stand in the front of dst. A turn lends the part of list h and gets the images back that `images` gives of the encoding's 8
--- bytes (`parts-more`). Behind the last the front has all (`parts-front`).
+-- bytes (`parts-more`). Behind the last the front has all, and the rest of dst is as it was (`parts-whole`).
 -- Assumes nothing.
 use mathlib.Core.Path.{_∙_}
 use Prim.Native.Nat.{_+_, _-_}
-use Rattle.bits.proofs.laws.Parts.{Parts, parts-none, part-lent, parts-more, parts-front}
+use Rattle.bits.proofs.laws.Parts.{Parts, parts-none, part-lent, parts-more, parts-whole}
 use Rattle.entries.specs.Encodings.{encodingIn}
 use native.Mathlib.Omega.{arith}
 use Rattle.entries.proofs.lists.all_images.Statement.{statement}
@@ -31,7 +31,7 @@ loop-again c =
     parts-more (turn .before .loop .inv) (turn .loop-test .taken) (written .images .kept .1 .0) (written .images .ensures ∙ cc)
 
 returns : tie.Need-returns Inv-loop μ-loop
-returns c = search parts-front
+returns c = search parts-whole
 
 -- ---- the needs that the search closes
 mul-a : tie.Need-mul-a Inv-loop μ-loop

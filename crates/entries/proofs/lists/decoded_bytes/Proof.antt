@@ -32,8 +32,8 @@ decoded-requires c κs =
       omega arith,
       omega arith,
       omega arith,
-      places-lt _ _ _ _ (entry .pre .2) (a-part .part .ensures) (a .places .ensures),
-      places-lt _ _ _ _ (entry .pre .3) (b-part .part2 .ensures) (b .places2 .ensures),
+      places-lt _ _ _ _ (entry .pre .1) (a-part .part .ensures) (a .places .ensures),
+      places-lt _ _ _ _ (entry .pre .2) (b-part .part2 .ensures) (b .places2 .ensures),
     )
 
 loop-again : tie.Need-loop-again Inv-loop μ-loop

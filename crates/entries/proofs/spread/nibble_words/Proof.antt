@@ -1,12 +1,12 @@
 -- `entries::spread::nibble_words` writes the words of the 32 bytes with one nibble one behind the other. The loop's invariant, `Parts` of bits: the
 -- first r words stand in the front of dst. A turn lends the part of word r and gets its m bytes back (`parts-more`): they are those of the
--- word of byte r by what the three calls ensure. Behind the last word the front has all (`parts-front`). No sum wraps: the part lies within
+-- word of byte r by what the three calls ensure. Behind the last word the front has all and the rest is as it was (`parts-whole`). No sum wraps: the part lies within
 -- dst (`part-lent`).
 -- Assumes nothing.
 use mathlib.Core.Path.{_∙_}
 use Prim.Native.Nat.{_-_}
 use Rattle.bits.specs.Bytes.{bytesOf}
-use Rattle.bits.proofs.laws.Parts.{Parts, Part, parts-none, part-lent, parts-more, parts-front}
+use Rattle.bits.proofs.laws.Parts.{Parts, Part, parts-none, part-lent, parts-more, parts-whole}
 use Rattle.matrices.specs.Rows.{rowAt}
 use Rattle.entries.specs.Spread.{combined, nibbleByte}
 use native.Mathlib.Omega.{arith}
@@ -46,7 +46,7 @@ loop-again c =
     parts-more (turn .before .loop .inv) (turn .loop-test .taken) (written .write .kept .1 .0) (written .write .ensures ∙ cc)
 
 returns : tie.Need-returns Inv-loop μ-loop
-returns c = search parts-front
+returns c = search parts-whole
 
 -- ---- the needs that the search closes
 nibble-byte-requires : tie.Need-nibble-byte-requires Inv-loop μ-loop

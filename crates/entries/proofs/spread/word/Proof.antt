@@ -7,6 +7,7 @@ use Rattle.bits.specs.Words.{wide, value}
 use Rattle.bits.proofs.laws.Summed.{Summed, summed-none, summed-more, summed-all}
 use Rattle.matrices.specs.Rows.{rowAt}
 use Rattle.entries.specs.Spread.{combined}
+use native.Mathlib.Nat.{mod-eq-of-lt}
 use native.Mathlib.Omega.{arith}
 use borrow.Author.Needs.{needs}
 use Rattle.entries.proofs.spread.word.Statement.{statement}
@@ -24,7 +25,9 @@ loop-holds c = summed-none refl
 
 loop-again : tie.Need-loop-again Inv-loop μ-loop
 loop-again c =
+    let bit : tie.After-bit-of Inv-loop μ-loop = search in
     let turn : tie.In-loop Inv-loop μ-loop = search in
+    let lowest = mod-eq-of-lt (bit .bit-of .ensures .1) in
     summed-more (turn .before .loop .inv) (turn .loop-test .taken) (c .add .ensures) (cc)
 
 returns : tie.Need-returns Inv-loop μ-loop

@@ -18,7 +18,7 @@ returns c =
     let words : tie.After-nibble-words = search in
     let bytes : tie.After-shared-slice-known = search in
     let entry : tie.Start = search in
-    words-encoded _ _ _ (words .nibble-words .ensures) _ (entry .args .values .now) _ (λ i. bytes .shared-slice-known .given i .fits) (written .write-words .ensures)
+    words-encoded _ _ _ _ (words .nibble-words .ensures) _ (entry .args .values .now) _ (λ i. bytes .shared-slice-known .given i .fits) (written .write-words .ensures)
 
 -- ---- the needs that the search closes
 slice-aggregate-nibble-words : tie.Need-slice-aggregate-nibble-words

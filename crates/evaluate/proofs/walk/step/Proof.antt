@@ -27,8 +27,7 @@ layer-in-requires c κs =
     let first : tie.Then1 = search in
     let place : tie.After-place-of = search in
     let entry : tie.Start = search in (
-      entry .pre .0,
-      place-room ten _ _ (omega arith) (place .place-of .ensures) (first .if1 .taken),
+      place-room ten _ _ (omega arith) (place .place-of .ensures) _ (entry .pre .0) (first .if1 .taken),
       place-width ten _ _ (omega arith) (place .place-of .ensures) _ refl,
       entry .pre .4,
       entry .pre .3,

@@ -5,12 +5,10 @@
 -- Assumes nothing.
 use mathlib.Core.Path.{refl}
 use Rattle.external.proofs.laws.Code.{accepted-ready, called-encodings, nibbles-long, decoded-by, refused}
+use Rattle.external.proofs.laws.Coding.{output-first}
 use borrow.Author.Needs.{needs}
 use Rattle.external.proofs.coding.decode_by.Statement.{statement}
 use Rattle.external.proofs.coding.decode_by.Tie as tie
-
-returns : tie.Need-returns
-returns c = search refused
 
 decode-nibbles-requires : tie.Need-decode-nibbles-requires
 decode-nibbles-requires c κs =
@@ -18,7 +16,7 @@ decode-nibbles-requires c κs =
     let bytes : tie.After-shared-slice-known = search in
     let entry : tie.Start = search in
     let ready = accepted-ready (answer .ready .ensures) (search) in
-    let permutations = called-encodings _ (λ i. bytes .shared-slice-known .given i .fits) (ready .judged) _ (entry .pre .0) in
+    let permutations = called-encodings 10 _ (λ i. bytes .shared-slice-known .given i .fits) (ready .judged) output-first _ (entry .pre .0) in
     ((entry .pre .0, ready .long, refl), permutations)
 
 unmultiply-requires : tie.Need-unmultiply-requires
@@ -30,13 +28,16 @@ unmultiply-requires c κs =
     let matrix = entry .pre .1 (ready .judged) in
     ((matrix .0, nibbles-long _ _ _ _ (decoded .decode-nibbles .ensures), ready .room), matrix .1)
 
-returns-2 : tie.Need-returns-2
-returns-2 c =
+returns : tie.Need-returns
+returns c =
     let product : tie.After-unmultiply = search in
     let decoded : tie.After-decode-nibbles = search in
     let answer : tie.After-ready = search in
     let out = decoded-by (answer .ready .ensures) (search) _ _ _ _ _ _ _ (decoded .decode-nibbles .ensures) (product .unmultiply .ensures) in
     (answer .ready .ensures, out)
+
+returns-2 : tie.Need-returns-2
+returns-2 c = search refused
 
 -- ---- the needs that the search closes
 ready-requires : tie.Need-ready-requires
@@ -63,11 +64,11 @@ decode-by-spec =
     (tie.spec
     ready-requires
     enum-told
-    enum-told-2
-    returns
     slice-aggregate-decode-nibbles
     decode-nibbles-requires
     slice-aggregate-unmultiply
     unmultiply-requires
+    enum-told-2
     same-length
+    returns
     returns-2)

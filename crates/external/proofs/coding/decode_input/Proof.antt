@@ -18,7 +18,7 @@ returns c =
     let call : tie.After-decode-by = search in
     let part : tie.After-input-matrix-part = search in
     let entry : tie.Start = search in
-    let out = input-decoded _ (entry .args .block .now) (entry .args .out .now) (part .input-matrix-part .ensures) (call .decode-by .ensures .1) in
+    let out = input-decoded 10 _ (entry .args .block .now) (entry .args .out .now) (part .input-matrix-part .ensures) (call .decode-by .ensures .1) in
     (call .decode-by .ensures .0, out)
 
 -- ---- the needs that the search closes

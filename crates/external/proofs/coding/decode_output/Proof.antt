@@ -2,6 +2,7 @@
 -- (`output-decoded` of `laws.Code`). The matrix of an accepted bundle has its 2,048 bytes and an inverse (`output-has`).
 -- Assumes nothing.
 use Rattle.external.proofs.laws.Code.{output-has, output-decoded}
+use Rattle.external.proofs.laws.Coding.{output-first}
 use native.Mathlib.Omega.{arith}
 use borrow.Author.Needs.{needs}
 use Rattle.external.proofs.coding.decode_output.Statement.{statement}
@@ -18,7 +19,7 @@ returns c =
     let call : tie.After-decode-by = search in
     let part : tie.After-output-matrix-part = search in
     let entry : tie.Start = search in
-    let out = output-decoded _ (entry .args .block .now) (entry .args .out .now) (part .output-matrix-part .ensures) (call .decode-by .ensures .1) in
+    let out = output-decoded 10 _ (entry .args .block .now) (entry .args .out .now) output-first (part .output-matrix-part .ensures) (call .decode-by .ensures .1) in
     (call .decode-by .ensures .0, out)
 
 -- ---- the needs that the search closes

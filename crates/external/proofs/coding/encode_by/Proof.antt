@@ -8,9 +8,6 @@ use borrow.Author.Needs.{needs}
 use Rattle.external.proofs.coding.encode_by.Statement.{statement}
 use Rattle.external.proofs.coding.encode_by.Tie as tie
 
-returns : tie.Need-returns
-returns c = search refused
-
 multiply-requires : tie.Need-multiply-requires
 multiply-requires c κs =
     let answer : tie.After-ready = search in
@@ -26,13 +23,16 @@ encode-nibbles-requires c κs =
     let ready = accepted-ready (answer .ready .ensures) (search) in
     (entry .pre .0, multiply-long _ _ _ (product .multiply .ensures), ready .room)
 
-returns-2 : tie.Need-returns-2
-returns-2 c =
+returns : tie.Need-returns
+returns c =
     let encoded : tie.After-encode-nibbles = search in
     let product : tie.After-multiply = search in
     let answer : tie.After-ready = search in
     let out = encoded-by (answer .ready .ensures) (search) _ _ _ _ _ _ _ (product .multiply .ensures) (encoded .encode-nibbles .ensures) in
     (answer .ready .ensures, out)
+
+returns-2 : tie.Need-returns-2
+returns-2 c = search refused
 
 -- ---- the needs that the search closes
 ready-requires : tie.Need-ready-requires
@@ -59,11 +59,11 @@ encode-by-spec =
     (tie.spec
     ready-requires
     enum-told
-    enum-told-2
-    returns
     slice-aggregate-multiply
     multiply-requires
     slice-aggregate-encode-nibbles
     encode-nibbles-requires
+    enum-told-2
     same-length
+    returns
     returns-2)

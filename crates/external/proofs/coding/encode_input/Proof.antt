@@ -17,7 +17,7 @@ returns c =
     let call : tie.After-encode-by = search in
     let part : tie.After-input-matrix-part = search in
     let entry : tie.Start = search in
-    let out = input-encoded _ (entry .args .block .now) (entry .args .out .now) (part .input-matrix-part .ensures) (call .encode-by .ensures .1) in
+    let out = input-encoded 10 _ (entry .args .block .now) (entry .args .out .now) (part .input-matrix-part .ensures) (call .encode-by .ensures .1) in
     (call .encode-by .ensures .0, out)
 
 -- ---- the needs that the search closes

@@ -2,6 +2,7 @@
 -- (`output-encoded` of `laws.Code`). The part of an accepted bundle that holds the matrix has its 2,048 bytes (`output-long`).
 -- Assumes nothing.
 use Rattle.external.proofs.laws.Code.{output-long, output-encoded}
+use Rattle.external.proofs.laws.Coding.{output-first}
 use native.Mathlib.Omega.{arith}
 use borrow.Author.Needs.{needs}
 use Rattle.external.proofs.coding.encode_output.Statement.{statement}
@@ -17,7 +18,7 @@ returns c =
     let call : tie.After-encode-by = search in
     let part : tie.After-output-matrix-part = search in
     let entry : tie.Start = search in
-    let out = output-encoded _ (entry .args .block .now) (entry .args .out .now) (part .output-matrix-part .ensures) (call .encode-by .ensures .1) in
+    let out = output-encoded 10 _ (entry .args .block .now) (entry .args .out .now) output-first (part .output-matrix-part .ensures) (call .encode-by .ensures .1) in
     (call .encode-by .ensures .0, out)
 
 -- ---- the needs that the search closes

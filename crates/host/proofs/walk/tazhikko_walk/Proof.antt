@@ -20,7 +20,7 @@ returns-2 c =
     let moved : tie.After-move-to = search in
     let opening : tie.After-start = search in
     let answer : tie.After-judged = search in
-    let left = walk-done _ _ _ (answer .judged .ensures) (search) _ _ _ (opening .start .ensures .1) (moved .move-to .ensures .1) (fetched .fetch .ensures .1) in
+    let left = walk-done _ _ _ (answer .judged .ensures) (search) (opening .start .ensures) (moved .move-to .ensures) (fetched .fetch .ensures) in
     (c .number2 .ensures ∙ ap numberOf (answer .judged .ensures), left)
 
 -- ---- the needs that the search closes

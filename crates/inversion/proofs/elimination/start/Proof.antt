@@ -25,7 +25,7 @@ loop-again c =
     let row : tie.After-row Inv-loop μ-loop = search in
     let turn : tie.In-loop Inv-loop μ-loop = search in
     let entry : tie.Start Inv-loop μ-loop = search in
-    started-more (turn .before .loop .inv) (entry .pre .2) (turn .loop-test .taken)
+    started-more (turn .before .loop .inv) (entry .pre .0) (entry .pre .2) (turn .loop-test .taken)
     (row .row .ensures) (left .set-row .ensures) (one .power .ensures) (right .set-row2 .ensures)
 
 returns : tie.Need-returns Inv-loop μ-loop

@@ -1,48 +1,55 @@
--- `layers::inverses::chosen`: by stage, each with a law of `laws.Inverses`: the entry's table needs the input matrix's inverse (`entry-chosen`), that
--- of a second half its column matrix's, whose 64 words stand in `columns` (`second-chosen`), that of a first half or of the exit none (`for-first`,
--- `for-exit`); `Beyond` is never met (`never-beyond`). From table 16 on there is nothing to prove. A second half's round is 1 to 9 by the
--- `requires` (`Round`), so the number of its column matrix is below 36 and its words are among the 2,304.
+-- `layers::inverses::chosen`: by stage, each with a law of `laws.Inverses`: in a second half the 64 words of the table's column matrix, which stand in
+-- `columns` (`chosen-second`), in every other stage `input` (`chosen-spread`), and from table 16 on `input` too (`chosen-xor`). A second half's
+-- round is in range by the `requires` (`round-second`), so the number of its column matrix is too and its words are among those of `columns`.
 -- Assumes nothing.
-use Rattle.layers.proofs.laws.Inverses.{for-first, for-exit, entry-chosen, second-chosen}
-use Rattle.layers.proofs.laws.Numbers.{round-second, never-beyond}
+use mathlib.Core.Path.{refl}
+use Rattle.layers.proofs.laws.Inverses.{chosen-xor, chosen-spread, chosen-second}
+use Rattle.layers.proofs.laws.Numbers.{round-second}
 use native.Mathlib.Omega.{arith}
 use borrow.Author.Needs.{needs}
 use Rattle.layers.proofs.inverses.chosen.Statement.{statement}
 use Rattle.layers.proofs.inverses.chosen.Tie as tie
 
 returns : tie.Need-returns
-returns c = λ l ready h. absurd (omega arith)
+returns c = chosen-xor _ _ _ _ (c .if1 .taken)
 
 returns-2 : tie.Need-returns-2
-returns-2 c = λ l ready h. entry-chosen _ _ _ (c .enum-told .given .1) l ready
+returns-2 c =
+    let spread : tie.Else1 = search in
+    chosen-spread _ _ _ _ _ _ (spread .if1 .left) (c .enum-told .given .1) refl
 
 returns-3 : tie.Need-returns-3
-returns-3 c = λ l ready h. for-first _ _ _ (c .enum-told2 .given .1)
+returns-3 c =
+    let spread : tie.Else1 = search in
+    chosen-spread _ _ _ _ _ _ (spread .if1 .left) (c .enum-told2 .given .1) refl
 
 column-number-requires : tie.Need-column-number-requires
 column-number-requires c κs =
     let half : tie.After-s = search in
     let entry : tie.Start = search in
-    omega (arith, round-second (half .s .given .1) (entry .pre .1) (entry .pre .2))
+    omega (arith, round-second 10 (half .s .given .1) (entry .pre .1))
 
 part-result-end : tie.Need-part-result-end
 part-result-end c =
     let entry : tie.Start = search in
-    omega (arith, entry .pre)
+    omega (arith, entry .pre .0)
 
 returns-4 : tie.Need-returns-4
 returns-4 c =
     let number : tie.After-column-number = search in
     let half : tie.After-s = search in
-    λ l ready h. second-chosen _ _ _ (half .s .given .1) (number .column-number .ensures .0) (number .column-number .ensures .1) l ready
+    let spread : tie.Else1 = search in
+    chosen-second _ _ _ _ _ _ (spread .if1 .left) (half .s .given .1) (number .column-number .ensures .0)
 
 returns-5 : tie.Need-returns-5
-returns-5 c = λ l ready h. for-exit _ _ _ (c .enum-told3 .given .1)
+returns-5 c =
+    let spread : tie.Else1 = search in
+    chosen-spread _ _ _ _ _ _ (spread .if1 .left) (c .enum-told3 .given .1) refl
 
 returns-6 : tie.Need-returns-6
 returns-6 c =
-    let entry : tie.Start = search in
-    absurd (never-beyond (c .enum-told4 .given .1) (entry .pre .1))
+    let spread : tie.Else1 = search in
+    chosen-spread _ _ _ _ _ _ (spread .if1 .left) (c .enum-told4 .given .1) refl
 
 -- ---- the needs that the search closes
 enum-told : tie.Need-enum-told

@@ -1,37 +1,45 @@
--- `layers::inverses::of_columns`: the loop's invariant, `Inverted` of `laws.Inverses`: the inverses of the first n column matrices stand one after
--- the other, 64 words each. A turn lends the next 64 words and `of_column` fills them (`inverted-more`); behind the last these are the inverses
--- of all (`inverted-all`). The measure is the number of matrices left.
+-- `layers::inverses::of_columns`: the loop's invariant, `Parts` of bits: the inverses of the first n column matrices stand one after the other,
+-- 64 words each. A turn lends the next 64 words and `of_column` fills them (`columns-more` of `laws.Inverses`); behind the last these
+-- are the inverses of all (`parts-all`). The measure is the number of matrices left.
 -- Assumes nothing.
 use Prim.Native.Nat.{_-_}
-use Rattle.layers.proofs.laws.Inverses.{Inverted, inverted-none, place-long, inverted-more, inverted-all}
+use Rattle.bits.proofs.laws.Parts.{Parts, parts-none, part-lent, parts-all}
+use Rattle.bundle.specs.Format.{columnMatrices}
+use Rattle.bundle.specs.Format.{tenColumnMatrices}
+use Rattle.layers.specs.Layers.{columnWords, columnInverse, columnInverses}
+use Rattle.layers.proofs.laws.Inverses.{columns-more}
 use native.Mathlib.Omega.{arith}
 use Rattle.layers.proofs.inverses.of_columns.Statement.{statement}
 use Rattle.layers.proofs.inverses.of_columns.Tie as tie
 
 abbrev Inv-loop : tie.InvT-loop
-Inv-loop bundle dst₀ n₀ dst n = Inverted bundle dst n
+Inv-loop bundle dst₀ n₀ dst n = Parts tenColumnMatrices columnWords (columnInverse 10 bundle) dst₀ dst n
 
 abbrev μ-loop : tie.MeasureT-loop
-μ-loop bundle dst₀ n₀ dst n = 36 - n
+μ-loop bundle dst₀ n₀ dst n = tenColumnMatrices - n
 
 loop-holds : tie.Need-loop-holds Inv-loop μ-loop
-loop-holds c = inverted-none _ _ (search)
+loop-holds c = parts-none (omega arith)
 
 of-column-requires : tie.Need-of-column-requires Inv-loop μ-loop
 of-column-requires c κs =
     let turn : tie.In-loop Inv-loop μ-loop = search in
     let entry : tie.Start Inv-loop μ-loop = search in
-    (entry .pre .0, turn .loop-test .taken, omega (arith, place-long (turn .before .loop .inv) (turn .loop-test .taken)))
+    (entry .pre .0, turn .loop-test .taken, omega (arith, part-lent (turn .before .loop .inv) (turn .loop-test .taken)))
 
 loop-again : tie.Need-loop-again Inv-loop μ-loop
 loop-again c =
-    let back : tie.After-dst Inv-loop μ-loop = search in
     let call : tie.After-of-column Inv-loop μ-loop = search in
     let turn : tie.In-loop Inv-loop μ-loop = search in
-    inverted-more (turn .before .loop .inv) (turn .loop-test .taken) _ (call .of-column .kept .1 .1 .0) (call .of-column .ensures) (back .dst .given .1)
+    columns-more 10 _ _ _ _ _ _ (turn .before .loop .inv) (turn .loop-test .taken) (call .of-column .kept .1 .1 .0) (call .of-column .ensures)
 
 returns : tie.Need-returns Inv-loop μ-loop
-returns c = search inverted-all
+unfolding columnInverses columnMatrices
+returns c =
+    let all : tie.After-loop Inv-loop μ-loop = search in
+    let inverted : tie.At-loop Inv-loop μ-loop = search in
+    let entry : tie.Start Inv-loop μ-loop = search in
+    parts-all (inverted .loop .inv) (all .loop-test .left) (entry .pre .1)
 
 -- ---- the needs that the search closes
 mul-a : tie.Need-mul-a Inv-loop μ-loop

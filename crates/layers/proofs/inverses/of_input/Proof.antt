@@ -1,22 +1,25 @@
 -- `layers::inverses::of_input`: the inverse of the matrix that the bundle's input part writes. An accepted bundle's part has its 2,048 bytes, and
--- its matrix has an inverse (`input-part` of `laws.Inverses`); the result is the calls' equations put together.
+-- its matrix has an inverse (`input-part` of `laws.Inverses`); the words of the inverse are all of dst (`input-inverse`).
 -- Assumes nothing.
-use Rattle.layers.proofs.laws.Inverses.{input-part}
-use native.Mathlib.Omega.{arith}
+use Rattle.layers.proofs.laws.Inverses.{input-part, input-inverse}
 use borrow.Author.Needs.{needs}
 use Rattle.layers.proofs.inverses.of_input.Statement.{statement}
 use Rattle.layers.proofs.inverses.of_input.Tie as tie
 
-inverse-requires : tie.Need-inverse-requires
-inverse-requires c κs =
+read-requires : tie.Need-read-requires
+read-requires c κs =
     let part : tie.After-input-matrix-part = search in
     let bytes : tie.After-shared-slice-known = search in
     let entry : tie.Start = search in
     let known = input-part 10 _ _ (λ i. bytes .shared-slice-known .given i .fits) (entry .pre .0) (part .input-matrix-part .ensures) in
-    (omega arith, known .0, omega arith, known .1)
+    search needs
 
 returns : tie.Need-returns
-returns c = cc
+returns c =
+    let call : tie.After-read = search in
+    let part : tie.After-input-matrix-part = search in
+    let entry : tie.Start = search in
+    input-inverse 10 _ _ (entry .args .dst .now) _ (part .input-matrix-part .ensures) (entry .pre .1) (call .read .ensures)
 
 -- ---- the needs that the search closes
 input-matrix-part-requires : tie.Need-input-matrix-part-requires
@@ -27,4 +30,4 @@ same-length c = search needs
 
 pub of-input-spec : {M : Type 1} → statement M
 of-input-spec =
-    tie.close (tie.spec input-matrix-part-requires inverse-requires same-length returns)
+    tie.close (tie.spec input-matrix-part-requires read-requires same-length returns)

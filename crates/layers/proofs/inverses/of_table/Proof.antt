@@ -1,33 +1,36 @@
--- `layers::inverses::of_table`: by stage, each with a law of `laws.Inverses`: the entry's table needs the input matrix's inverse (`for-entry`), that
--- of a second half its column matrix's, which has number 4 (r - 1) + j / 4 (`for-second`), that of a first half or of the exit none (`for-first`,
--- `for-exit`); `Beyond` is never met (`never-beyond`). From table 16 on there is nothing to prove. A second half's round is 1 to 9 by the
--- `requires` (`Round`).
+-- `layers::inverses::of_table`: by stage, each with a law of `laws.Inverses`: the entry's table is made with the input matrix's inverse (`made-entry`),
+-- that of a second half with its column matrix's, which has number 4 (r - 1) + j / 4 (`made-second`), that of a first half or of the exit with none
+-- (`made-none`), and from table 16 on with none (`made-xor`). A second half's round is in range by the `requires` (`round-second`).
 -- Assumes nothing.
-use Rattle.layers.proofs.laws.Inverses.{for-entry, for-first, for-second, for-exit}
-use Rattle.layers.proofs.laws.Numbers.{round-second, never-beyond}
+use mathlib.Core.Path.{refl}
+use Rattle.layers.proofs.laws.Inverses.{made-entry, made-second, made-xor, made-none}
+use Rattle.layers.proofs.laws.Numbers.{round-second}
 use native.Mathlib.Omega.{arith}
 use borrow.Author.Needs.{needs}
 use Rattle.layers.proofs.inverses.of_table.Statement.{statement}
 use Rattle.layers.proofs.inverses.of_table.Tie as tie
 
 returns : tie.Need-returns
-returns c = λ h. absurd (omega arith)
+returns c = made-xor 10 _ _ _ _ _ (c .if1 .taken) refl
 
 returns-2 : tie.Need-returns-2
 returns-2 c =
     let call : tie.After-of-input = search in
     let told : tie.After-enum-told = search in
+    let spread : tie.Else1 = search in
     let entry : tie.Start = search in
-    λ h. for-entry _ _ _ (told .enum-told .given .1) (omega (arith, call .of-input .kept, entry .pre)) (call .of-input .ensures)
+    made-entry 10 _ _ _ _ _ (spread .if1 .left) (told .enum-told .given .1) (entry .pre .2) (call .of-input .ensures)
 
 returns-3 : tie.Need-returns-3
-returns-3 c = λ h. for-first _ _ _ (c .enum-told2 .given .1)
+returns-3 c =
+    let spread : tie.Else1 = search in
+    made-none 10 _ _ _ _ _ _ (spread .if1 .left) (c .enum-told2 .given .1) refl refl
 
 column-number-requires : tie.Need-column-number-requires
 column-number-requires c κs =
     let half : tie.After-s = search in
     let entry : tie.Start = search in
-    omega (arith, round-second (half .s .given .1) (entry .pre .1) (entry .pre .2))
+    omega (arith, round-second 10 (half .s .given .1) (entry .pre .1))
 
 of-column-requires : tie.Need-of-column-requires
 of-column-requires c κs =
@@ -40,18 +43,18 @@ returns-4 c =
     let call : tie.After-of-column = search in
     let number : tie.After-column-number = search in
     let half : tie.After-s = search in
-    let entry : tie.Start = search in
-    λ h.
-    for-second _ _ _ (half .s .given .1) (number .column-number .ensures .0) (omega (arith, call .of-column .kept, entry .pre))
-    (call .of-column .ensures)
+    let spread : tie.Else1 = search in
+    made-second 10 _ _ _ _ _ _ _ (spread .if1 .left) (half .s .given .1) (number .column-number .ensures .0) (call .of-column .ensures)
 
 returns-5 : tie.Need-returns-5
-returns-5 c = λ h. for-exit _ _ _ (c .enum-told3 .given .1)
+returns-5 c =
+    let spread : tie.Else1 = search in
+    made-none 10 _ _ _ _ _ _ (spread .if1 .left) (c .enum-told3 .given .1) refl refl
 
 returns-6 : tie.Need-returns-6
 returns-6 c =
-    let entry : tie.Start = search in
-    absurd (never-beyond (c .enum-told4 .given .1) (entry .pre .1))
+    let spread : tie.Else1 = search in
+    made-none 10 _ _ _ _ _ _ (spread .if1 .left) (c .enum-told4 .given .1) refl refl
 
 -- ---- the needs that the search closes
 enum-told : tie.Need-enum-told

@@ -9,15 +9,15 @@ use Rattle.layers.proofs.numbers.first_number.Statement.{statement}
 use Rattle.layers.proofs.numbers.first_number.Tie as tie
 
 -- the round of a first half, and of a second half
-round : (c : tie.After-s) → Round (c .s .given .0 .0)
+round : (c : tie.After-s) → Round 10 (c .s .given .0 .0)
 round c =
     let entry : tie.Start = search in
-    round-first (c .s .given .1) (entry .pre .0) (entry .pre .1)
+    round-first 10 (c .s .given .1) (entry .pre)
 
-round-2 : (c : tie.After-s2) → Round (c .s2 .given .0 .0)
+round-2 : (c : tie.After-s2) → Round 10 (c .s2 .given .0 .0)
 round-2 c =
     let entry : tie.Start = search in
-    round-second (c .s2 .given .1) (entry .pre .0) (entry .pre .1)
+    round-second 10 (c .s2 .given .1) (entry .pre)
 
 sub-result : tie.Need-sub-result
 sub-result c = omega (arith, round (search))
@@ -50,7 +50,7 @@ returns-3 c =
 returns-5 : tie.Need-returns-5
 returns-5 c =
     let entry : tie.Start = search in
-    absurd (never-beyond (c .enum-told3 .given .1) (entry .pre .0))
+    absurd (never-beyond 10 (c .enum-told3 .given .1) (entry .pre))
 
 -- ---- the needs that the search closes
 enum-told : tie.Need-enum-told

@@ -11,21 +11,21 @@ use Rattle.layers.proofs.numbers.standing_number.Statement.{statement}
 use Rattle.layers.proofs.numbers.standing_number.Tie as tie
 
 -- the round of a first half, and of a second half
-round : (c : tie.After-s) → Round (c .s .given .0 .0)
+round : (c : tie.After-s) → Round 10 (c .s .given .0 .0)
 round c =
     let entry : tie.Start = search in
-    round-first (c .s .given .1) (entry .pre .0) (entry .pre .1)
+    round-first 10 (c .s .given .1) (entry .pre .0)
 
-round-2 : (c : tie.After-s2) → Round (c .s2 .given .0 .0)
+round-2 : (c : tie.After-s2) → Round 10 (c .s2 .given .0 .0)
 round-2 c =
     let entry : tie.Start = search in
-    round-second (c .s2 .given .1) (entry .pre .0) (entry .pre .1)
+    round-second 10 (c .s2 .given .1) (entry .pre .0)
 
 returns : tie.Need-returns
 returns c =
     let half : tie.After-s = search in
     let entry : tie.Start = search in
-    standing-one (entry .args .q) (half .s .given .1) (c .if1 .taken) (entry .pre .2)
+    (standing-one 10 _ (half .s .given .1) (c .if1 .taken) (entry .pre .1), omega arith)
 
 sub-sum-number : tie.Need-sub-sum-number
 sub-sum-number c = omega (arith, round (search))
@@ -55,25 +55,22 @@ returns-3 : tie.Need-returns-3
 returns-3 c =
     let later : tie.Else1 = search in
     let half : tie.After-s = search in
-    let entry : tie.Start = search in
-    standing-first (entry .args .q) (half .s .given .1) (later .if1 .left) (round half) (c .sum-number .ensures)
+    (standing-first 10 _ (half .s .given .1) (later .if1 .left) (round half) (c .sum-number .ensures .0), c .sum-number .ensures .1)
 
 returns-4 : tie.Need-returns-4
 returns-4 c =
     let half : tie.After-s2 = search in
-    let entry : tie.Start = search in
-    standing-second (entry .args .q) (half .s2 .given .1) (c .sum-number2 .ensures)
+    (standing-second 10 _ (half .s2 .given .1) (c .sum-number2 .ensures .0), c .sum-number2 .ensures .1)
 
 returns-5 : tie.Need-returns-5
 returns-5 c =
     let exit : tie.After-enum-told2 = search in
-    let entry : tie.Start = search in
-    standing-exit (entry .args .q) (exit .enum-told2 .given .1) (c .sum-number3 .ensures)
+    (standing-exit 10 _ (exit .enum-told2 .given .1) (omega arith) (c .sum-number3 .ensures .0), c .sum-number3 .ensures .1)
 
 returns-6 : tie.Need-returns-6
 returns-6 c =
     let entry : tie.Start = search in
-    absurd (never-beyond (c .enum-told3 .given .1) (entry .pre .0))
+    absurd (never-beyond 10 (c .enum-told3 .given .1) (entry .pre .0))
 
 -- ---- the needs that the search closes
 enum-told : tie.Need-enum-told

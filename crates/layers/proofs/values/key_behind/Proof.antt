@@ -7,10 +7,10 @@ use Rattle.layers.proofs.values.key_behind.Statement.{statement}
 use Rattle.layers.proofs.values.key_behind.Tie as tie
 
 returns : tie.Need-returns
-returns c = search behind-last
+returns c = search (behind-last 10)
 
 returns-2 : tie.Need-returns-2
-returns-2 c = search behind-none
+returns-2 c = search (behind-none 10)
 
 -- ---- the needs that the search closes
 add-result : tie.Need-add-result

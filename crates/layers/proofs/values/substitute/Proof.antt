@@ -5,13 +5,14 @@
 -- Assumes nothing.
 use Prim.Native.Nat.{_-_, _<_}
 use Rattle.bits.proofs.laws.Filled.{Filled, filled-none, filled-all}
+use Rattle.field.specs.Sbox.{sboxOf}
 use Rattle.layers.proofs.laws.Values.{behindAt, substituted-more}
 use native.Mathlib.Omega.{arith}
 use Rattle.layers.proofs.values.substitute.Statement.{statement}
 use Rattle.layers.proofs.values.substitute.Tie as tie
 
 abbrev Inv-loop : tie.InvT-loop
-Inv-loop inverse before behind read dst₀ products sbox x₀ dst x = Filled 256 (behindAt inverse before behind read) dst x
+Inv-loop inverse before behind read dst₀ products sbox x₀ dst x = Filled 256 (behindAt sboxOf inverse before behind read) dst x
 
 abbrev μ-loop : tie.MeasureT-loop
 μ-loop inverse before behind read dst₀ products sbox x₀ dst x = 256 - x
@@ -23,7 +24,7 @@ loop-again : tie.Need-loop-again Inv-loop μ-loop
 loop-again c =
     let entry : tie.Start Inv-loop μ-loop = search in
     let byte : entry .args .before < 256 = omega (arith, entry .fits) in
-    search substituted-more
+    search (substituted-more sboxOf)
 
 returns : tie.Need-returns Inv-loop μ-loop
 returns c = search filled-all

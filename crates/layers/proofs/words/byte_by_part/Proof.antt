@@ -1,13 +1,13 @@
 -- `layers::words::byte_by_part` pushes the parities of the 8 bytes of p with x, one a turn. The loop's invariant, `Joined` of bits: r is made of
--- the first i of these parities. A turn pushes one more (`joined-more`), for which a vector of 128 bits has room (`joined-room`, `parity-bit`);
+-- the first i of these parities. A turn pushes one more, for which a vector of 128 bits has room (`joined-bit`);
 -- behind the eighth the lowest byte of r is the product with the matrix that the bytes write (`joined-byte` of `laws.Words`).
 -- Assumes nothing.
 use Prim.Native.Nat.{_-_}
 use Rattle.bits.specs.Lists.{at}
 use Rattle.bits.specs.Vectors.{dot}
 use Rattle.bits.specs.Words.{value}
-use Rattle.bits.proofs.laws.Joined.{Joined, joined-none, joined-more, joined-room}
-use Rattle.bits.proofs.laws.Vectors.{dot-lt, parity-bit}
+use Rattle.bits.proofs.laws.Joined.{Joined, joined-none, joined-bit}
+use Rattle.bits.proofs.laws.Vectors.{dot-lt}
 use Rattle.bits.proofs.laws.Words.{wide-zero}
 use Rattle.layers.proofs.laws.Words.{joined-byte}
 use native.Mathlib.Omega.{arith}
@@ -23,15 +23,10 @@ abbrev μ-loop : tie.MeasureT-loop
 loop-holds : tie.Need-loop-holds Inv-loop μ-loop
 loop-holds c = joined-none wide-zero
 
-push-bit-requires : tie.Need-push-bit-requires Inv-loop μ-loop
-push-bit-requires c κs =
-    let turn : tie.At-loop Inv-loop μ-loop = search in
-    (joined-room (turn .loop .inv) 127 (omega arith) (λ j. dot-lt _ _), parity-bit _ _ _ (c .parity .ensures))
-
 loop-again : tie.Need-loop-again Inv-loop μ-loop
 loop-again c =
     let turn : tie.In-loop Inv-loop μ-loop = search in
-    joined-more (turn .before .loop .inv) (turn .loop-test .taken) (cc)
+    joined-bit (turn .before .loop .inv) (λ j. dot-lt _ _) (turn .loop-test .taken) (omega arith) (c .push-bit .ensures) (cc)
 
 returns : tie.Need-returns Inv-loop μ-loop
 returns c = search joined-byte
@@ -48,6 +43,9 @@ vector-of-requires-2 c κs = omega arith
 
 parity-requires : tie.Need-parity-requires Inv-loop μ-loop
 parity-requires c κs = omega arith
+
+push-bit-requires : tie.Need-push-bit-requires Inv-loop μ-loop
+push-bit-requires c κs = omega arith
 
 add-i : tie.Need-add-i Inv-loop μ-loop
 add-i c = omega arith

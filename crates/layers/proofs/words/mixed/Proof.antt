@@ -5,13 +5,14 @@
 use Prim.Native.Nat.{_-_}
 use Rattle.bits.proofs.laws.Bytes.{filled-number}
 use Rattle.bits.proofs.laws.Filled.{Filled, filled-none}
+use Rattle.round.specs.State.{mixRows, entry}
 use Rattle.layers.proofs.laws.Words.{mixedBy, mixed-more}
 use native.Mathlib.Omega.{arith}
 use Rattle.layers.proofs.words.mixed.Statement.{statement}
 use Rattle.layers.proofs.words.mixed.Tie as tie
 
 abbrev Inv-loop : tie.InvT-loop
-Inv-loop q y b₀ t₀ b t = Filled 16 (mixedBy q y) b t
+Inv-loop q y b₀ t₀ b t = Filled 16 (mixedBy (entry mixRows) q y) b t
 
 abbrev μ-loop : tie.MeasureT-loop
 μ-loop q y b₀ t₀ b t = 4 - t
@@ -20,7 +21,7 @@ loop-holds : tie.Need-loop-holds Inv-loop μ-loop
 loop-holds c = search filled-none
 
 loop-again : tie.Need-loop-again Inv-loop μ-loop
-loop-again c = search mixed-more
+loop-again c = search (mixed-more (entry mixRows))
 
 returns : tie.Need-returns Inv-loop μ-loop
 returns c = search filled-number

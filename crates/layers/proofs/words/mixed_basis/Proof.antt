@@ -4,6 +4,7 @@
 -- Assumes nothing.
 use Prim.Native.Nat.{_-_, _^_}
 use Rattle.matrices.proofs.laws.Rows.{Stored, stored-none, stored-more, stored-all}
+use Rattle.round.specs.State.{mixRows, entry}
 use Rattle.layers.proofs.laws.Bases.{readWord, read-row}
 use Rattle.layers.proofs.laws.Words.{mixedColumn}
 use native.Mathlib.Omega.{arith}
@@ -12,7 +13,7 @@ use Rattle.layers.proofs.words.mixed_basis.Statement.{statement}
 use Rattle.layers.proofs.words.mixed_basis.Tie as tie
 
 abbrev Inv-loop : tie.InvT-loop
-Inv-loop p q basis₀ m k₀ basis k = Stored 8 (λ j. readWord 4 p (mixedColumn q) (2 ^ j)) basis₀ basis k
+Inv-loop p q basis₀ m k₀ basis k = Stored 8 (λ j. readWord 4 p (mixedColumn (entry mixRows) q) (2 ^ j)) basis₀ basis k
 
 abbrev μ-loop : tie.MeasureT-loop
 μ-loop p q basis₀ m k₀ basis k = 8 - k

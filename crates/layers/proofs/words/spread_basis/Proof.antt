@@ -3,16 +3,19 @@
 -- matrix, which makes the word (`spread-row`), and stores it as row k (`stored-more`); behind row 7 the basis is whole (`stored-all`). The section
 -- that `by_bytes` asks for has 160 byte matrices, since the bundle's frame is right (`byte-section-long`).
 -- Assumes nothing.
-use Prim.Native.Nat.{_-_, _^_}
+use Prim.Native.Nat.{_-_, _*_, _^_}
+use Rattle.matrices.specs.Rows.{rowsOf}
 use Rattle.matrices.proofs.laws.Rows.{Stored, stored-none, stored-more, stored-all}
-use Rattle.layers.proofs.laws.Bases.{spreadWord, byte-section-long, spread-row}
+use Rattle.bundle.proofs.laws.Frame.{sizes}
+use Rattle.layers.proofs.laws.Bases.{byte-section-long, spread-row}
+use Rattle.layers.specs.Layers.{spreadWord}
 use native.Mathlib.Omega.{arith}
 use borrow.Author.Needs.{needs}
 use Rattle.layers.proofs.words.spread_basis.Statement.{statement}
 use Rattle.layers.proofs.words.spread_basis.Tie as tie
 
 abbrev Inv-loop : tie.InvT-loop
-Inv-loop bundle m n i first basis₀ section k₀ basis k = Stored 8 (λ j. spreadWord 10 bundle m n i first (2 ^ j)) basis₀ basis k
+Inv-loop bundle m n i first basis₀ section k₀ basis k = Stored 8 (λ j. spreadWord 10 bundle (rowsOf (8 * n) m) n i first (2 ^ j)) basis₀ basis k
 
 abbrev μ-loop : tie.MeasureT-loop
 μ-loop bundle m n i first basis₀ section k₀ basis k = 8 - k
@@ -21,7 +24,11 @@ loop-holds : tie.Need-loop-holds Inv-loop μ-loop
 loop-holds c = stored-none
 
 by-bytes-requires : tie.Need-by-bytes-requires Inv-loop μ-loop
-by-bytes-requires c κs = search (byte-section-long, needs)
+by-bytes-requires c κs =
+    let entry : tie.Start Inv-loop μ-loop = search in
+    let section : tie.After-section Inv-loop μ-loop = search in
+    let long = byte-section-long 10 _ _ _ (sizes .bytes) (section .section .ensures) (entry .pre .0) in
+    search needs
 
 loop-again : tie.Need-loop-again Inv-loop μ-loop
 loop-again c = search (stored-more, spread-row)

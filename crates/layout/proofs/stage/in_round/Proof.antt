@@ -8,10 +8,10 @@ use Rattle.layout.proofs.stage.in_round.Statement.{statement}
 use Rattle.layout.proofs.stage.in_round.Tie as tie
 
 returns : tie.Need-returns
-returns c = first-half _ _ (omega arith) (search)
+returns c = first-half 10 _ _ (omega arith) (search)
 
 returns-2 : tie.Need-returns-2
-returns-2 c = second-half _ _ (omega arith) (search)
+returns-2 c = second-half 10 _ _ (omega arith) (search)
 
 -- ---- the needs that the search closes
 sub-before : tie.Need-sub-before

@@ -8,16 +8,16 @@ use Rattle.layout.proofs.stage.place_of.Statement.{statement}
 use Rattle.layout.proofs.stage.place_of.Tie as tie
 
 returns : tie.Need-returns
-returns c = in-entry _ (omega arith) (search)
+returns c = in-entry 10 _ (omega arith) (search)
 
 returns-2 : tie.Need-returns-2
-returns-2 c = in-rounds _ (omega arith) (omega arith) (search)
+returns-2 c = in-rounds 10 _ (omega arith) (omega arith) (search)
 
 returns-3 : tie.Need-returns-3
-returns-3 c = in-exit _ (omega arith) (omega arith) (search)
+returns-3 c = in-exit 10 _ (omega arith) (omega arith) (search)
 
 returns-4 : tie.Need-returns-4
-returns-4 c = beyond _ (omega arith)
+returns-4 c = beyond 10 _ (omega arith)
 
 -- ---- the needs that the search closes
 placed-requires : tie.Need-placed-requires

@@ -1,5 +1,5 @@
 -- `layout::stage::source_of` meets its contract, by the stage. In a first half and in the exit it reads through the row shift, as `shifted` ensures
--- (`reads-first`, `reads-exit` of `laws.Place`); in the others it reads its own position, which is below 16 by the `requires`.
+-- (`reads-first`, `reads-exit` of `laws.Place`); in the others it reads its own position.
 -- Assumes nothing.
 use Rattle.layout.proofs.laws.Place.{reads-first, reads-exit}
 use borrow.Author.Needs.{needs}

@@ -12,13 +12,13 @@ xor-all-requires c κs =
     let width : tie.After-width-of = search in
     let entry : tie.Start = search in
     let same = width .width-of .ensures .0 in
-    (entry .pre .0, rw same (entry .pre .1), spread .spread-all .ensures .1, rw same (entry .pre .2))
+    (rw same (entry .pre .0), spread .spread-all .ensures .1, rw same (entry .pre .1))
 
 take-sums-requires : tie.Need-take-sums-requires
 take-sums-requires c κs =
     let width : tie.After-width-of = search in
     let entry : tie.Start = search in
-    (entry .pre .4, rw (width .width-of .ensures .0) (entry .pre .2))
+    (entry .pre .3, rw (width .width-of .ensures .0) (entry .pre .1))
 
 returns : tie.Need-returns
 returns c =

@@ -10,6 +10,11 @@ use borrow.Author.Needs.{needs}
 use Rattle.lookups.proofs.layer.lookup_in.Statement.{statement}
 use Rattle.lookups.proofs.layer.lookup_in.Tie as tie
 
+element-copy-out-spread : tie.Need-element-copy-out-spread
+element-copy-out-spread c =
+    let source : tie.After-source-of = search in
+    omega (arith, source .source-of .ensures .1 (search))
+
 spread-requires : tie.Need-spread-requires
 spread-requires c κs = search (needs, spread-sized)
 
@@ -47,9 +52,6 @@ width-of-requires c κs = search needs
 
 source-of-requires : tie.Need-source-of-requires
 source-of-requires c κs = search needs
-
-element-copy-out-spread : tie.Need-element-copy-out-spread
-element-copy-out-spread c = search needs
 
 pub lookup-in-spec : {M : Type 1} → statement M
 lookup-in-spec =

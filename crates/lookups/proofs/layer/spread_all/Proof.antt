@@ -3,7 +3,8 @@
 -- all are made (`spreads-all`). No sum wraps: the table of a turn ends within the set (`table-ends`).
 -- Assumes nothing.
 use Prim.Native.Nat.{_+_, _-_, _*_, _≤_}
-use Rattle.layout.specs.Stages.{shapeAt, shifted, tenSetBytes}
+use lib.ListN.{length}
+use Rattle.layout.specs.Stages.{shapeAt, shifted}
 use Rattle.lookups.proofs.laws.Whole.{Spreads, spreads-none, table-ends, table-long, spreads-more, spreads-all}
 use native.Mathlib.Omega.{arith}
 use borrow.Author.Needs.{needs}
@@ -21,7 +22,7 @@ ends : (c : tie.In-loop Inv-loop μ-loop)
     → let turn : tie.At-loop Inv-loop μ-loop = search in
     let width : tie.After-width-of Inv-loop μ-loop = search in
     let entry : tie.Start Inv-loop μ-loop = search in
-    entry .args .from + turn .loop .p * (256 * width .width-of .result) + 256 * width .width-of .result ≤ tenSetBytes
+    entry .args .from + turn .loop .p * (256 * width .width-of .result) + 256 * width .width-of .result ≤ length (entry .args .set .now)
 ends c =
     let turn : tie.At-loop Inv-loop μ-loop = search in
     table-ends (turn .loop .inv) (c .loop-test .taken)
@@ -41,10 +42,15 @@ add-end c = omega (arith, ends (search))
 part-spread-end : tie.Need-part-spread-end Inv-loop μ-loop
 part-spread-end c = omega (arith, ends (search))
 
+element-copy-out-spread : tie.Need-element-copy-out-spread Inv-loop μ-loop
+element-copy-out-spread c =
+    let source : tie.After-source-of Inv-loop μ-loop = search in
+    omega (arith, source .source-of .ensures .1 (search))
+
 spread-requires : tie.Need-spread-requires Inv-loop μ-loop
 spread-requires c κs =
     let turn : tie.At-loop Inv-loop μ-loop = search in
-    (turn .loop .inv .long, search needs, search, table-long (turn .loop .inv) (search) (search))
+    (turn .loop .inv .long, search needs, search, table-long (turn .loop .inv) (search))
 
 loop-again : tie.Need-loop-again Inv-loop μ-loop
 loop-again c =
@@ -72,9 +78,6 @@ sub-spread c = omega arith
 
 part-spread-start : tie.Need-part-spread-start Inv-loop μ-loop
 part-spread-start c = omega arith
-
-element-copy-out-spread : tie.Need-element-copy-out-spread Inv-loop μ-loop
-element-copy-out-spread c = omega arith
 
 add-p : tie.Need-add-p Inv-loop μ-loop
 add-p c = omega arith

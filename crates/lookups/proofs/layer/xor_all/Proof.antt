@@ -4,7 +4,7 @@
 -- wraps: the tables end within the set.
 -- Assumes nothing.
 use Prim.Native.Nat.{_+_, _-_, _*_, _≤_}
-use Rattle.layout.specs.Stages.{tenSetBytes}
+use lib.ListN.{length}
 use Rattle.lookups.proofs.laws.Whole.{Xors, spreads-room, spreads-least, xors-none, pair-asked, xors-more, xors-all}
 use native.Mathlib.Omega.{arith}
 use borrow.Author.Needs.{needs}
@@ -18,8 +18,8 @@ abbrev μ-loop : tie.MeasureT-loop
 μ-loop area₀ set from width start bytes y₀ area y = bytes - y
 
 -- the tables of the spread lookups end within the set
-room : (s : tie.Start Inv-loop μ-loop) → s .args .from + 4096 * s .args .width ≤ tenSetBytes
-room s = spreads-room _ _ (s .pre .1)
+room : (s : tie.Start Inv-loop μ-loop) → s .args .from + 4096 * s .args .width ≤ length (s .args .set .now)
+room s = spreads-room _ _ _ (s .pre .0)
 
 mul-start : tie.Need-mul-start Inv-loop μ-loop
 mul-start c = omega (arith, room (search))
@@ -36,7 +36,7 @@ loop-holds c = xors-none (search) (c .lookups-of .ensures) (search) (search)
 xor-pair-in-requires : tie.Need-xor-pair-in-requires Inv-loop μ-loop
 xor-pair-in-requires c κs =
     let turn : tie.At-loop Inv-loop μ-loop = search in
-    pair-asked (turn .loop .inv) (search) (search)
+    pair-asked (turn .loop .inv) (search)
 
 loop-again : tie.Need-loop-again Inv-loop μ-loop
 loop-again c =

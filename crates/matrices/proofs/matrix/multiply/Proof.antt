@@ -1,12 +1,12 @@
 -- `matrices::matrix::multiply` meets its contract. The loop's invariant, `Joined` of bits: the vector p is made of the parities of the first i
--- rows and v. A turn pushes the parity of row i (`joined-more`), and behind the last row p is the product (`multiplied` of `laws.Rows`).
--- Before a push p has at most 127 bits (`joined-room`), and a parity is 0 or 1 (`parity-bit`). The measure is the number of rows left.
+-- rows and v. A turn pushes the parity of row i, for which there is room, since there are at most 128 rows (`joined-bit`); behind the last row
+-- p is the product (`multiplied` of `laws.Rows`). The measure is the number of rows left.
 -- Assumes nothing.
 use Prim.Native.Nat.{_-_}
 use Rattle.bits.specs.Vectors.{dot}
 use Rattle.bits.specs.Words.{value}
-use Rattle.bits.proofs.laws.Joined.{Joined, joined-none, joined-more, joined-room}
-use Rattle.bits.proofs.laws.Vectors.{dot-lt, parity-bit}
+use Rattle.bits.proofs.laws.Joined.{Joined, joined-none, joined-bit}
+use Rattle.bits.proofs.laws.Vectors.{dot-lt}
 use Rattle.bits.proofs.laws.Words.{wide-zero}
 use Rattle.matrices.specs.Rows.{rowAt}
 use Rattle.matrices.proofs.laws.Rows.{multiplied}
@@ -23,15 +23,10 @@ abbrev μ-loop : tie.MeasureT-loop
 loop-holds : tie.Need-loop-holds Inv-loop μ-loop
 loop-holds c = joined-none wide-zero
 
-push-bit-requires : tie.Need-push-bit-requires Inv-loop μ-loop
-push-bit-requires c κs =
-    let turn : tie.At-loop Inv-loop μ-loop = search in
-    (joined-room (turn .loop .inv) 127 (omega arith) (λ j. dot-lt _ _), parity-bit _ _ _ (c .parity .ensures))
-
 loop-again : tie.Need-loop-again Inv-loop μ-loop
 loop-again c =
     let turn : tie.In-loop Inv-loop μ-loop = search in
-    joined-more (turn .before .loop .inv) (turn .loop-test .taken) (cc)
+    joined-bit (turn .before .loop .inv) (λ j. dot-lt _ _) (turn .loop-test .taken) (omega arith) (c .push-bit .ensures) (cc)
 
 returns : tie.Need-returns Inv-loop μ-loop
 returns c = search multiplied
@@ -42,6 +37,9 @@ row-requires c κs = omega arith
 
 parity-requires : tie.Need-parity-requires Inv-loop μ-loop
 parity-requires c κs = omega arith
+
+push-bit-requires : tie.Need-push-bit-requires Inv-loop μ-loop
+push-bit-requires c κs = omega arith
 
 add-i : tie.Need-add-i Inv-loop μ-loop
 add-i c = omega arith

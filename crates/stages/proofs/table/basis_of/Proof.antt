@@ -1,13 +1,14 @@
 -- `stages::table::basis_of` goes by the kind of the stage. The call of each branch stores the basis from the matrix that such a stage has, and a
 -- law of `laws.Words` says that its words are the stage's: `based-entry`, `based-first`, `based-second`, `based-exit`. The inverse is long enough
--- by `entry-inverse` and `second-inverse`, a matrix because its part of the bundle is. Behind the last stage there is none: its round is not one
--- from 1 to 9, as the `requires` asks. In a half the round is r, so the numbers of its matrices neither wrap nor are out of range.
+-- by `begins-entry` and `begins-second` of layers, a matrix because its part of the bundle is. Behind the last stage there is none, since it is no
+-- stage of the rounds (`never-beyond`). In a half the round is r, so the numbers of its matrices neither wrap nor are out of range.
 -- Assumes nothing.
-use mathlib.Core.Path.{ap}
 use Rattle.bundle.specs.Format.{columnMatrices}
-use Rattle.layers.specs.Layers.{roundOf}
+use Rattle.whitebox.specs.Parts.{forward}
 use Rattle.layers.proofs.laws.Code.{frame-of, column-part-long, output-part-long}
-use Rattle.stages.proofs.laws.Words.{entry-inverse, second-inverse, based-entry, based-first, based-second, based-exit}
+use Rattle.layers.proofs.laws.Inverses.{begins-entry, begins-second}
+use Rattle.layers.proofs.laws.Numbers.{round-first, round-second, never-beyond}
+use Rattle.stages.proofs.laws.Words.{based-entry, based-first, based-second, based-exit}
 use native.Mathlib.Omega.{arith}
 use borrow.Author.Needs.{needs}
 use Rattle.stages.proofs.table.basis_of.Statement.{statement}
@@ -18,18 +19,20 @@ spread-basis-requires c κs =
     let stage : tie.After-enum-told = search in
     let start : tie.Start = search in
     let p = start .pre in
-    (frame-of 10 _ (p .0), omega arith, p .4, omega arith, entry-inverse _ _ _ _ (p .1) (stage .enum-told .given .1), p .5)
+    (frame-of 10 _ (p .0), omega arith, p .3, omega arith, begins-entry 10 _ _ _ _ (p .3) (p .1) (stage .enum-told .given .1) .0, p .4)
 
 returns : tie.Need-returns
 returns c =
     let stage : tie.After-enum-told = search in
     let start : tie.Start = search in
-    based-entry _ _ _ _ _ _ (stage .enum-told .given .1) (start .pre .1) (search)
+    let p = start .pre in
+    λ w. based-entry (forward 10 w) 10 _ _ _ _ _ _ (stage .enum-told .given .1) (p .2) (p .3) (p .1) (search)
 
 column-number-requires : tie.Need-column-number-requires
 column-number-requires c κs =
     let stage : tie.After-s = search in
-    let round = ap roundOf (stage .s .given .1) in
+    let start : tie.Start = search in
+    let round = round-first 10 (stage .s .given .1) (start .pre .2) in
     search needs
 
 mixed-basis-requires : tie.Need-mixed-basis-requires
@@ -39,61 +42,62 @@ mixed-basis-requires c κs =
     let number : tie.After-column-number = search in
     let start : tie.Start = search in
     let long = column-part-long 10 _ _ (frame-of 10 _ (start .pre .0)) _ (number .column-number .ensures .1) (part .column-matrix-part .ensures) in
-    (omega arith, omega arith, start .pre .5)
+    (omega arith, omega arith, start .pre .4)
 
 returns-2 : tie.Need-returns-2
+unfolding forward columnMatrices
 returns-2 c =
     let stage : tie.After-s = search in
     let number : tie.After-column-number = search in
     let part : tie.After-column-matrix-part = search in
     let n = number .column-number .ensures in
-    based-first _ _ _ _ _ _ _ _ (stage .s .given .1) (n .0) (n .1) (part .column-matrix-part .ensures) (search)
+    λ w. based-first (forward 10 w) 10 _ _ _ _ _ _ _ _ (stage .s .given .1) (n .0) (n .1) (part .column-matrix-part .ensures) (search)
 
 mul-spread-basis : tie.Need-mul-spread-basis
 mul-spread-basis c =
     let stage : tie.After-s2 = search in
     let start : tie.Start = search in
-    omega (arith, ap roundOf (stage .s2 .given .1), start .pre)
+    omega (arith, round-second 10 (stage .s2 .given .1) (start .pre .2), start .pre)
 
 add-spread-basis : tie.Need-add-spread-basis
 add-spread-basis c =
     let stage : tie.After-s2 = search in
     let start : tie.Start = search in
-    omega (arith, ap roundOf (stage .s2 .given .1), start .pre)
+    omega (arith, round-second 10 (stage .s2 .given .1) (start .pre .2), start .pre)
 
 spread-basis-requires-2 : tie.Need-spread-basis-requires-2
 spread-basis-requires-2 c κs =
     let stage : tie.After-s2 = search in
     let start : tie.Start = search in
     let p = start .pre in
-    let round = ap roundOf (stage .s2 .given .1) in
-    (frame-of 10 _ (p .0), omega arith, omega arith, omega arith, second-inverse _ _ _ _ (p .1) _ (stage .s2 .given .1), p .5)
+    let round = round-second 10 (stage .s2 .given .1) (p .2) in
+    (frame-of 10 _ (p .0), omega arith, omega arith, omega arith, begins-second 10 _ _ _ _ (p .3) (p .1) _ (stage .s2 .given .1) .0, p .4)
 
 returns-3 : tie.Need-returns-3
 returns-3 c =
     let stage : tie.After-s2 = search in
     let start : tie.Start = search in
     let p = start .pre in
-    based-second _ _ _ _ _ _ _ (stage .s2 .given .1) (p .2) (p .3) (p .4) (p .1) (search)
+    λ w. based-second (forward 10 w) 10 _ _ _ _ _ _ _ (stage .s2 .given .1) (p .2) (p .3) (p .1) (search)
 
 placed-basis-requires : tie.Need-placed-basis-requires
 placed-basis-requires c κs =
     let part : tie.After-output-matrix-part = search in
     let start : tie.Start = search in
     let long = output-part-long 10 _ _ (frame-of 10 _ (start .pre .0)) (part .output-matrix-part .ensures) in
-    (omega arith, start .pre .4, start .pre .5)
+    (omega arith, start .pre .3, start .pre .4)
 
 returns-4 : tie.Need-returns-4
 returns-4 c =
     let stage : tie.After-enum-told2 = search in
     let part : tie.After-output-matrix-part = search in
-    based-exit _ _ _ _ _ _ (stage .enum-told2 .given .1) (part .output-matrix-part .ensures) (search)
+    λ w. based-exit (forward 10 w) 10 _ _ _ _ _ _ (stage .enum-told2 .given .1) (part .output-matrix-part .ensures) (search)
 
 returns-5 : tie.Need-returns-5
 returns-5 c =
     let stage : tie.After-enum-told3 = search in
     let start : tie.Start = search in
-    absurd (omega (arith, start .pre, ap roundOf (stage .enum-told3 .given .1)))
+    absurd (never-beyond 10 (stage .enum-told3 .given .1) (start .pre .2))
 
 -- ---- the needs that the search closes
 enum-told : tie.Need-enum-told

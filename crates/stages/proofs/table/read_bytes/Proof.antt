@@ -2,12 +2,17 @@
 -- `laws.Encodings` the bytes decoded with them are the bytes read. Decoding asks for permutations: an accepted bundle's encodings are, by
 -- `encodings-permute`.
 -- Assumes nothing.
+use Prim.Native.Nat.{_<_}
 use Rattle.bundle.specs.Format.{encodings}
 use Rattle.layout.specs.Stages.{shifted}
-use Rattle.stages.proofs.laws.Encodings.{whole-encodings, encodings-permute, read-made}
+use Rattle.stages.proofs.laws.Encodings.{encodings-permute, read-made}
 use borrow.Author.Needs.{needs}
 use Rattle.stages.proofs.table.read_bytes.Statement.{statement}
 use Rattle.stages.proofs.table.read_bytes.Tie as tie
+
+-- position p reads one of the 16 standing bytes
+reads : (c : tie.After-source-of) → c .source-of .result < 16
+reads c = c .source-of .ensures .1 (search)
 
 decoded-bytes-requires : tie.Need-decoded-bytes-requires
 unfolding encodings
@@ -18,8 +23,7 @@ decoded-bytes-requires c κs =
     let bytes : tie.After-shared-slice-known = search in
     let start : tie.Start = search in
     let permutes = encodings-permute 10 _ _ (section .section .ensures) (λ i. bytes .shared-slice-known .given i .fits) (start .pre .0) in (
-      whole-encodings 10 _ _ (section .section .ensures),
-      start .pre .4,
+      start .pre .3,
       permutes _ (high .standing-number .ensures .1),
       permutes _ (low .standing-number2 .ensures .1),
     )
@@ -39,19 +43,19 @@ source-of-requires : tie.Need-source-of-requires
 source-of-requires c κs = search needs
 
 mul-standing-number : tie.Need-mul-standing-number
-mul-standing-number c = search needs
+mul-standing-number c = search (needs, reads (search))
 
 standing-number-requires : tie.Need-standing-number-requires
-standing-number-requires c κs = search needs
+standing-number-requires c κs = search (needs, reads (search))
 
 mul-standing-number-2 : tie.Need-mul-standing-number-2
-mul-standing-number-2 c = search needs
+mul-standing-number-2 c = search (needs, reads (search))
 
 add-standing-number : tie.Need-add-standing-number
-add-standing-number c = search needs
+add-standing-number c = search (needs, reads (search))
 
 standing-number-requires-2 : tie.Need-standing-number-requires-2
-standing-number-requires-2 c κs = search needs
+standing-number-requires-2 c κs = search (needs, reads (search))
 
 section-requires : tie.Need-section-requires
 section-requires c κs = search needs

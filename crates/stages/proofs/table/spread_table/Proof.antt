@@ -1,10 +1,11 @@
 -- `stages::table::spread_table`: each call fills one list, the values, the basis of words, the images of the word's encodings; `write` makes
--- the table of them, and `spread-made` of `laws.Spread` says that it is the spread table. Its premises are what the calls ensure. No sum wraps:
+-- the table of them, and `spread-made` of `laws.Spread` says that it is the spread table of FIPS 197's cipher. Its premises are what the calls ensure. No sum wraps:
 -- p words of 2 m nibbles are at most 15 times 32 of them.
 -- Assumes nothing.
 use Prim.Native.Nat.{_*_, _≤_}
 use Rattle.bits.proofs.laws.Multiples.{product-le}
-use Rattle.stages.proofs.laws.Encodings.{whole-encodings}
+use Rattle.whitebox.specs.Parts.{forward}
+use Rattle.whitebox.proofs.laws.States.{forward-fine}
 use Rattle.stages.proofs.laws.Spread.{spread-made}
 use Rattle.stages.proofs.laws.Words.{images-lt}
 use native.Mathlib.Omega.{arith}
@@ -24,9 +25,8 @@ add-first c = omega (arith, rows-fit (search) (search))
 
 all-images-requires : tie.Need-all-images-requires
 all-images-requires c κs =
-    let section : tie.After-section = search in
     let rows = rows-fit (search) (search) in
-    (whole-encodings 10 _ _ (section .section .ensures), omega arith, omega arith, omega arith)
+    (omega arith, omega arith, omega arith)
 
 write-requires : tie.Need-write-requires
 write-requires c κs =
@@ -37,16 +37,17 @@ write-requires c κs =
     let width : tie.After-width-of = search in
     let bytes : tie.After-shared-slice-known = search in
     let start : tie.Start = search in
-    let nibbles = images-lt 10 _ _ _ _ _ (λ i. bytes .shared-slice-known .given i .fits) (section .section .ensures) (images .all-images .ensures) in (
+    let nibbles = images-lt 10 _ _ _ _ _ _ (λ i. bytes .shared-slice-known .given i .fits) (section .section .ensures) (images .all-images .ensures) in (
       values .values-of .kept .1 .1 .1 .1 .0,
       omega (arith, basis .basis-of),
       width .width-of .ensures .1,
       omega (arith, images .all-images),
       λ i h. nibbles i (omega arith),
-      rw (width .width-of .ensures .0) (start .pre .6),
+      rw (width .width-of .ensures .0) (start .pre .5),
     )
 
 returns : tie.Need-returns
+unfolding forward
 returns c =
     let write : tie.After-write = search in
     let images : tie.After-all-images = search in
@@ -59,8 +60,9 @@ returns c =
     let bytes : tie.After-shared-slice-known = search in
     let start : tie.Start = search in
     let p = start .pre in
-    spread-made _ _ (λ i. bytes .shared-slice-known .given i .fits) (λ i. keys .shared-slice-known2 .given i .fits)
-    (p .0) _ (p .3) (p .4) _ (p .5) _ _ _ _ _ _ _ _ (width .width-of .ensures .0) (first .first-number .ensures .0)
+    let fine = forward-fine 10 _ (λ i. keys .shared-slice-known2 .given i .fits) in
+    spread-made (forward 10 (start .args .keys .now)) fine 10 _ (λ i. bytes .shared-slice-known .given i .fits)
+    (p .0) _ (p .3) _ (p .4) _ _ _ _ _ _ _ _ _ (width .width-of .ensures .0) (first .first-number .ensures .0)
     (section .section .ensures) (omega arith)
     (values .values-of .ensures) (basis .basis-of .ensures _) (images .all-images .ensures) (write .write .ensures)
 

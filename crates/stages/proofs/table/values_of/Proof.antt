@@ -1,14 +1,15 @@
 -- `stages::table::values_of` goes by the kind of the stage. In a first half and in the exit the bytes are read and put behind the S-box
 -- (`acted-first`, `acted-exit` of `laws.Acted`); in the entry and in a second half the bytes read are the values (`acted-entry`,
--- `acted-second`). Behind the last stage there is none: its round is not one from 1 to 9, as the `requires` asks.
+-- `acted-second`). Behind the last stage there is none: it is no stage of the rounds, as the `requires` asks (`never-beyond`).
 -- Assumes nothing.
-use mathlib.Core.Path.{ap}
+use mathlib.Core.Path.{subst}
 use Prim.Native.Nat.{ℕ}
 use Rattle.layout.specs.Stages.{shifted}
 use Rattle.layout.specs.declared.stage.Stage.{Stage}
-use Rattle.layers.specs.Layers.{roundOf, readByte}
+use Rattle.layers.specs.Layers.{InRounds}
+use Rattle.layers.proofs.laws.Numbers.{round-first, never-beyond}
+use Rattle.stages.specs.Spread.{readByte}
 use Rattle.stages.proofs.laws.Acted.{acted-first, acted-exit, acted-entry, acted-second}
-use native.Mathlib.Omega.{arith}
 use borrow.Author.Needs.{needs}
 use Rattle.stages.proofs.table.values_of.Statement.{statement}
 use Rattle.stages.proofs.table.values_of.Tie as tie
@@ -20,13 +21,15 @@ read-at start t = readByte 10 shifted (start .args .bundle .now) t (start .args 
 read-bytes-requires : tie.Need-read-bytes-requires
 read-bytes-requires c κs =
     let stage : tie.After-s = search in
-    let round = ap roundOf (stage .s .given .1) in
+    let start : tie.Start = search in
+    let round = subst (InRounds 10) (stage .s .given .1) (start .pre .2) in
     search needs
 
 behind-sbox-requires : tie.Need-behind-sbox-requires
 behind-sbox-requires c κs =
     let stage : tie.After-s = search in
-    let round = ap roundOf (stage .s .given .1) in
+    let start : tie.Start = search in
+    let round = round-first 10 (stage .s .given .1) (start .pre .2) in
     search needs
 
 returns : tie.Need-returns
@@ -55,7 +58,7 @@ returns-5 : tie.Need-returns-5
 returns-5 c =
     let entry : tie.Start = search in
     let stage : tie.After-enum-told4 = search in
-    absurd (omega (arith, entry .pre, ap roundOf (stage .enum-told4 .given .1)))
+    absurd (never-beyond 10 (stage .enum-told4 .given .1) (entry .pre .2))
 
 -- ---- the needs that the search closes
 enum-known-s : tie.Need-enum-known-s

@@ -3,6 +3,7 @@
 -- the second asks: this, a width that XORs are made for, and numbers in range.
 -- Assumes nothing.
 use mathlib.Core.Path.{_∙_}
+use Rattle.bundle.specs.Format.{encodings}
 use Rattle.layout.specs.Stages.{numbersOf}
 use Rattle.network.proofs.laws.Sizes.{spread-size, table-spread, table-xor}
 use Rattle.stages.proofs.laws.Tables.{xor-asked}
@@ -16,20 +17,21 @@ spread-table-requires c κs =
     let start : tie.Start = search in
     let p = start .pre in
     let spread = branch .if1 .taken in
-    (p .0, p .1 spread, p .2, p .3, p .4, spread, p .6 ∙ spread-size _ _ spread)
+    (p .0, p .1, p .2, p .3, spread, p .5 ∙ spread-size _ _ spread)
 
 returns : tie.Need-returns
 returns c = table-spread _ _ _ _ _ (search) (search)
 
 xor-table-requires : tie.Need-xor-table-requires
+unfolding encodings
 xor-table-requires c κs =
     let first : tie.After-first-number = search in
     let width : tie.After-width-of = search in
     let branch : tie.Else1 = search in
     let start : tie.Start = search in
     let p = start .pre in
-    xor-asked (start .args .s) _ _ _ _ (width .width-of .ensures .0) (first .first-number .ensures .0)
-    (p .3) (p .4) (branch .if1 .left) (p .5) (p .6)
+    xor-asked 10 (start .args .s) _ _ _ _ (width .width-of .ensures .0) (first .first-number .ensures .0)
+    (p .3) (branch .if1 .left) (p .4) (p .5)
 
 returns-2 : tie.Need-returns-2
 unfolding numbersOf

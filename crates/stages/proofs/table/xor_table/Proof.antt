@@ -2,18 +2,12 @@
 -- makes the table of them; `xor-made` of `laws.Xors` says that these are the numbers of XOR x, and that it is the XOR table. Nothing wraps, as
 -- every number is below the bundle's 6,048 encodings: `xor-within`.
 -- Assumes nothing.
-use Rattle.bundle.specs.Format.{encodings}
-use Rattle.stages.proofs.laws.Encodings.{whole-encodings}
+use Rattle.bundle.specs.Format.{encodings, tenEncodings}
 use Rattle.stages.proofs.laws.Xors.{Within, xor-within, xor-made}
 use native.Mathlib.Omega.{arith}
 use borrow.Author.Needs.{needs}
 use Rattle.stages.proofs.table.xor_table.Statement.{statement}
 use Rattle.stages.proofs.table.xor_table.Tie as tie
-
-write-requires : tie.Need-write-requires
-write-requires c κs =
-    let section : tie.After-section = search in
-    (whole-encodings 10 _ _ (section .section .ensures), search)
 
 returns : tie.Need-returns
 unfolding encodings
@@ -26,8 +20,8 @@ returns c =
     xor-made _ (p .0) _ _ 10 _ _ _ _ (p .1) (p .2) (section .section .ensures) (sum .sum-so-far .ensures) (written .write .ensures)
 
 -- ---- no sum and no product wraps
-fits : (s : tie.Start) → Within (s .args .m) (s .args .first) (s .args .x)
-fits s = xor-within _ _ _ (s .pre .0) (s .pre .1) (s .pre .2)
+fits : (s : tie.Start) → Within tenEncodings (s .args .m) (s .args .first) (s .args .x)
+fits s = xor-within tenEncodings _ _ _ (s .pre .0) (s .pre .1) (s .pre .2)
 
 mul-word : tie.Need-mul-word
 mul-word c = omega (arith, fits (search))
@@ -95,6 +89,9 @@ sum-so-far-requires c κs = search needs
 
 section-requires : tie.Need-section-requires
 section-requires c κs = search needs
+
+write-requires : tie.Need-write-requires
+write-requires c κs = search needs
 
 same-length : tie.Need-same-length
 same-length c = search needs

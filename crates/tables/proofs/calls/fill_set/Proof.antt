@@ -1,6 +1,7 @@
 -- `tables::calls::fill_set` copies the key and expands it, works out the inverses of all matrices, and has `write_all` write every table; by
 -- `set-made` of `laws.Calls` that is the set of the key and the bundle. The inverses are ready for `write_all` by what the calls before ensure.
 -- Assumes nothing.
+use Rattle.layout.proofs.laws.Cases.{starred}
 use Rattle.tables.proofs.laws.Calls.{set-made}
 use borrow.Author.Needs.{needs}
 use Rattle.tables.proofs.calls.fill_set.Statement.{statement}
@@ -11,7 +12,7 @@ returns c =
     let written : tie.After-write-all = search in
     let expanded : tie.After-expand-key = search in
     let loaded : tie.After-load = search in
-    set-made _ _ _ _ _ (loaded .load .ensures) (expanded .expand-key .ensures) (written .write-all .ensures)
+    set-made 4 _ _ _ _ _ (loaded .load .ensures) (expanded .expand-key .ensures) _ (starred .all-lookups) (written .write-all .ensures)
 
 -- ---- the needs that the search closes
 load-requires : tie.Need-load-requires

@@ -1,9 +1,10 @@
 -- `tables::calls::fill_table` copies the key and expands it, works out the inverse that table n needs by its place, and has `write_one` write
 -- the table; by `one-made` of `laws.Calls` that is table n of the set of the key and the bundle. The place has a stage of a round by `round-at` of
--- `laws.Set`; `inverse-by-number` says the inverse by n, as `write_one` asks.
+-- `laws.Set`; `inverse-worked` says that what is worked out begins with the inverse that table n is made with, as `write_one` asks.
 -- Assumes nothing.
+use Rattle.layout.proofs.laws.Ten.{in-set}
 use Rattle.tables.proofs.laws.Calls.{one-made}
-use Rattle.tables.proofs.laws.Set.{round-at, inverse-by-number}
+use Rattle.tables.proofs.laws.Set.{round-at, inverse-worked}
 use native.Mathlib.Omega.{arith}
 use borrow.Author.Needs.{needs}
 use Rattle.tables.proofs.calls.fill_table.Statement.{statement}
@@ -13,8 +14,7 @@ of-table-requires : tie.Need-of-table-requires
 of-table-requires c κs =
     let place : tie.After-place-of = search in
     let start : tie.Start = search in
-    let at = round-at _ _ (place .place-of .ensures) (start .pre .2) in
-    (start .pre .1, at .low, at .high, omega arith)
+    (start .pre .1, round-at 10 _ _ (place .place-of .ensures) (omega arith) (in-set _ (start .pre .2)), search needs)
 
 write-one-requires : tie.Need-write-one-requires
 write-one-requires c κs =
@@ -22,14 +22,14 @@ write-one-requires c κs =
     let place : tie.After-place-of = search in
     let start : tie.Start = search in
     let p = start .pre in
-    (p .1, inverse-by-number 10 _ _ (place .place-of .ensures) _ _ (inverse .of-table .ensures), omega arith, p .2, p .3)
+    (p .1, inverse-worked 10 _ _ (place .place-of .ensures) _ _ _ (inverse .of-table .ensures), omega arith, p .2, p .3)
 
 returns : tie.Need-returns
 returns c =
     let written : tie.After-write-one = search in
     let expanded : tie.After-expand-key = search in
     let loaded : tie.After-load = search in
-    one-made _ _ _ _ _ (loaded .load .ensures) (expanded .expand-key .ensures) _ (written .write-one .ensures)
+    one-made 4 _ _ _ _ _ (loaded .load .ensures) (expanded .expand-key .ensures) _ (written .write-one .ensures)
 
 -- ---- the needs that the search closes
 load-requires : tie.Need-load-requires

@@ -7,10 +7,10 @@ use Rattle.tables.proofs.calls.judged.Statement.{statement}
 use Rattle.tables.proofs.calls.judged.Tie as tie
 
 returns : tie.Need-returns
-returns c = judged-key _ _ (search)
+returns c = judged-key 4 _ _ (search)
 
 returns-2 : tie.Need-returns-2
-returns-2 c = judged-by _ _ (search) (search)
+returns-2 c = judged-by 4 _ _ (search) (search)
 
 -- ---- the needs that the search closes
 judge-bundle-requires : tie.Need-judge-bundle-requires

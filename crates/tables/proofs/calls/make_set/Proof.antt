@@ -1,28 +1,31 @@
 -- `tables::calls::make_set` has a law of `laws.Calls` for each way out: a refusal by key or bundle stays (`set-refused`), a memory of another
 -- length is refused (`set-length`), both with the memory left as it was; else the set is written (`set-done`). What `fill_set` asks is that
--- there was no refusal: `lent-key`, `lent-bundle`. `left-old` and `left-new` of crate answers say what the memory holds then.
+-- there was no refusal: `lent-key`, `lent-bundle`. `refused-leaves` and `accepted-leaves` of crate answers say what the memory holds then.
 -- Assumes nothing.
-use mathlib.Core.Path.{_∙_}
-use Rattle.answers.proofs.laws.Tests.{left-old, left-new}
+use mathlib.Core.Path.{refl}
+use Rattle.answers.proofs.laws.Tests.{refused-leaves, accepted-leaves}
+use Rattle.layout.proofs.laws.Ten.{ten}
 use Rattle.tables.proofs.laws.Calls.{lent-key, lent-bundle, set-refused, set-length, set-done}
 use borrow.Author.Needs.{needs}
 use Rattle.tables.proofs.calls.make_set.Statement.{statement}
 use Rattle.tables.proofs.calls.make_set.Tie as tie
 
 returns : tie.Need-returns
-returns c = search (set-refused, left-old)
+returns c =
+    let refused : tie.After-enum-told2 = search in
+    refused-leaves (search set-refused) _ _ (refused .enum-told2 .given .1)
 
 returns-2 : tie.Need-returns-2
-returns-2 c = search set-length
+returns-2 c = refused-leaves (search (set-length, ten)) _ _ refl
 
 fill-set-requires : tie.Need-fill-set-requires
-fill-set-requires c κs = search (lent-key, lent-bundle)
+fill-set-requires c κs = search (lent-key 4, lent-bundle 4)
 
 returns-3 : tie.Need-returns-3
 returns-3 c =
     let filled : tie.After-fill-set = search in
     let accepted : tie.After-enum-told = search in
-    (search set-done, filled .fill-set .ensures ∙ left-new _ _ _ (accepted .enum-told .given .1))
+    accepted-leaves (search (set-done, ten)) _ _ (accepted .enum-told .given .1) (filled .fill-set .ensures)
 
 -- ---- the needs that the search closes
 judged-requires : tie.Need-judged-requires

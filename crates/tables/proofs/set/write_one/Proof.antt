@@ -5,6 +5,7 @@
 use mathlib.Core.Path.{sym, _∙_}
 use Rattle.layout.proofs.laws.Ten.{in-set, placed}
 use Rattle.tables.proofs.laws.Set.{round-at, inverse-by-place, table-made}
+use native.Mathlib.Omega.{arith}
 use borrow.Author.Needs.{needs}
 use Rattle.tables.proofs.set.write_one.Statement.{statement}
 use Rattle.tables.proofs.set.write_one.Tie as tie
@@ -16,8 +17,7 @@ write-requires c κs =
     let p = start .pre in
     let e = place .place-of .ensures in
     let at = placed (p .3) e in
-    let round = round-at _ _ e (p .3) in
-    (p .0, inverse-by-place 10 _ _ e _ _ (p .1), p .2, round .low, round .high, at .index, p .4 ∙ sym (at .size) ∙ at .kind)
+    (p .0, inverse-by-place 10 _ _ e _ _ (p .1), p .2, round-at 10 _ _ e (omega arith) (in-set _ (p .3)), at .index, p .4 ∙ sym (at .size) ∙ at .kind)
 
 returns : tie.Need-returns
 returns c =

@@ -1,14 +1,10 @@
 -- `view::part::numbered_from` meets its contract. It cuts part n out of the section from its start: `numberedFrom` written out, so the result is the
--- calls' equations put together. The section's length is a multiple of its parts' size, as `part` asks (`parts-asked` of `laws.Code`).
+-- calls' equations put together.
 -- Assumes nothing.
 use Rattle.view.specs.Views.{numberedFrom}
-use Rattle.view.proofs.laws.Code.{parts-asked}
 use borrow.Author.Needs.{needs}
 use Rattle.view.proofs.part.numbered_from.Statement.{statement}
 use Rattle.view.proofs.part.numbered_from.Tie as tie
-
-part-requires : tie.Need-part-requires
-part-requires c κs = parts-asked 10 _ _ _ (c .before .section-from .ensures) (c .part-size .ensures)
 
 returns : tie.Need-returns
 unfolding numberedFrom
@@ -20,6 +16,9 @@ section-from-requires c κs = search needs
 
 part-size-requires : tie.Need-part-size-requires
 part-size-requires c κs = search needs
+
+part-requires : tie.Need-part-requires
+part-requires c κs = search needs
 
 pub numbered-from-spec : {M : Type 1} → statement M
 numbered-from-spec =

@@ -14,7 +14,7 @@ use Rattle.view.proofs.starts.starts_of.Tie as tie
 
 -- the pairs are there
 pairs : (judged : tie.After-judge-frame) → judged .judge-frame .result ≡ Accepted → 40 ≤ length (judged .before .before .args .bundle .now)
-pairs judged accepted = pairs-there _ (judged .judge-frame .ensures) accepted
+pairs judged accepted = pairs-there 10 _ (judged .judge-frame .ensures) accepted
 
 number-at-requires : tie.Need-number-at-requires
 number-at-requires c κs = omega (arith, pairs (search) (search))

@@ -1,0 +1,4 @@
+pub mod Orders
+pub mod Answered
+pub mod Whole
+pub mod Refusals

@@ -1,0 +1,32 @@
+-- `layers::inverse::read`: the matrix that the bytes write has an inverse by the `requires`, so its inversion leaves the words of the inverse
+-- in the front of b (`inverse-words` of inversion, whose premises are what the call ensures).
+-- Assumes nothing.
+use Rattle.bits.specs.Bytes.{Bytes}
+use Rattle.inversion.proofs.laws.Inverses.{inverse-words}
+use borrow.Author.Needs.{needs}
+use Rattle.layers.proofs.inverse.read.Statement.{statement}
+use Rattle.layers.proofs.inverse.read.Tie as tie
+
+returns : tie.Need-returns
+returns c =
+    let inverted : tie.After-invert-bytes = search in
+    let known : tie.After-shared-slice-known = search in
+    let entry : tie.Start = search in
+    let p = entry .args .p .now in
+    let bytes : Bytes p = λ i. known .shared-slice-known .given i .fits in
+    inverse-words _ p bytes _ _ (entry .pre .3) (entry .pre .2) (inverted .invert-bytes .ensures .1)
+
+-- ---- the needs that the search closes
+invert-bytes-requires : tie.Need-invert-bytes-requires
+invert-bytes-requires c κs = search needs
+
+same-length : tie.Need-same-length
+same-length c = search needs
+
+pub read-spec : {M : Type 1} → statement M
+read-spec =
+    tie.close
+    (tie.spec
+    invert-bytes-requires
+    same-length
+    returns)

@@ -1,0 +1,68 @@
+-- The maker and the demands joined, for a reader: the statements. They are proved in proofs/laws/Made.antt. Demands 2 and 3 (crate whitebox) speak of
+-- `Given` keys and bundles and of the bytes `madeSet`, `madeTable`; here they are what the calls answer and leave, `setLeft` and `tableLeft`, which
+-- their contracts cite. Over keys of nk words; the calls are those for 4.
+use mathlib.Core.List.{List}
+use mathlib.Core.Path.{_≡_}
+use Prim.Native.Nat.{ℕ, _<_}
+use lib.ListN.{length}
+use Rattle.answers.specs.declared.Answer.the-variants.{Accepted}
+use Rattle.bits.specs.Bytes.{Bytes, Block}
+use Rattle.round.specs.Key.{roundsOf}
+use Rattle.aes.specs.Cipher.{encipherOf, decipherOf}
+use Rattle.external.specs.Coding.{encodeInput, encodeOutput, decodeOutput}
+use Rattle.layout.specs.Stages.{lookups, setBytes, tableSize}
+use Rattle.whitebox.specs.Calls.{tablePart}
+use Rattle.whitebox.specs.Demand2.{walkedOver}
+use Rattle.whitebox.specs.Demand3.{Given}
+use Rattle.tables.specs.Calls.{setAnswerFor, tableAnswerFor, setLeft, tableLeft}
+
+module _ (nk : ℕ) where
+  -- ---- a key and an accepted bundle: what the demands assume is what the calls answer
+  abbrev pub GivenBySet : Type 0
+  GivenBySet = (key l : List ℕ) (memory : ℕ) → Bytes key → Bytes l → setAnswerFor nk (length key) l memory ≡ Accepted → Given nk key l
+
+  abbrev pub GivenByTable : Type 0
+  GivenByTable = (key l : List ℕ) (n memory : ℕ) → Bytes key → Bytes l → tableAnswerFor nk (length key) l n memory ≡ Accepted → Given nk key l
+
+  -- And no given key and bundle is turned down: into memory of the right length the set is made, and each of its tables.
+  abbrev pub SetOfGiven : Type 0
+  SetOfGiven = (key l : List ℕ) → Given nk key l → setAnswerFor nk (length key) l (setBytes (roundsOf nk)) ≡ Accepted
+
+  abbrev pub TableOfGiven : Type 0
+  TableOfGiven =
+      (key l : List ℕ) (n : ℕ) → Given nk key l → n < lookups (roundsOf nk)
+      → tableAnswerFor nk (length key) l n (tableSize (roundsOf nk) n) ≡ Accepted
+
+  -- ---- demand 2 of the bytes that an accepted `make_set` leaves: the walk over them gives FIPS 197's cipher block under the output coding
+  -- The answer of a walk over the memory that held `held` before the call, from block b under the input coding.
+  abbrev pub answerOver : List ℕ → List ℕ → List ℕ → List ℕ → List ℕ → List ℕ
+  answerOver key l held b lent = walkedOver (roundsOf nk) (setLeft nk key l held) (encodeInput (roundsOf nk) l b) lent
+
+  pub record SetEnciphers (key l held b lent : List ℕ) : Type 0 where
+    pub coded : answerOver key l held b lent ≡ encodeOutput (roundsOf nk) l (encipherOf nk key b)
+    pub uncoded : decodeOutput (roundsOf nk) l (answerOver key l held b lent) ≡ encipherOf nk key b
+    pub deciphered : decipherOf nk key (decodeOutput (roundsOf nk) l (answerOver key l held b lent)) ≡ b
+
+  abbrev pub MadeSetEnciphers : Type 0
+  MadeSetEnciphers =
+      (key l held b lent : List ℕ) → Bytes key → Bytes l → setAnswerFor nk (length key) l (length held) ≡ Accepted → Block b → length lent ≡ 16
+      → SetEnciphers key l held b lent
+
+  -- ---- one table: an accepted `make_table` leaves the part that is table n of what an accepted `make_set` leaves
+  abbrev pub TableOfSet : Type 0
+  TableOfSet =
+      (key l : List ℕ) (n : ℕ) (held one : List ℕ)
+      → setAnswerFor nk (length key) l (length held) ≡ Accepted → tableAnswerFor nk (length key) l n (length one) ≡ Accepted
+      → tableLeft nk key l n one ≡ tablePart (roundsOf nk) (setLeft nk key l held) n
+
+pub record MadeFor (nk : ℕ) : Type 0 where
+  pub given-by-set : GivenBySet nk
+  pub given-by-table : GivenByTable nk
+  pub set-of-given : SetOfGiven nk
+  pub table-of-given : TableOfGiven nk
+  pub set-enciphers : MadeSetEnciphers nk
+  pub table-of-set : TableOfSet nk
+
+-- AES-128: a key of 16 bytes, ten rounds.
+abbrev pub Made : Type 0
+Made = MadeFor 4

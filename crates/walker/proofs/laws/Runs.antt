@@ -1,0 +1,203 @@
+-- Laws, not definitions: a run writes what document 01 says for the block and the set that it has read, for any number nr of rounds, and no byte
+-- that it does not read would change it.
+-- Assumes nothing.
+use mathlib.Core.Bool.{false}
+use mathlib.Core.List.{List, [], _∷_, _++_, map}
+use mathlib.Core.Path.{_≡_, refl, sym, ap, _∙_}
+use Prim.Native.Nat.{ℕ, suc, _+_, _-_, _≤_, _<_}
+use native.Mathlib.Decide.{decLt}
+use native.Mathlib.Omega.{arith}
+use lib.Dec.{ltb}
+use borrow.Author.Tests.{lt-ltb, le-ltb}
+use lib.ListN.{length, take, length-append, length-take}
+use lib.Seq.{length-take-le, take-all}
+use Rattle.answers.specs.declared.Answer.{Answer}
+use Rattle.answers.specs.declared.Answer.the-variants.{Accepted, Refused}
+use Rattle.answers.specs.declared.Refusal.{Refusal}
+use Rattle.answers.specs.declared.Refusal.the-variants.{SetLength}
+use Rattle.answers.proofs.laws.Tests.{length-wrong, length-right, left-new}
+use Rattle.layout.specs.Stages.{shifted, lookups, setBytes, tablesBytes, tableOffset}
+use Rattle.layout.proofs.laws.Instance.{first-offset, ends-in-tables}
+use Rattle.layout.proofs.laws.Ranges.{by-stage}
+use Rattle.whitebox.specs.Calls.{Held, holding, changed, judgeStart, judgeStop, judgeFetch, started, advance, toStop, oneLookup, fetch, answer, handed, blockLeft, lastWalk}
+use Rattle.whitebox.specs.Demand2.{walkedOver}
+use Rattle.whitebox.proofs.laws.Calls.{start-count}
+use Rattle.whitebox.proofs.laws.Judged.{stop-right, count-right}
+use Rattle.evaluate.specs.Held.{held}
+use Rattle.evaluate.specs.Contracts.{Opens}
+use Rattle.evaluate.specs.declared.walk.Move.{Move}
+use Rattle.evaluate.specs.declared.walk.Opening.{Opening}
+use Rattle.streams.specs.Lines.{causeLine, answerLine}
+use Rattle.streams.specs.Written.{Written}
+use Rattle.streams.specs.Received.{Received, joined, Front}
+use Rattle.walker.specs.Tables.{OverTables, Short, OverInput}
+use Rattle.walker.specs.Writes.{blank, walkerWrites, lineOf, Runs, ReadsEnough}
+use Rattle.walker.proofs.laws.Tables.{received-more}
+use Rattle.walker.proofs.laws.Joined.{joined-more, joined-count, joined-bytes, joined-walk}
+
+same-bytes : (nr : ℕ) → tablesBytes nr ≡ setBytes nr
+unfolding setBytes
+same-bytes nr = refl
+
+module _ (nr : ℕ) (block : List ℕ) where
+  -- ---- what is written, by the judgements of block and set
+  block-refused : (set : List ℕ) {r : Refusal} → judgeStart (length block) ≡ Refused r → walkerWrites nr block set ≡ causeLine r
+  unfolding walkerWrites
+  block-refused set e = rw e
+
+  module _ (s : judgeStart (length block) ≡ Accepted) where
+    set-refused : (set : List ℕ) → (length set ≡ setBytes nr → ⊥) → walkerWrites nr block set ≡ causeLine SetLength
+    unfolding walkerWrites
+    set-refused set h = rw (s, ← length-wrong (setBytes nr) (length set) SetLength h)
+
+    pub set-right : (set : List ℕ) → length set ≡ setBytes nr → walkerWrites nr block set ≡ answerLine (walkedOver nr set block blank)
+    unfolding walkerWrites
+    set-right set h = rw (s, ← length-right (setBytes nr) (length set) SetLength h)
+
+  -- ---- from the start on
+  module _ {v : Held} (o : OverTables shifted nr (started block) v) where
+    same-count : v .state .count ≡ lastWalk shifted nr (started block) (map oneLookup (o .tables)) .state .count
+    same-count = ap (λ (w : Held). w .state .count) (o .walk)
+
+    none-before : tableOffset nr (started block .state .count) ≡ 0
+    none-before = ap (tableOffset nr) (start-count block) ∙ first-offset nr
+
+    bytes-read : length (joined (o .tables)) ≡ tableOffset nr (v .state .count)
+    bytes-read = omega (arith, none-before, joined-bytes shifted nr (started block) (o .tables) (o .accepted), ap (tableOffset nr) same-count)
+
+    -- A table that is too short.
+    short-set : {r : Refusal} (h : Short shifted nr v r) → length (joined (o .tables) ++ h .table) < setBytes nr
+    short-set h = go (decLt (v .state .count) (lookups nr))
+      where
+        go : Dec (v .state .count < lookups nr) → length (joined (o .tables) ++ h .table) < setBytes nr
+        go (yes l) =
+            omega (arith, h .less, bytes-read, ends-in-tables nr (v .state .count) l, same-bytes nr, length-append (joined (o .tables)) (h .table))
+        go (no l) = omega (arith, h .less, by-stage nr .size-none (v .state .count) (omega arith))
+
+    -- All tables.
+    module _ (c : v .state .count ≡ lookups nr) (extra : List ℕ) where
+      set-length : length (joined (o .tables) ++ extra) ≡ setBytes nr + length extra
+      set-length =
+          let all : tableOffset nr (lookups nr) ≡ tablesBytes nr = by-stage nr .offset-none (lookups nr) (omega arith) in
+          omega (arith, bytes-read, ap (tableOffset nr) c, same-bytes nr, length-append (joined (o .tables)) extra)
+
+      whole-walk : length extra ≡ 0 → handed shifted nr (toStop (joined (o .tables) ++ extra) (lookups nr)) (started block) ≡ v
+      unfolding handed
+      whole-walk z =
+          let set : List ℕ = joined (o .tables) ++ extra in
+          let w : Held = started block in
+          let tables : length (o .tables) ≡ lookups nr - w .state .count =
+          omega (arith, start-count block, same-count, joined-count shifted nr w (o .tables) (o .accepted))
+          in
+          let accepted : judgeStop nr (length set) (lookups nr) (w .state .count) ≡ Accepted =
+          sym (stop-right nr (length set) (lookups nr) (w .state .count) (omega (arith, set-length)) (omega arith) (omega (arith, start-count block)))
+          in
+          let reached : v .state ≡ advance shifted nr set (lookups nr - w .state .count) (w .state) =
+          ap (λ (u : Held). u .state) (o .walk) ∙ joined-walk shifted nr w (o .tables) (o .accepted) [] extra (sym none-before)
+          ∙ ap (λ (n : ℕ). advance shifted nr set n (w .state)) tables
+          in
+          sym (left-new _ (changed (advance shifted nr set (lookups nr - w .state .count)) w) w accepted) ∙ ap holding (sym reached)
+
+      module _ (s : judgeStart (length block) ≡ Accepted) where
+        line-right : length extra ≡ 0 → lineOf nr v (length extra) ≡ walkerWrites nr block (joined (o .tables) ++ extra)
+        unfolding lineOf answer
+        line-right z =
+            let accepted : judgeFetch nr (length blank) (v .state .count) ≡ Accepted = sym (count-right nr (length blank) (v .state .count) refl c) in
+            let none : ltb 0 (length extra) ≡ false = le-ltb 0 (length extra) (omega arith) in
+            let line : lineOf nr v (length extra) ≡ answerLine (blockLeft shifted nr (fetch blank) v) = rw (none, accepted) in
+            line ∙ ap (λ (w : Held). answerLine (blockLeft shifted nr (fetch blank) w)) (sym (whole-walk z))
+            ∙ sym (set-right s (joined (o .tables) ++ extra) (omega (arith, set-length)))
+
+        line-long : 0 < length extra → lineOf nr v (length extra) ≡ walkerWrites nr block (joined (o .tables) ++ extra)
+        unfolding lineOf
+        line-long h =
+            let line : lineOf nr v (length extra) ≡ causeLine SetLength = rw (lt-ltb 0 (length extra) h) in
+            line ∙ sym (set-refused s (joined (o .tables) ++ extra) (λ e. omega (arith, set-length)))
+
+        line-is : lineOf nr v (length extra) ≡ walkerWrites nr block (joined (o .tables) ++ extra)
+        line-is = go (decLt 0 (length extra))
+          where
+            go : Dec (0 < length extra) → lineOf nr v (length extra) ≡ walkerWrites nr block (joined (o .tables) ++ extra)
+            go (yes h) = line-long h
+            go (no h) = line-right (omega arith)
+
+-- ---- the ways out of a run, with what the calls ensure
+none-joined : length (joined []) ≡ 0
+unfolding joined
+none-joined = refl
+
+module _ (nr got : ℕ) (array : List ℕ) (f : Front got array) (l : length array ≡ 16) {o : Opening} (p : Opens (take got array) o) where
+  abbrev block : List ℕ
+  block = take got array
+
+  block-most : length block ≤ 16
+  block-most = omega (arith, f .counts, length-take got array)
+
+  pub runs-refused : {r : Refusal} {line left : List ℕ} {end : ℕ} → o .answer ≡ Refused r → Written (causeLine r) line end left → Runs nr line end left
+  runs-refused e w =
+      record {
+        block = block;
+        block-read = f .received;
+        block-most = block-most;
+        parts = [];
+        parts-read = tt;
+        parts-most = omega (arith, none-joined);
+        written = rw (block-refused nr block (joined []) (sym (p .answer) ∙ e)) w;
+      }
+
+  module _ (s : o .answer ≡ Accepted) {m : Move} (i : OverInput shifted nr (held (o .walk)) (m .answer) (held (m .walk))) where
+    started-right : judgeStart (length block) ≡ Accepted
+    started-right = sym (p .answer) ∙ s
+
+    over : OverInput shifted nr (started block) (m .answer) (held (m .walk))
+    over = rw (p .walk) at i
+
+    -- The tables and one part more.
+    with-last : (last : List ℕ) → Received last → length (joined (over .over .tables) ++ last) ≤ suc (setBytes nr) → {line left : List ℕ} {end : ℕ}
+        → Written (walkerWrites nr block (joined (over .over .tables) ++ last)) line end left → Runs nr line end left
+    with-last last c most w =
+        let same = joined-more (over .over .tables) last in
+        record {
+          block = block;
+          block-read = f .received;
+          block-most = block-most;
+          parts = over .over .tables ++ (last ∷ []);
+          parts-read = received-more (over .over .tables) last (over .over .read) c;
+          parts-most = rw same most;
+          written = rw same w;
+        }
+
+    pub runs-short : {r : Refusal} {line left : List ℕ} {end : ℕ} → m .answer ≡ Refused r → Written (causeLine r) line end left → Runs nr line end left
+    runs-short {r} e w =
+        let short = over .short r e in
+        let set = joined (over .over .tables) ++ short .table in
+        let less : length set < setBytes nr = short-set nr block (over .over) short in
+        with-last (short .table) (short .read) (omega arith)
+        (rw (set-refused nr block started-right set (λ (z : length set ≡ setBytes nr). omega arith), ← short .cause) w)
+
+    pub runs-whole : (rest : ℕ) (more : List ℕ) {line left : List ℕ} {end : ℕ} → m .answer ≡ Accepted → Front rest more → length more ≡ 1
+        → Written (lineOf nr (held (m .walk)) rest) line end left → Runs nr line end left
+    runs-whole rest more a c one w =
+        let extra : List ℕ = take rest more in
+        let all = over .whole a (omega (arith, start-count block)) in
+        let most : length (joined (over .over .tables) ++ extra) ≤ suc (setBytes nr) =
+        omega (arith, set-length nr block (over .over) all extra, c .counts) in
+        with-last extra (c .received) most (rw (← line-is nr block (over .over) all extra started-right, ← c .counts .1) w)
+
+-- ---- a set that is too long is refused for its length, whatever stands in it
+module _ (nr : ℕ) (block set : List ℕ) where
+  abbrev most : ℕ
+  most = setBytes nr
+
+  long-alike : (a : Answer) → judgeStart (length block) ≡ a → most < length set → walkerWrites nr block (take (suc most) set) ≡ walkerWrites nr block set
+  long-alike Accepted e h =
+      let cut : length (take (suc most) set) ≡ suc most = length-take-le (suc most) set h in
+      set-refused nr block e (take (suc most) set) (λ z. omega arith) ∙ sym (set-refused nr block e set (λ z. omega arith))
+  long-alike (Refused r) e h = block-refused nr block (take (suc most) set) e ∙ sym (block-refused nr block set e)
+
+  enough : Dec (most < length set) → walkerWrites nr block (take (suc most) set) ≡ walkerWrites nr block set
+  enough (yes h) = long-alike (judgeStart (length block)) refl h
+  enough (no h) = ap (walkerWrites nr block) (take-all (suc most) set (omega arith))
+
+pub reads-enough : ReadsEnough
+reads-enough nr block set = enough nr block set (decLt (setBytes nr) (length set))

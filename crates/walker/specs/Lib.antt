@@ -1,0 +1,3 @@
+pub mod Tables
+pub mod Writes
+pub mod Zeros

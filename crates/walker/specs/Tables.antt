@@ -1,0 +1,56 @@
+-- A walk over the tables that are read, one lookup at a time: document 01, "Programs", "The walker reads a block, then a set to the end of the input,
+-- holding one table". No contract can say which bytes a read gives, so a contract says that there are such tables. The mark `Received` on them says nothing
+-- more: it shows in the proofs that they come from reads (crate streams, specs/Received.antt). Definitions only.
+use mathlib.Core.List.{List, [], _∷_, map}
+use mathlib.Core.Path.{_≡_}
+use Prim.Native.Nat.{ℕ, _≤_, _<_}
+use lib.ListN.{length}
+use Rattle.answers.specs.declared.Answer.{Answer}
+use Rattle.answers.specs.declared.Answer.the-variants.{Accepted, Refused}
+use Rattle.answers.specs.declared.Refusal.{Refusal}
+use Rattle.answers.specs.declared.Refusal.the-variants.{SetLength}
+use Rattle.layout.specs.Stages.{lookups, tableSize}
+use Rattle.whitebox.specs.Calls.{Held, oneLookup, answer, handed, lastWalk}
+use Rattle.evaluate.specs.Contracts.{Moves}
+use Rattle.evaluate.specs.declared.walk.Move.{Move}
+use Rattle.evaluate.specs.declared.walk.Walk.{Walk}
+use Rattle.streams.specs.Received.{Received, AllReceived}
+
+-- Room for the largest table: "16 spread tables of 4,096 bytes".
+abbrev pub tableRoom : ℕ
+tableRoom = 4096
+
+-- `reads` is the byte that a position of a first half or of the exit reads, nr the number of rounds.
+module _ (reads : ℕ → ℕ) (nr : ℕ) where
+  -- One lookup, over what was read for its table: no more than that table's bytes.
+  pub record Next (w : Walk) (r : Move) : Type 0 where
+    pub table : List ℕ
+    pub read : Received table
+    pub most : length table ≤ tableSize nr (w .count)
+    pub moves : Moves reads nr (oneLookup table) w r
+
+  -- Moves of one lookup over the tables, one after the other, are all accepted.
+  abbrev pub AllAccepted : Held → List (List ℕ) → Type 0
+  AllAccepted w [] = Unit {0}
+  AllAccepted w (t ∷ ts) = (answer reads nr (oneLookup t) w ≡ Accepted) × AllAccepted (handed reads nr (oneLookup t) w) ts
+
+  -- They took the walk w to w′.
+  pub record OverTables (w w′ : Held) : Type 0 where
+    pub tables : List (List ℕ)
+    pub read : AllReceived tables
+    pub accepted : AllAccepted w tables
+    pub walk : w′ ≡ lastWalk reads nr w (map oneLookup tables)
+
+  -- The next table is refused for its length, for it is too short: 9, "set or single table of wrong length".
+  pub record Short (w : Held) (r : Refusal) : Type 0 where
+    pub table : List ℕ
+    pub read : Received table
+    pub less : length table < tableSize nr (w .state .count)
+    pub answer : answer reads nr (oneLookup table) w ≡ Refused r
+    pub cause : r ≡ SetLength
+
+  -- The walk over the input: all lookups are made, or a table was too short. A refused move leaves the walk.
+  pub record OverInput (w : Held) (a : Answer) (w′ : Held) : Type 0 where
+    pub over : OverTables w w′
+    pub whole : a ≡ Accepted → w .state .count ≤ lookups nr → w′ .state .count ≡ lookups nr
+    pub short : (r : Refusal) → a ≡ Refused r → Short w′ r

@@ -1,0 +1,33 @@
+-- Laws, not definitions: the theorems of specs/Witness.antt.
+-- Assumes nothing.
+use mathlib.Core.List.{List}
+use mathlib.Core.Path.{sym, ap, _∙_}
+use Prim.Native.Nat.{ℕ}
+use native.Mathlib.Omega.{arith}
+use Rattle.aes.specs.Cipher.{encipherOf}
+use Rattle.aes.proofs.laws.Cipher.{encipher-block}
+use Rattle.bundle.proofs.laws.Built.{plain-built}
+use Rattle.bundle.proofs.laws.Frame.{sizes}
+use Rattle.judgement.proofs.laws.Witness.{ten-accepted}
+use Rattle.external.proofs.laws.Coding.{plain-coding}
+use Rattle.whitebox.specs.Bundles.{madeSet}
+use Rattle.whitebox.specs.Demand2.{walkedOver}
+use Rattle.whitebox.specs.Witness.{Witness, PlainEnciphers}
+use Rattle.whitebox.proofs.laws.Demands.{demand2}
+
+pub witness : Witness
+witness =
+    let built = plain-built 10 (omega (arith, sizes .low, sizes .high)) in
+    record {
+      plain = built .1;
+      bytes = built .0;
+      judged = ten-accepted;
+      given = λ key long key-bytes. record { long = long; key-bytes = key-bytes; bundle-bytes = built .0; judged = ten-accepted };
+    }
+
+pub plain-enciphers : PlainEnciphers
+plain-enciphers key l b lent given plain block room =
+    let walk = demand2 key l b lent (given .long) (given .key-bytes) (given .bundle-bytes) (given .judged) block room in
+    ap (λ (x : List ℕ). walkedOver 10 (madeSet 4 key l) x lent) (sym (plain-coding 10 l plain b block .input))
+    ∙ walk .coded
+    ∙ plain-coding 10 l plain (encipherOf 4 key b) (encipher-block 4 key b (given .key-bytes) block) .output

@@ -1,0 +1,28 @@
+-- A key and an accepted bundle for demands 2 and 3, so that they speak of something: the plain bundle's bytes. For a reader; proved in
+-- proofs/laws/Witness.antt.
+use mathlib.Core.List.{List}
+use mathlib.Core.Path.{_≡_}
+use Prim.Native.Nat.{ℕ, _*_}
+use lib.ListN.{length}
+use Rattle.answers.specs.declared.Answer.the-variants.{Accepted}
+use Rattle.bits.specs.Bytes.{Bytes, Block}
+use Rattle.aes.specs.Cipher.{encipherOf}
+use Rattle.bundle.specs.Built.{plainBundle}
+use Rattle.judgement.specs.Judge.{judge}
+use Rattle.whitebox.specs.Bundles.{madeSet}
+use Rattle.whitebox.specs.Cases.{PlainBundle}
+use Rattle.whitebox.specs.Demand2.{walkedOver}
+use Rattle.whitebox.specs.Demand3.{Given}
+
+pub record Witness : Type 0 where
+  -- The bytes are a plain bundle, and it is accepted.
+  pub plain : PlainBundle (plainBundle 10)
+  pub bytes : Bytes (plainBundle 10)
+  pub judged : judge 10 (plainBundle 10) ≡ Accepted
+  -- So with any key of 16 bytes it is what demand 3 asks for.
+  pub given : (key : List ℕ) → length key ≡ 4 * 4 → Bytes key → Given 4 key (plainBundle 10)
+
+-- Demand 2 over a plain bundle is FIPS 197 itself: its external encodings change nothing, so walking the set over a block gives the cipher block.
+abbrev pub PlainEnciphers : Type 0
+PlainEnciphers =
+    (key l b lent : List ℕ) → Given 4 key l → PlainBundle l → Block b → length lent ≡ 16 → walkedOver 10 (madeSet 4 key l) b lent ≡ encipherOf 4 key b
