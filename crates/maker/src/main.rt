@@ -37,7 +37,7 @@ fn run(memory: &mut [u8]) -> usize
 }
 
 // Reads, makes what is to be written, and writes it to standard output.
-fn work(memory: &mut [u8])
+fn write_out(memory: &mut [u8])
     requires { ⌜ length (now memory) ≡ tenSetBytes ⌝ }
 {
     let n = run(memory);
@@ -46,7 +46,7 @@ fn work(memory: &mut [u8])
 
 // Lends the array on as a slice: an array of this size can only be lent on from a function of its own.
 fn as_slice(set: &mut [u8; SET_BYTES]) {
-    work(set);
+    write_out(set);
 }
 
 fn main() {

@@ -1,9 +1,9 @@
--- `maker::work` ends and reads within its memory: what `run` left to be written is a front of it (`written-counts` of streams).
+-- `maker::write_out` ends and reads within its memory: what `run` left to be written is a front of it (`written-counts` of streams).
 -- Assumes nothing.
 use Rattle.streams.proofs.laws.Written.{written-counts}
 use borrow.Author.Needs.{needs}
-use Rattle.maker.proofs.work.Statement.{statement}
-use Rattle.maker.proofs.work.Tie as tie
+use Rattle.maker.proofs.write_out.Statement.{statement}
+use Rattle.maker.proofs.write_out.Tie as tie
 
 slice-reshare-prefix-send : tie.Need-slice-reshare-prefix-send
 slice-reshare-prefix-send c =
@@ -28,8 +28,8 @@ same-length c = search needs
 returns : tie.Need-returns
 returns c = search needs
 
-pub work-spec : {M : Type 1} → statement M
-work-spec =
+pub write-out-spec : {M : Type 1} → statement M
+write-out-spec =
     tie.close
     (tie.spec
     run-requires
