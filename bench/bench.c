@@ -1,4 +1,4 @@
-/* Measures tazhikko's calls against plain.c on the same input, after a check that both give the same bytes.
+/* Measures tazhikko's calls against bench/plain/ on the same input, for both ciphers, after a check that both sides give the same bytes.
  *
  * usage: bench < KEY_AND_BUNDLE      16 bytes of a key, then a good bundle
  *
@@ -12,19 +12,22 @@
 #include <string.h>
 #include <time.h>
 
-enum { ROUNDS = 101, SPREAD_TABLE = 496, XOR_TABLE = 512 };
+enum { ROUNDS = 101, CIPHERS = 2, SPREAD_TABLE = 496, XOR_TABLE = 512 };
 
 static uint8_t key[TAZHIKKO_KEY_BYTES];
 static uint8_t bundle[TAZHIKKO_BUNDLE_MAX_BYTES];
 static size_t bundle_len;
-static uint8_t our_set[TAZHIKKO_SET_BYTES], plain_set[TAZHIKKO_SET_BYTES];
+static uint8_t our_set[CIPHERS][TAZHIKKO_SET_BYTES], plain_set[CIPHERS][TAZHIKKO_SET_BYTES];
 static uint8_t our_table[4096], plain_table[4096];
 static uint8_t our_block[TAZHIKKO_BLOCK_BYTES], plain_block[TAZHIKKO_BLOCK_BYTES];
 
+/* The cipher at hand, TAZHIKKO_FORWARD or TAZHIKKO_INVERSE. */
+static uint64_t cipher;
+
 static void judge_ours(void) { tazhikko_judge_bundle(bundle, bundle_len); }
 static void judge_plain(void) { plain_judge_bundle(bundle, bundle_len); }
-static void set_ours(void) { tazhikko_make_set(key, sizeof key, bundle, bundle_len, our_set, sizeof our_set); }
-static void set_plain(void) { plain_make_set(key, bundle, bundle_len, plain_set); }
+static void set_ours(void) { tazhikko_make_set(cipher, key, sizeof key, bundle, bundle_len, our_set[cipher], TAZHIKKO_SET_BYTES); }
+static void set_plain(void) { plain_make_set(cipher, key, bundle, bundle_len, plain_set[cipher]); }
 
 static size_t table_bytes(size_t number)
 {
@@ -35,10 +38,10 @@ static size_t table_bytes(size_t number)
 
 static void make_ours(size_t number)
 {
-    tazhikko_make_table(key, sizeof key, bundle, bundle_len, number, our_table, table_bytes(number));
+    tazhikko_make_table(cipher, key, sizeof key, bundle, bundle_len, number, our_table, table_bytes(number));
 }
 
-static void make_plain(size_t number) { plain_make_table(key, bundle, bundle_len, number, plain_table); }
+static void make_plain(size_t number) { plain_make_table(cipher, key, bundle, bundle_len, number, plain_table); }
 static void spread_ours(void) { make_ours(SPREAD_TABLE); }
 static void spread_plain(void) { make_plain(SPREAD_TABLE); }
 static void xor_ours(void) { make_ours(XOR_TABLE); }
@@ -48,27 +51,32 @@ static void xor_plain(void) { make_plain(XOR_TABLE); }
 static void walk_ours(void)
 {
     uint8_t answer[TAZHIKKO_BLOCK_BYTES];
-    tazhikko_walk(our_set, sizeof our_set, our_block, sizeof our_block, answer, sizeof answer);
+    tazhikko_walk(cipher, our_set[cipher], TAZHIKKO_SET_BYTES, our_block, sizeof our_block, answer, sizeof answer);
     memcpy(our_block, answer, sizeof answer);
 }
 
 static void walk_plain(void)
 {
     uint8_t answer[TAZHIKKO_BLOCK_BYTES];
-    plain_walk(plain_set, plain_block, answer);
+    plain_walk(cipher, plain_set[cipher], plain_block, answer);
     memcpy(plain_block, answer, sizeof answer);
 }
 
 static const struct task {
     const char *what;
+    uint64_t cipher;
     void (*ours)(void), (*plain)(void);
     int calls; /* in one round */
 } TASKS[] = {
-    {"judge a bundle", judge_ours, judge_plain, 2},
-    {"make a set", set_ours, set_plain, 1},
-    {"make one spread table", spread_ours, spread_plain, 2},
-    {"make one XOR table", xor_ours, xor_plain, 2},
-    {"walk a block", walk_ours, walk_plain, 50},
+    {"judge a bundle", TAZHIKKO_FORWARD, judge_ours, judge_plain, 2},
+    {"make a set", TAZHIKKO_FORWARD, set_ours, set_plain, 1},
+    {"make one spread table", TAZHIKKO_FORWARD, spread_ours, spread_plain, 2},
+    {"make one XOR table", TAZHIKKO_FORWARD, xor_ours, xor_plain, 2},
+    {"walk a block", TAZHIKKO_FORWARD, walk_ours, walk_plain, 50},
+    {"inverse: make a set", TAZHIKKO_INVERSE, set_ours, set_plain, 1},
+    {"inverse: one spread table", TAZHIKKO_INVERSE, spread_ours, spread_plain, 2},
+    {"inverse: one XOR table", TAZHIKKO_INVERSE, xor_ours, xor_plain, 2},
+    {"inverse: walk a block", TAZHIKKO_INVERSE, walk_ours, walk_plain, 50},
 };
 
 enum { COUNT = sizeof TASKS / sizeof *TASKS };
@@ -98,12 +106,13 @@ static void check_tables(void)
     size_t offset = 0;
     set_ours();
     set_plain();
-    require(memcmp(our_set, plain_set, sizeof our_set) == 0, "set");
+    require(memcmp(our_set[cipher], plain_set[cipher], TAZHIKKO_SET_BYTES) == 0, "set");
     for (size_t n = 0; n < TAZHIKKO_TABLES; n++) {
         size_t bytes = table_bytes(n);
         make_ours(n);
         make_plain(n);
-        require(memcmp(our_table, our_set + offset, bytes) == 0 && memcmp(plain_table, plain_set + offset, bytes) == 0, "table");
+        require(memcmp(our_table, our_set[cipher] + offset, bytes) == 0, "our table");
+        require(memcmp(plain_table, plain_set[cipher] + offset, bytes) == 0, "plain table");
         offset += bytes;
     }
 }
@@ -137,12 +146,13 @@ static void measure(void)
         ours[i] = plain[i] = INFINITY;
     for (int round = 0; round < ROUNDS; round++)
         for (size_t i = 0; i < COUNT; i++) {
+            cipher = TASKS[i].cipher;
             ours[i] = lesser(ours[i], seconds(TASKS[i].ours, TASKS[i].calls));
             plain[i] = lesser(plain[i], seconds(TASKS[i].plain, TASKS[i].calls));
         }
-    printf("%-22s %12s %12s %8s\n", "microseconds", "ours", "plain C", "ratio");
+    printf("%-26s %12s %12s %8s\n", "microseconds", "ours", "plain C", "ratio");
     for (size_t i = 0; i < COUNT; i++)
-        printf("%-22s %12.1f %12.1f %8.2f\n", TASKS[i].what, 1e6 * ours[i], 1e6 * plain[i], ours[i] / plain[i]);
+        printf("%-26s %12.1f %12.1f %8.2f\n", TASKS[i].what, 1e6 * ours[i], 1e6 * plain[i], ours[i] / plain[i]);
 }
 
 int main(void)
@@ -151,8 +161,10 @@ int main(void)
         return 2;
     bundle_len = fread(bundle, 1, sizeof bundle, stdin);
     check_judgements();
-    check_tables();
-    check_walks();
+    for (cipher = 0; cipher < CIPHERS; cipher++) {
+        check_tables();
+        check_walks();
+    }
     measure();
     return 0;
 }

@@ -205,6 +205,8 @@ def chains(x, top):
             labelled(at, y, width, 28, words, fill, 12)
             at += width + 16
     text(at, top + 20 + 40 * len(CHAINS) - 21, "entry e = 16a + b stands in byte e/2, even e in the high half", color=FAINT)
+    text(x, top + 20 + 40 * len(CHAINS) + 14, "Of a forward set. In an inverse set position 4c+q reads byte 4((c−q) mod 4)+q; inverse S-box and InvMixColumns; round key 10 before "
+         "the first S-box, by the byte read; round key 10−r behind that of round r, by the position.", color=FAINT)
 
 
 def main():

@@ -14,8 +14,12 @@ extern "C" {
 #endif
 
 /* The version of these calls: 10,000 times the major number, 100 times the minor one, and the patch. Where the major number is another, a
- * call takes or answers something else. */
-#define TAZHIKKO_VERSION 10000
+ * call takes or answers something else. Since version 2, make_set, make_table and walk name a cipher as their first argument. */
+#define TAZHIKKO_VERSION 20000
+
+/* The ciphers of a set and of a walk: 0 is the forward one and any other number the inverse one. No number is refused. */
+#define TAZHIKKO_FORWARD 0
+#define TAZHIKKO_INVERSE 1
 
 /* Lengths in bytes. */
 #define TAZHIKKO_KEY_BYTES 16
@@ -55,13 +59,16 @@ uint64_t tazhikko_decode_output(const uint8_t *bundle, size_t bundle_len, const 
 uint64_t tazhikko_encipher(const uint8_t *key, size_t key_len, const uint8_t *block, size_t block_len, uint8_t *out, size_t out_len);
 uint64_t tazhikko_decipher(const uint8_t *key, size_t key_len, const uint8_t *block, size_t block_len, uint8_t *out, size_t out_len);
 
-/* The table set of a key and a bundle, or one table of it, into the lent memory. */
-uint64_t tazhikko_make_set(const uint8_t *key, size_t key_len, const uint8_t *bundle, size_t bundle_len, uint8_t *set, size_t set_len);
+/* The table set of a cipher, a key and a bundle, or one table of it, into the lent memory. */
+uint64_t tazhikko_make_set(
+    uint64_t cipher, const uint8_t *key, size_t key_len, const uint8_t *bundle, size_t bundle_len, uint8_t *set, size_t set_len);
 uint64_t tazhikko_make_table(
-    const uint8_t *key, size_t key_len, const uint8_t *bundle, size_t bundle_len, size_t number, uint8_t *table, size_t table_len);
+    uint64_t cipher, const uint8_t *key, size_t key_len, const uint8_t *bundle, size_t bundle_len, size_t number, uint8_t *table, size_t table_len);
 
-/* The walk of a set over a block under the input coding: the answer is the cipher block under the output coding. */
-uint64_t tazhikko_walk(const uint8_t *set, size_t set_len, const uint8_t *block, size_t block_len, uint8_t *answer, size_t answer_len);
+/* The walk of a set over a block under the input coding, for the cipher that the set was made for: the answer is what the cipher makes of the
+ * block, under the output coding. A set has no mark of its cipher, so a walk that names the other one is not refused; its answer means nothing. */
+uint64_t tazhikko_walk(
+    uint64_t cipher, const uint8_t *set, size_t set_len, const uint8_t *block, size_t block_len, uint8_t *answer, size_t answer_len);
 
 #ifdef __cplusplus
 }

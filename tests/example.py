@@ -35,9 +35,12 @@ def run(folder, program, **inputs):
 
 
 def due(key, bundle, block):
-    """Document 01's lowest cause, or OpenSSL's cipher block."""
+    """Document 01's lowest cause, or OpenSSL's cipher block and the block that OpenSSL reads from it."""
     refusal = (1, 0) if len(key) != 16 else wbref.judge_bundle(bundle) or ((10, 0) if len(block) != 16 else None)
-    return "refused %d %d\n" % refusal if refusal else openssl_aes.encipher(key, block).hex() + "\n"
+    if refusal:
+        return "refused %d %d\n" % refusal
+    cipher_block = openssl_aes.encipher(key, block)
+    return cipher_block.hex() + "\n" + openssl_aes.decipher(key, cipher_block).hex() + "\n"
 
 
 def main():

@@ -12,8 +12,11 @@ import sys
 import tempfile
 
 HERE = os.path.dirname(os.path.abspath(__file__))
+sys.path.insert(0, os.path.join(HERE, "reference"))
+import wbref
+
 PROGRAMS = sys.argv[1] if len(sys.argv) > 1 else os.path.join(HERE, "..", "target", "bin")
-SIZE = 770048
+SIZE = wbref.SET_LEN
 NOT_READ = b"a read from standard input failed\n"
 NOT_WRITTEN = b"a write to standard output failed or was cut short\n"
 

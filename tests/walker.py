@@ -14,7 +14,7 @@ HERE = os.path.dirname(os.path.abspath(__file__))
 sys.path.insert(0, os.path.join(HERE, "reference"))
 import wbref
 
-SIZE = 770048
+SIZE = wbref.SET_LEN
 WALKER = sys.argv[1] if len(sys.argv) > 1 else os.path.join(HERE, "..", "target", "bin", "walker")
 
 

@@ -2,9 +2,10 @@
 #ifndef LAYERS_H
 #define LAYERS_H
 
+#include <stdbool.h>
 #include <stddef.h>
 
-enum { LAYERS = 20 };
+enum { ROUNDS = 10, LAYERS = 2 * ROUNDS };
 
 typedef enum { ENTRY, FIRST, SECOND, EXIT } kind;
 
@@ -21,7 +22,7 @@ static inline layer layer_at(size_t n)
     if (n == 0)
         return (layer){ENTRY, 0, 16, 0, 32};
     if (n == LAYERS - 1)
-        return (layer){EXIT, 10, 16, 2512, 5056};
+        return (layer){EXIT, ROUNDS, 16, 2512, 5056};
     return (layer){n % 2 ? FIRST : SECOND, (n + 1) / 2, 4, 496 + 112 * (n - 1), 1024 + 224 * (n - 1)};
 }
 
@@ -55,10 +56,11 @@ static inline size_t standing_list(size_t n, size_t nibble)
     return sum_list(&before, nibble / (2 * before.word), before.word - 1, nibble % (2 * before.word));
 }
 
-/* The standing byte that spread lookup p reads. */
-static inline size_t source(kind k, size_t p)
+/* The standing byte that spread lookup p reads: by the row shift, or the inverse one. */
+static inline size_t source(bool inverse, kind k, size_t p)
 {
-    return k == FIRST || k == EXIT ? (p + 4 * (p % 4)) % 16 : p;
+    size_t row = p % 4;
+    return k == FIRST || k == EXIT ? (p + (inverse ? 12 : 4) * row) % 16 : p;
 }
 
 #endif

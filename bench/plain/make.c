@@ -5,6 +5,7 @@
 #include "plain.h"
 
 typedef struct {
+    bool inverse;
     const uint8_t *lists, *byte_matrices, *column_matrices, *input_matrix, *output_matrix;
     uint8_t round_keys[176];
     vector128 block[128]; /* the input matrix's inverse in the entry, the output matrix in the exit */
@@ -42,11 +43,33 @@ static inline void span(size_t word, uint8_t columns[8][16], uint8_t *words)
                 words[word * ((1u << k) + x) + t] = words[word * x + t] ^ columns[7 - k][t];
 }
 
+static uint8_t key_byte(const maker *m, size_t round, size_t j)
+{
+    return m->round_keys[16 * round + j];
+}
+
+/* The key byte before the S-box of a round, that of the byte j that is read. */
+static uint8_t key_before(const maker *m, size_t round, size_t j)
+{
+    if (!m->inverse)
+        return key_byte(m, round - 1, j);
+    return round == 1 ? key_byte(m, ROUNDS, j) : 0;
+}
+
+/* The key byte behind it, that of position p. */
+static uint8_t key_behind(const maker *m, size_t round, size_t p)
+{
+    if (m->inverse)
+        return key_byte(m, ROUNDS - round, p);
+    return round == ROUNDS ? key_byte(m, ROUNDS, p) : 0;
+}
+
 /* What the S-box answers in round r for a byte under matrix (r, j). */
 static void sbox_under_matrix(const maker *m, size_t round, size_t j, uint8_t bytes[256])
 {
     uint32_t inverse[8];
-    uint8_t key = m->round_keys[16 * (round - 1) + j];
+    uint8_t key = key_before(m, round, j);
+    const uint8_t *sbox = m->inverse ? INV_SBOX : SBOX;
     uint8_t columns[8][16];
     invert8(byte_matrix(m, round, j), inverse);
     for (int k = 0; k < 8; k++) {
@@ -57,13 +80,14 @@ static void sbox_under_matrix(const maker *m, size_t round, size_t j, uint8_t by
     }
     span(1, columns, bytes);
     for (int x = 0; x < 256; x++)
-        bytes[x] = SBOX[bytes[x] ^ key];
+        bytes[x] = sbox[bytes[x] ^ key];
 }
 
 /* Column k of the linear map that makes the words of spread table p: for bytes, or in FIRST and EXIT for what the S-box answers. */
 static void word_column(const maker *m, const layer *l, size_t p, int k, uint8_t column[16])
 {
     size_t q = p % 4, bit = 8 * p + (size_t)k;
+    const uint8_t *mix = m->inverse ? INV_MIX_COLUMN : MIX_COLUMN;
     uint8_t byte = (uint8_t)(0x80 >> k), mixed[4];
     switch (l->kind) {
     case ENTRY:
@@ -73,7 +97,7 @@ static void word_column(const maker *m, const layer *l, size_t p, int k, uint8_t
         break;
     case FIRST:
         for (size_t t = 0; t < 4; t++)
-            mixed[t] = times(MIX_COLUMN[(t + 4 - q) % 4], byte);
+            mixed[t] = times(mix[(t + 4 - q) % 4], byte);
         store32(column, product32(m->column, load32(mixed)));
         break;
     case SECOND:
@@ -122,7 +146,7 @@ static inline void encode_words(size_t word, const uint8_t *lists, const uint8_t
 static void spread_table(const maker *m, size_t n, const layer *l, size_t p, uint8_t *table)
 {
     uint8_t columns[8][16], words[4096], order[256], high[16], low[16];
-    size_t j = source(l->kind, p);
+    size_t j = source(m->inverse, l->kind, p);
     for (int k = 0; k < 8; k++)
         word_column(m, l, p, k, columns[k]);
     unpack_inverse(m->lists + 8 * standing_list(n, 2 * j), high);
@@ -130,7 +154,7 @@ static void spread_table(const maker *m, size_t n, const layer *l, size_t p, uin
     for (int e = 0; e < 256; e++)
         order[e] = (uint8_t)(high[e >> 4] << 4 | low[e & 15]);
     if (l->kind == FIRST || l->kind == EXIT) {
-        uint8_t bytes[256], key = l->kind == EXIT ? m->round_keys[160 + p] : 0;
+        uint8_t bytes[256], key = key_behind(m, l->round, p);
         sbox_under_matrix(m, l->round, j, bytes);
         for (int e = 0; e < 256; e++)
             order[e] = bytes[order[e]] ^ key;
@@ -156,13 +180,14 @@ static void xor_table(const maker *m, const layer *l, size_t group, size_t t, si
             table[8 * a + b] = (uint8_t)(images[sum[a] ^ next[2 * b]] << 4 | images[sum[a] ^ next[2 * b + 1]]);
 }
 
-static uint64_t start_maker(maker *m, const uint8_t *key, const uint8_t *bundle, size_t bundle_len)
+static uint64_t start_maker(maker *m, uint64_t cipher, const uint8_t *key, const uint8_t *bundle, size_t bundle_len)
 {
     const uint8_t *sections[SECTIONS];
     uint64_t refusal = plain_judge_bundle(bundle, bundle_len);
     if (refusal != 0)
         return refusal;
     find_sections(bundle, bundle_len, sections);
+    m->inverse = cipher != 0;
     m->lists = sections[0];
     m->byte_matrices = sections[1];
     m->column_matrices = sections[2];
@@ -172,10 +197,10 @@ static uint64_t start_maker(maker *m, const uint8_t *key, const uint8_t *bundle,
     return 0;
 }
 
-uint64_t plain_make_set(const uint8_t *key, const uint8_t *bundle, size_t bundle_len, uint8_t *set)
+uint64_t plain_make_set(uint64_t cipher, const uint8_t *key, const uint8_t *bundle, size_t bundle_len, uint8_t *set)
 {
     maker m;
-    uint64_t refusal = start_maker(&m, key, bundle, bundle_len);
+    uint64_t refusal = start_maker(&m, cipher, key, bundle, bundle_len);
     if (refusal != 0)
         return refusal;
     for (size_t n = 0; n < LAYERS; n++) {
@@ -196,10 +221,10 @@ uint64_t plain_make_set(const uint8_t *key, const uint8_t *bundle, size_t bundle
     return 0;
 }
 
-uint64_t plain_make_table(const uint8_t *key, const uint8_t *bundle, size_t bundle_len, size_t number, uint8_t *table)
+uint64_t plain_make_table(uint64_t cipher, const uint8_t *key, const uint8_t *bundle, size_t bundle_len, size_t number, uint8_t *table)
 {
     maker m;
-    uint64_t refusal = start_maker(&m, key, bundle, bundle_len);
+    uint64_t refusal = start_maker(&m, cipher, key, bundle, bundle_len);
     if (refusal != 0)
         return refusal;
     size_t n = layer_of_table(number);

@@ -1,4 +1,5 @@
-/* Document 01 in plain C, unproved: what tazhikko's calls are measured against. Lengths other than the bundle's are the caller's care. */
+/* Document 01 in plain C, unproved: what tazhikko's calls are measured against. Lengths other than the bundle's are the caller's care. The cipher is
+ * named as in tazhikko's calls: 0 forward, any other number inverse. */
 #ifndef PLAIN_H
 #define PLAIN_H
 
@@ -9,9 +10,9 @@
 uint64_t plain_judge_bundle(const uint8_t *bundle, size_t bundle_len);
 
 /* Both judge the bundle first and return what the judgement returns. */
-uint64_t plain_make_set(const uint8_t *key, const uint8_t *bundle, size_t bundle_len, uint8_t *set);
-uint64_t plain_make_table(const uint8_t *key, const uint8_t *bundle, size_t bundle_len, size_t number, uint8_t *table);
+uint64_t plain_make_set(uint64_t cipher, const uint8_t *key, const uint8_t *bundle, size_t bundle_len, uint8_t *set);
+uint64_t plain_make_table(uint64_t cipher, const uint8_t *key, const uint8_t *bundle, size_t bundle_len, size_t number, uint8_t *table);
 
-void plain_walk(const uint8_t *set, const uint8_t *block, uint8_t *answer);
+void plain_walk(uint64_t cipher, const uint8_t *set, const uint8_t *block, uint8_t *answer);
 
 #endif

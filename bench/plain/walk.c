@@ -4,11 +4,11 @@
 #include <string.h>
 
 /* One layer over its tables: standing is the block's bytes, as they are after it. */
-static inline const uint8_t *walk_layer(size_t word, kind k, const uint8_t *tables, uint8_t standing[16])
+static inline const uint8_t *walk_layer(size_t word, bool inverse, kind k, const uint8_t *tables, uint8_t standing[16])
 {
     uint8_t area[256];
     for (size_t p = 0; p < 16; p++) {
-        memcpy(area + word * p, tables + word * standing[source(k, p)], word);
+        memcpy(area + word * p, tables + word * standing[source(inverse, k, p)], word);
         tables += 256 * word;
     }
     for (size_t group = 0; group < 16 / word; group++) {
@@ -26,15 +26,24 @@ static inline const uint8_t *walk_layer(size_t word, kind k, const uint8_t *tabl
     return tables;
 }
 
-void plain_walk(const uint8_t *set, const uint8_t *block, uint8_t *answer)
+static inline void walk(bool inverse, const uint8_t *set, uint8_t standing[16])
+{
+    set = walk_layer(16, inverse, ENTRY, set, standing);
+    for (int r = 1; r < ROUNDS; r++) {
+        set = walk_layer(4, inverse, FIRST, set, standing);
+        set = walk_layer(4, inverse, SECOND, set, standing);
+    }
+    walk_layer(16, inverse, EXIT, set, standing);
+}
+
+/* The cipher is asked for once, so that the compiler makes a walk for each with the row shift worked out. */
+void plain_walk(uint64_t cipher, const uint8_t *set, const uint8_t *block, uint8_t *answer)
 {
     uint8_t standing[16];
     memcpy(standing, block, 16);
-    set = walk_layer(16, ENTRY, set, standing);
-    for (int r = 1; r <= 9; r++) {
-        set = walk_layer(4, FIRST, set, standing);
-        set = walk_layer(4, SECOND, set, standing);
-    }
-    walk_layer(16, EXIT, set, standing);
+    if (cipher == 0)
+        walk(false, set, standing);
+    else
+        walk(true, set, standing);
     memcpy(answer, standing, 16);
 }

@@ -13,6 +13,13 @@ pub const TABLES: usize = 3_008;
 
 pub type Block = [u8; 16];
 
+/// The cipher of a set and of a walk over it. A set has no mark of its cipher: a walk for the other one is not refused, and its answer means nothing.
+#[derive(Clone, Copy, Debug, PartialEq, Eq)]
+pub enum Cipher {
+    Forward = 0,
+    Inverse = 1,
+}
+
 /// Why a call is refused: the lowest cause that applies.
 #[derive(Clone, Copy, Debug, PartialEq, Eq)]
 pub enum Refusal {
@@ -36,6 +43,9 @@ pub enum Refusal {
 /// A call for C that reads two slices and writes a third.
 type Call = unsafe extern "C" fn(*const u8, usize, *const u8, usize, *mut u8, usize) -> u64;
 
+/// One that names a cipher first: 0 forward, any other number inverse.
+type CipherCall = unsafe extern "C" fn(u64, *const u8, usize, *const u8, usize, *mut u8, usize) -> u64;
+
 #[link(name = "host", kind = "static")]
 extern "C" {
     fn tazhikko_judge_bundle(bundle: *const u8, bundle_len: usize) -> u64;
@@ -45,8 +55,17 @@ extern "C" {
     fn tazhikko_decode_output(bundle: *const u8, bundle_len: usize, block: *const u8, block_len: usize, out: *mut u8, out_len: usize) -> u64;
     fn tazhikko_encipher(key: *const u8, key_len: usize, block: *const u8, block_len: usize, out: *mut u8, out_len: usize) -> u64;
     fn tazhikko_decipher(key: *const u8, key_len: usize, block: *const u8, block_len: usize, out: *mut u8, out_len: usize) -> u64;
-    fn tazhikko_make_set(key: *const u8, key_len: usize, bundle: *const u8, bundle_len: usize, set: *mut u8, set_len: usize) -> u64;
+    fn tazhikko_make_set(
+        cipher: u64,
+        key: *const u8,
+        key_len: usize,
+        bundle: *const u8,
+        bundle_len: usize,
+        set: *mut u8,
+        set_len: usize,
+    ) -> u64;
     fn tazhikko_make_table(
+        cipher: u64,
         key: *const u8,
         key_len: usize,
         bundle: *const u8,
@@ -55,7 +74,15 @@ extern "C" {
         table: *mut u8,
         table_len: usize,
     ) -> u64;
-    fn tazhikko_walk(set: *const u8, set_len: usize, block: *const u8, block_len: usize, answer: *mut u8, answer_len: usize) -> u64;
+    fn tazhikko_walk(
+        cipher: u64,
+        set: *const u8,
+        set_len: usize,
+        block: *const u8,
+        block_len: usize,
+        answer: *mut u8,
+        answer_len: usize,
+    ) -> u64;
 }
 
 /// The judgement of a bundle.
@@ -94,24 +121,27 @@ pub fn decipher(key: &[u8], block: &[u8]) -> Result<Block, Refusal> {
     to_block(tazhikko_decipher, key, block)
 }
 
-/// The table set of a key and a bundle.
-pub fn make_set(key: &[u8], bundle: &[u8]) -> Result<Vec<u8>, Refusal> {
+/// The table set of a cipher, a key and a bundle.
+pub fn make_set(cipher: Cipher, key: &[u8], bundle: &[u8]) -> Result<Vec<u8>, Refusal> {
     let mut set = vec![0; SET_BYTES];
-    on_slices(tazhikko_make_set, key, bundle, &mut set)?;
+    for_cipher(tazhikko_make_set, cipher as u64, key, bundle, &mut set)?;
     Ok(set)
 }
 
 /// One table of the set.
-pub fn make_table(key: &[u8], bundle: &[u8], number: usize) -> Result<Vec<u8>, Refusal> {
+pub fn make_table(cipher: Cipher, key: &[u8], bundle: &[u8], number: usize) -> Result<Vec<u8>, Refusal> {
     let mut table = vec![0; table_bytes(number)];
+    let (out, out_len) = (table.as_mut_ptr(), table.len());
     // SAFETY: three slices' pointers and lengths; the one that is written is borrowed alone.
-    answer(unsafe { tazhikko_make_table(key.as_ptr(), key.len(), bundle.as_ptr(), bundle.len(), number, table.as_mut_ptr(), table.len()) })?;
+    answer(unsafe { tazhikko_make_table(cipher as u64, key.as_ptr(), key.len(), bundle.as_ptr(), bundle.len(), number, out, out_len) })?;
     Ok(table)
 }
 
-/// The walk of a set over a block under the input coding, to the cipher block under the output coding.
-pub fn walk(set: &[u8], block: &[u8]) -> Result<Block, Refusal> {
-    to_block(tazhikko_walk, set, block)
+/// The walk of a set over a block under the input coding, to what the set's cipher makes of the block, under the output coding.
+pub fn walk(cipher: Cipher, set: &[u8], block: &[u8]) -> Result<Block, Refusal> {
+    let mut out = [0; 16];
+    for_cipher(tazhikko_walk, cipher as u64, set, block, &mut out)?;
+    Ok(out)
 }
 
 /// The length of a table, 0 for a number that no table has.
@@ -133,6 +163,11 @@ fn to_block(call: Call, first: &[u8], second: &[u8]) -> Result<Block, Refusal> {
 fn on_slices(call: Call, first: &[u8], second: &[u8], out: &mut [u8]) -> Result<(), Refusal> {
     // SAFETY: three slices' pointers and lengths; the one that is written is borrowed alone.
     answer(unsafe { call(first.as_ptr(), first.len(), second.as_ptr(), second.len(), out.as_mut_ptr(), out.len()) })
+}
+
+fn for_cipher(call: CipherCall, cipher: u64, first: &[u8], second: &[u8], out: &mut [u8]) -> Result<(), Refusal> {
+    // SAFETY: three slices' pointers and lengths; the one that is written is borrowed alone.
+    answer(unsafe { call(cipher, first.as_ptr(), first.len(), second.as_ptr(), second.len(), out.as_mut_ptr(), out.len()) })
 }
 
 fn answer(number: u64) -> Result<(), Refusal> {

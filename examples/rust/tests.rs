@@ -46,27 +46,51 @@ fn fips_197() {
     assert_eq!(decipher(&KEY, &CIPHER), Ok(BLOCK));
 }
 
-#[test]
-fn a_set_enciphers() {
+/// What the cipher of a set makes of a block, under both codings.
+fn leads(cipher: Cipher, from: Block, to: Block) {
     for plain in [true, false] {
         let bundle = bundle(plain);
         assert_eq!(judge_bundle(&bundle), Ok(()));
-        let set = make_set(&KEY, &bundle).unwrap();
-        let presented = encode_input(&bundle, &BLOCK).unwrap();
-        let answer = walk(&set, &presented).unwrap();
-        assert_eq!(presented == BLOCK, plain);
-        assert_eq!(answer == CIPHER, plain);
-        assert_eq!(decode_input(&bundle, &presented), Ok(BLOCK));
-        assert_eq!(decode_output(&bundle, &answer), Ok(CIPHER));
-        assert_eq!(encode_output(&bundle, &CIPHER), Ok(answer));
+        let set = make_set(cipher, &KEY, &bundle).unwrap();
+        let presented = encode_input(&bundle, &from).unwrap();
+        let answer = walk(cipher, &set, &presented).unwrap();
+        assert_eq!(presented == from, plain);
+        assert_eq!(answer == to, plain);
+        assert_eq!(decode_input(&bundle, &presented), Ok(from));
+        assert_eq!(decode_output(&bundle, &answer), Ok(to));
+        assert_eq!(encode_output(&bundle, &to), Ok(answer));
+    }
+}
+
+#[test]
+fn a_set_enciphers() {
+    leads(Cipher::Forward, BLOCK, CIPHER);
+}
+
+#[test]
+fn an_inverse_set_deciphers() {
+    leads(Cipher::Inverse, CIPHER, BLOCK);
+}
+
+#[test]
+fn any_other_number_is_the_inverse_cipher() {
+    let bundle = bundle(false);
+    let presented = encode_input(&bundle, &CIPHER).unwrap();
+    for number in [2, 7, 1 << 32, 1 << 63, u64::MAX] {
+        let (mut set, mut answer) = (vec![0; SET_BYTES], [0; 16]);
+        assert_eq!(for_cipher(tazhikko_make_set, number, &KEY, &bundle, &mut set), Ok(()));
+        assert_eq!(for_cipher(tazhikko_walk, number, &set, &presented, &mut answer), Ok(()));
+        assert_eq!(decode_output(&bundle, &answer), Ok(BLOCK));
     }
 }
 
 #[test]
 fn tables_make_up_the_set() {
     let bundle = bundle(false);
-    let tables: Vec<u8> = (0..TABLES).flat_map(|n| make_table(&KEY, &bundle, n).unwrap()).collect();
-    assert!(tables == make_set(&KEY, &bundle).unwrap());
+    for cipher in [Cipher::Forward, Cipher::Inverse] {
+        let tables: Vec<u8> = (0..TABLES).flat_map(|n| make_table(cipher, &KEY, &bundle, n).unwrap()).collect();
+        assert!(tables == make_set(cipher, &KEY, &bundle).unwrap());
+    }
 }
 
 #[test]
@@ -87,14 +111,16 @@ fn refused_calls() {
     let good = bundle(true);
     let faulty = without(STARTS[0], 8);
     let set = vec![0; SET_BYTES];
+    let (forward, inverse) = (Cipher::Forward, Cipher::Inverse);
     assert_eq!(encipher(&[], &[]), Err(Refusal::KeyLength));
     assert_eq!(decipher(&KEY, &BLOCK[1..]), Err(Refusal::BlockLength));
-    assert_eq!(make_set(&KEY[1..], &faulty), Err(Refusal::KeyLength));
-    assert_eq!(make_set(&KEY, &faulty), Err(Refusal::Encoding(0)));
-    assert_eq!(make_table(&KEY, &faulty, TABLES), Err(Refusal::Encoding(0)));
-    assert_eq!(make_table(&KEY, &good, TABLES), Err(Refusal::TableNumber));
+    assert_eq!(make_set(forward, &KEY[1..], &faulty), Err(Refusal::KeyLength));
+    assert_eq!(make_set(inverse, &KEY, &faulty), Err(Refusal::Encoding(0)));
+    assert_eq!(make_table(forward, &KEY, &faulty, TABLES), Err(Refusal::Encoding(0)));
+    assert_eq!(make_table(inverse, &KEY, &good, TABLES), Err(Refusal::TableNumber));
     assert_eq!(encode_input(&good, &[0; 17]), Err(Refusal::BlockLength));
-    assert_eq!(walk(&set[1..], &[]), Err(Refusal::SetLength));
-    assert_eq!(walk(&set, &[]), Err(Refusal::BlockLength));
-    assert_eq!(walk(&set, &BLOCK), Ok([0; 16]));
+    assert_eq!(walk(forward, &set[1..], &[]), Err(Refusal::SetLength));
+    assert_eq!(walk(inverse, &set, &[]), Err(Refusal::BlockLength));
+    assert_eq!(walk(forward, &set, &BLOCK), Ok([0; 16]));
+    assert_eq!(walk(inverse, &set, &BLOCK), Ok([0; 16]));
 }

@@ -128,6 +128,7 @@ static void read_sets(struct file file, struct cases *c)
         c->sets = grown(c->sets, c->set_count, sizeof *c->sets);
         struct set *s = &c->sets[c->set_count];
         s->bundle = number(&file);
+        s->inverse = number(&file) != 0;
         s->key = taken(&file, 16);
         s->content = string(&file);
     }
@@ -139,6 +140,7 @@ static void read_tables(struct file file, struct cases *c)
         c->tables = grown(c->tables, c->table_count, sizeof *c->tables);
         struct table *t = &c->tables[c->table_count];
         t->bundle = number(&file);
+        t->inverse = number(&file) != 0;
         t->key = taken(&file, 16);
         t->number = number(&file);
         t->content = string(&file);
@@ -150,9 +152,23 @@ static void read_walks(struct file file, struct cases *c)
     for (; more(&file); c->walks_count++) {
         c->walks = grown(c->walks, c->walks_count, sizeof *c->walks);
         struct walks *w = &c->walks[c->walks_count];
-        w->memory = string(&file);
-        w->count = number(&file);
-        w->blocks = taken(&file, 32 * w->count);
+        *w = (struct walks){.memory = string(&file)};
+        for (size_t left = number(&file); left > 0; left--) {
+            w->walks = grown(w->walks, w->count, sizeof *w->walks);
+            struct walk *walk = &w->walks[w->count++];
+            walk->inverse = number(&file) != 0;
+            walk->block = taken(&file, 16);
+            walk->answer = taken(&file, 16);
+        }
+    }
+}
+
+static void read_crossed(struct file file, struct cases *c)
+{
+    for (; more(&file); c->crossed_count++) {
+        c->crossed = grown(c->crossed, c->crossed_count, sizeof *c->crossed);
+        for (size_t i = 0; i < 2; i++)
+            c->crossed[c->crossed_count].bundles[i] = string(&file);
     }
 }
 
@@ -166,5 +182,6 @@ struct cases read_cases(const char *folder)
     read_sets(opened(folder, "sets"), &c);
     read_tables(opened(folder, "tables"), &c);
     read_walks(opened(folder, "walks"), &c);
+    read_crossed(opened(folder, "crossed"), &c);
     return c;
 }

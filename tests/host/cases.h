@@ -2,6 +2,7 @@
 #ifndef CASES_H
 #define CASES_H
 
+#include <stdbool.h>
 #include <stddef.h>
 #include <stdint.h>
 
@@ -41,21 +42,34 @@ struct coding {
 
 struct set {
     size_t bundle;
+    bool inverse; /* which cipher it is made for */
     const uint8_t *key;
     struct string content;
 };
 
 struct table {
     size_t bundle;
+    bool inverse;
     const uint8_t *key;
     size_t number;
     struct string content;
 };
 
+struct walk {
+    bool inverse; /* which cipher the walk is for, whatever the memory is */
+    const uint8_t *block;
+    const uint8_t *answer;
+};
+
 struct walks {
     struct string memory;
     size_t count;
-    const uint8_t *blocks; /* block and answer in turn */
+    struct walk *walks;
+};
+
+/* Two accepted bundles: the input coding of each is the output coding of the other. */
+struct crossed {
+    struct string bundles[2];
 };
 
 struct cases {
@@ -66,7 +80,8 @@ struct cases {
     struct set *sets;
     struct table *tables;
     struct walks *walks;
-    size_t bundle_count, judgement_count, place_count, coding_count, set_count, table_count, walks_count;
+    struct crossed *crossed;
+    size_t bundle_count, judgement_count, place_count, coding_count, set_count, table_count, walks_count, crossed_count;
 };
 
 /* Ends the program where a file is missing or cut short. */

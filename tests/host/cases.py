@@ -1,5 +1,5 @@
 #!/usr/bin/env python3
-"""Makes the cases of the host tests from the reference (tests/reference/wbref.py), never from the project's own code.
+"""Makes the cases of the host tests from the reference (tests/reference/) and OpenSSL, never from the project's own code.
 
 usage: tests/host/cases.py FOLDER SEED
 
@@ -8,10 +8,12 @@ bundles      an accepted bundle; the start and length of each of its six gaps; i
 judgements   a bundle; its judgement
 places       a table's offset in the set; its length
 codings      a number of a bundle; a number of CODINGS; a block; the coded block
-sets         a number of a bundle; a key; the set
-tables       a number of a bundle; a key; a number of a table; the table
-walks        memory as long as a set; how many walks; for each a block and the answer
-A judgement is what the calls for C return: 0, or the cause times 65,536 and the second number added.
+sets         a number of a bundle; a cipher; a key; the set
+tables       a number of a bundle; a cipher; a key; a number of a table; the table
+walks        memory as long as a set; how many walks; for each a cipher, a block and the answer
+crossed      two accepted bundles, the input coding of each the output coding of the other
+A judgement is the two numbers of a refusal, the cause first, or 0 and 0. A cipher is 0, forward, or 1, inverse: the tests name the inverse one by any
+number but 0.
 """
 import multiprocessing
 import os
@@ -21,11 +23,16 @@ import sys
 HERE = os.path.dirname(os.path.abspath(__file__))
 sys.path[:0] = [os.path.join(HERE, ".."), os.path.join(HERE, "..", "reference")]
 import bundle_cases
+import openssl_aes
+import tickets
 import wbref
 
+RULES = tickets.Rules(1)
+CIPHERS = (openssl_aes.encipher, openssl_aes.decipher)
 CODINGS = (("in", wbref.code), ("in", wbref.uncode), ("out", wbref.code), ("out", wbref.uncode))
 LONGEST = 65536
 FREE = LONGEST - bundle_cases.SHORTEST
+WHOLE = 4  # of so many bundles whole sets are made, of the others single tables
 ROUNDS = [496 + 224 * r for r in range(9)]
 FIRST_AND_LAST = [0, 15, 16, 495, 2512, 2527, 2528, 3007] + [n + k for n in ROUNDS for k in (0, 15, 16, 111, 112, 127, 128, 223)]
 
@@ -147,28 +154,75 @@ def codings(rng, bundles):
                 yield number(n) + number(k) + block + call(view, side, block)
 
 
+class Set:
+    """The whole set of a cipher, a key and the bundle of a number."""
+
+    def __init__(self, n, bundle, cipher, key):
+        self.bundle, self.view, self.cipher, self.key = n, wbref.Bundle(bundle), cipher, key
+        self.bytes = tickets.Maker(cipher, key, bundle).tables()
+
+    def record(self):
+        return number(self.bundle) + number(self.cipher) + self.key + string(self.bytes)
+
+    def answer(self, block):
+        """For its own cipher: what OpenSSL makes of the uncoded block, coded again."""
+        return wbref.code(self.view, "out", CIPHERS[self.cipher](self.key, wbref.uncode(self.view, "in", block)))
+
+
 def sets(rng, bundles):
-    """The whole sets of the first bundles; the plain one with the key of zeros."""
-    keys = [bytes(16)] + [rng.randbytes(16) for _ in range(3)]
+    """The whole sets of the first bundles for both ciphers; the plain one with the key of zeros."""
+    keys = [bytes(16)] + [rng.randbytes(16) for _ in range(1, WHOLE)]
     with multiprocessing.Pool() as pool:
-        made = pool.starmap(wbref.make_set, zip(keys, bundles))
-    return list(zip(keys, made))
+        return pool.starmap(Set, [(n, bundles[n], cipher, key) for n, key in enumerate(keys) for cipher in range(2)])
 
 
-def tables(rng, bundles, first):
-    """Single tables of the other bundles: the first and the last of each kind in each stage, and some between."""
-    for n in range(first, len(bundles)):
-        view, key = wbref.Bundle(bundles[n]), rng.randbytes(16)
-        for t in FIRST_AND_LAST + [rng.randrange(3008) for _ in range(30)]:
-            yield number(n) + key + number(t) + string(wbref.make_table(wbref.expand(key), view, wbref.LOOKS[t]))
+def tables(rng, bundles):
+    """Single tables of some bundles: the first and the last of each kind in each stage, and some between."""
+    for n, bundle in bundles:
+        for cipher in range(2):
+            key = rng.randbytes(16)
+            maker = tickets.Maker(cipher, key, bundle)
+            for t in FIRST_AND_LAST + [rng.randrange(3008) for _ in range(30)]:
+                yield number(n) + number(cipher) + key + number(t) + string(maker.table(t))
+
+
+def walked(memory, cipher, block):
+    answer = bytearray(16)
+    assert RULES.whole(memory, block, answer, cipher) == (0, 0)
+    return bytes(answer)
+
+
+def walks_record(memory, walks):
+    return string(memory) + number(len(walks)) + b"".join(number(cipher) + block + answer for cipher, block, answer in walks)
 
 
 def walks(rng, made):
-    """Walks over the sets, and over memory that no maker filled."""
-    memories = made + [bytes(wbref.SET_LEN), b"\xff" * wbref.SET_LEN] + [rng.randbytes(wbref.SET_LEN) for _ in range(4)]
-    for memory in memories:
-        presented = blocks(rng, 17)
-        yield string(memory) + number(len(presented)) + b"".join(b + wbref.walk_block(memory, b) for b in presented)
+    """Walks for both ciphers over the sets, and over memory that no maker filled. For a set, that of the other cipher is such memory."""
+    for s in made:
+        own = [(s.cipher, block, s.answer(block)) for block in blocks(rng, 17)]
+        other = [(1 - s.cipher, block, walked(s.bytes, 1 - s.cipher, block)) for block in blocks(rng, 3)]
+        yield walks_record(s.bytes, own + other)
+    for memory in [bytes(wbref.SET_LEN), b"\xff" * wbref.SET_LEN] + [rng.randbytes(wbref.SET_LEN) for _ in range(4)]:
+        yield walks_record(memory, [(cipher, block, walked(memory, cipher, block)) for cipher in range(2) for block in blocks(rng, 7)])
+
+
+# ---- crossed bundles -----------------------------------------------------------------------
+
+def across(rng, bundle):
+    """Another bundle, whose input coding is the output coding of this one, and the other way round."""
+    sections = wbref.random_sections(rng)
+    lists, _, _, before, behind = [bundle[offset : offset + length] for offset, length in wbref.pairs(bundle)]
+    outer = 32 * 8
+    sections[0] = lists[-outer:] + sections[0][outer:-outer] + lists[:outer]
+    sections[3:] = [behind, before]
+    return wbref.build_bundle(sections)
+
+
+def crossed(rng, bundles):
+    for bundle in bundles:
+        other = across(rng, bundle)
+        assert RULES.judge(other) == (0, 0)
+        yield string(bundle) + string(other)
 
 
 def write(folder, name, records):
@@ -187,9 +241,10 @@ def main():
     write(folder, "judgements", (string(b) + judged(b) for bundle in bundles[1:4] for b in judgements(rng, bundle)))
     write(folder, "places", (number(look.off) + number(look.size) for look in wbref.LOOKS))
     write(folder, "codings", codings(rng, bundles))
-    write(folder, "sets", (number(n) + key + string(s) for n, (key, s) in enumerate(made)))
-    write(folder, "tables", tables(rng, bundles, len(made)))
-    write(folder, "walks", walks(rng, [s for _, s in made]))
+    write(folder, "sets", (s.record() for s in made))
+    write(folder, "tables", tables(rng, list(enumerate(bundles))[WHOLE:]))
+    write(folder, "walks", walks(rng, made))
+    write(folder, "crossed", crossed(rng, bundles[:3]))
 
 
 if __name__ == "__main__":

@@ -9,7 +9,7 @@
 
 enum { GUARD = 64, GUARD_BYTE = 0xc3 };
 
-static uint8_t *room(size_t len)
+uint8_t *room(size_t len)
 {
     uint8_t *bytes = malloc(len);
     if (bytes == NULL) {

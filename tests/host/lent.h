@@ -10,6 +10,9 @@
 
 #include <stdbool.h>
 
+/* Memory of so many bytes. Ends the program where there is none. */
+uint8_t *room(size_t len);
+
 struct lent {
     uint8_t *bytes;
     size_t len;

@@ -11,6 +11,12 @@ uint64_t call(call_on_slices *f, const struct slices *s)
     return f(s->first.bytes, s->first.len, s->second.bytes, s->second.len, s->out.bytes, s->out.len);
 }
 
+uint64_t call_for(call_for_cipher *f, bool inverse, const struct slices *s, struct chance *chance)
+{
+    uint64_t cipher = cipher_number(inverse, chance);
+    return f(cipher, s->first.bytes, s->first.len, s->second.bytes, s->second.len, s->out.bytes, s->out.len);
+}
+
 size_t tries(const struct tests *t, size_t count)
 {
     return t->calls < count ? t->calls : count;
@@ -36,6 +42,7 @@ int main(int argc, char **argv)
     test_make_table(&t);
     test_walk(&t);
     test_demand2(&t);
+    test_round_trip(&t);
     printf("%lu checks; %lu groups passed, %lu failed\n", t.totals.calls, t.totals.passed, t.totals.failed);
     return t.totals.failed == 0 ? 0 : 1;
 }

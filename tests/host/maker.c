@@ -1,4 +1,4 @@
-/* make_set and make_table against the reference. */
+/* make_set and make_table of both ciphers against the reference. */
 #include "tests.h"
 
 #include "tazhikko.h"
@@ -24,7 +24,7 @@ static void one_set(struct tests *t, struct group *g, const struct set *set, str
         .out = lend_to_write(TAZHIKKO_SET_BYTES, shapes.out, &t->chance),
     };
     uint64_t due = lowest(key_and_bundle(&s, judgement), unless(s.out.len == TAZHIKKO_SET_BYTES, TAZHIKKO_SET_LENGTH));
-    check(g, &s, call(tazhikko_make_set, &s), due, set->content.bytes);
+    check(g, &s, call_for(tazhikko_make_set, set->inverse, &s, &t->chance), due, set->content.bytes);
 }
 
 void test_make_set(struct tests *t)
@@ -51,7 +51,8 @@ static void one_table(struct tests *t, struct group *g, const struct table *tabl
     };
     uint64_t due = lowest(key_and_bundle(&s, judgement), unless(exists, TAZHIKKO_TABLE_NUMBER));
     due = lowest(due, unless(s.out.len == table->content.len, TAZHIKKO_SET_LENGTH));
-    uint64_t returned = tazhikko_make_table(s.first.bytes, s.first.len, s.second.bytes, s.second.len, table->number, s.out.bytes, s.out.len);
+    uint64_t cipher = cipher_number(table->inverse, &t->chance);
+    uint64_t returned = tazhikko_make_table(cipher, s.first.bytes, s.first.len, s.second.bytes, s.second.len, table->number, s.out.bytes, s.out.len);
     check(g, &s, returned, due, table->content.bytes);
 }
 
@@ -59,7 +60,7 @@ static void one_table(struct tests *t, struct group *g, const struct table *tabl
 static struct table part(const struct tests *t, const struct set *set, size_t n)
 {
     const struct place *place = &t->cases.places[n];
-    return (struct table){set->bundle, set->key, n, {set->content.bytes + place->offset, place->len}};
+    return (struct table){set->bundle, set->inverse, set->key, n, {set->content.bytes + place->offset, place->len}};
 }
 
 static void tables_of_sets(struct tests *t, struct group *g)

@@ -41,23 +41,23 @@ lastBlock block (c ∷ cs) (s ∷ ss) = lastBlock (blockBehind c (s .block) bloc
 abbrev pub numbersOf : List Served → List ℕ
 numbersOf ss = map (λ (s : Served). returned (s .reply)) ss
 
-module _ (reads : ℕ → ℕ) (nr : ℕ) (set : List ℕ) where
+module _ (nr : ℕ) (set : List ℕ) where
   -- The calls that orders are, from the walk w on. The list follows the walk and the block, for a single lookup's table goes by the count and a
   -- fetch is lent the block as it then is.
   unfoldable pub callsOf : Held → List ℕ → List ℕ → List Call
   callsOf w block [] = []
   callsOf w block (o ∷ os) =
-      let c = callFor nr set o (w .state .count) block in c ∷ callsOf (handed reads nr c w) (blockBehind c (blockLeft reads nr c w) block) os
+      let c = callFor nr set o (w .state .count) block in c ∷ callsOf (handed nr c w) (blockBehind c (blockLeft nr c w) block) os
 
   -- ---- the contracts
   -- One order is served: the call that it is, as `move_to` and `move_one` answer or with the answer of `fetch` and the walk left, and the block.
   pub record OneServed (order : ℕ) (w : Walk) (lent : List ℕ) (r : Move) (left : List ℕ) : Type 0 where
-    pub moves : Moves reads nr (callFor nr set order (w .count) lent) w r
+    pub moves : Moves nr (callFor nr set order (w .count) lent) w r
     pub block :
-        left ≡ blockBehind (callFor nr set order (w .count) lent) (blockLeft reads nr (callFor nr set order (w .count) lent) (held w)) lent
+        left ≡ blockBehind (callFor nr set order (w .count) lent) (blockLeft nr (callFor nr set order (w .count) lent) (held w)) lent
 
   -- All of them: the last walk, in the place of each order the number that its reply is returned as, and the block.
   pub record AllServed (w : Walk) (orders lent : List ℕ) (r : Walk) (written left : List ℕ) : Type 0 where
-    pub walk : held r ≡ lastWalk reads nr (held w) (callsOf (held w) lent orders)
-    pub numbers : written ≡ numbersOf (serve reads nr (held w) (callsOf (held w) lent orders))
-    pub block : left ≡ lastBlock lent (callsOf (held w) lent orders) (serve reads nr (held w) (callsOf (held w) lent orders))
+    pub walk : held r ≡ lastWalk nr (held w) (callsOf (held w) lent orders)
+    pub numbers : written ≡ numbersOf (serve nr (held w) (callsOf (held w) lent orders))
+    pub block : left ≡ lastBlock lent (callsOf (held w) lent orders) (serve nr (held w) (callsOf (held w) lent orders))

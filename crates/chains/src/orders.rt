@@ -1,6 +1,5 @@
 // A list of calls as numbers: orders, served one after the other from a held walk over one lent memory.
 ghost use mathlib.Core.Path.{_≡_};
-ghost use Rattle.layout.specs.Stages.{shifted};
 ghost use Rattle.whitebox.specs.Calls.{tablePart};
 ghost use Rattle.chains.specs.Orders.{OneServed, AllServed};
 use answers::number;
@@ -35,7 +34,7 @@ fn table_part<'a>(set: &'a [u8], n: usize) -> &'a [u8]
 
 // One order: its answer, and the walk handed back or left.
 fn serve_one(walk: Walk, set: &[u8], order: u64, block: &mut [u8]) -> Move
-    ensures { λ r. ⌜ OneServed shifted 10 (now (set .entry)) order walk (now (block .entry)) r (now (block .exit)) ⌝ }
+    ensures { λ r. ⌜ OneServed 10 (now (set .entry)) order walk (now (block .entry)) r (now (block .exit)) ⌝ }
 {
     if order == ONE_LOOKUP {
         return move_one(walk, table_part(set, walk.count));
@@ -52,7 +51,7 @@ fn serve_one(walk: Walk, set: &[u8], order: u64, block: &mut [u8]) -> Move
 
 // All orders. In the place of each its answer's number is written, as the calls for C return it.
 pub fn serve_orders(walk: Walk, set: &[u8], orders: &mut [u64], block: &mut [u8]) -> Walk
-    ensures { λ r. ⌜ AllServed shifted 10 (now (set .entry)) walk (now (orders .entry)) (now (block .entry)) r (now (orders .exit)) (now (block .exit)) ⌝ }
+    ensures { λ r. ⌜ AllServed 10 (now (set .entry)) walk (now (orders .entry)) (now (block .entry)) r (now (orders .exit)) (now (block .exit)) ⌝ }
 {
     let mut w = walk;
     let mut i: usize = 0;

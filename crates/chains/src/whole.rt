@@ -1,6 +1,7 @@
-// There and back: a set is made, a block coded and walked over it, and the output coding and the cipher are taken off again.
+// There and back, by either cipher: a set is made, a block coded and walked over it, and the output coding and the cipher are taken off again.
 ghost use Rattle.chains.specs.Whole.{Presents, Walks, TakesOff, ThereAndBack};
 use aes::decipher;
+use aes::encipher;
 use answers::Answer;
 use evaluate::walk::fetch;
 use evaluate::walk::move_to;
@@ -11,10 +12,17 @@ use layout::stage::LOOKUPS;
 use tables::calls::make_set;
 
 // The set, and the block under the input coding.
-fn present(key: &[u8], bundle: &[u8], block: &[u8], set: &mut [u8], x: &mut [u8]) -> Answer
-    ensures { λ r. ⌜ Presents (now (key .entry)) (now (bundle .entry)) (now (block .entry)) (now (set .entry)) (now (x .entry)) r (now (set .exit)) (now (x .exit)) ⌝ }
+fn present(
+    cipher: u64,
+    key: &[u8],
+    bundle: &[u8],
+    block: &[u8],
+    set: &mut [u8],
+    x: &mut [u8],
+) -> Answer
+    ensures { λ r. ⌜ Presents cipher (now (key .entry)) (now (bundle .entry)) (now (block .entry)) (now (set .entry)) (now (x .entry)) r (now (set .exit)) (now (x .exit)) ⌝ }
 {
-    let made = make_set(key, bundle, set);
+    let made = make_set(cipher, key, bundle, set);
     let Answer::Accepted = made else {
         return made;
     };
@@ -22,10 +30,10 @@ fn present(key: &[u8], bundle: &[u8], block: &[u8], set: &mut [u8], x: &mut [u8]
 }
 
 // The walk from the block x over the whole set, and its answer block.
-fn walk_over(set: &[u8], x: &[u8], answer: &mut [u8]) -> Answer
-    ensures { λ r. ⌜ Walks (now (set .entry)) (now (x .entry)) (now (answer .entry)) r (now (answer .exit)) ⌝ }
+fn walk_over(cipher: u64, set: &[u8], x: &[u8], answer: &mut [u8]) -> Answer
+    ensures { λ r. ⌜ Walks cipher (now (set .entry)) (now (x .entry)) (now (answer .entry)) r (now (answer .exit)) ⌝ }
 {
-    let opening = start(x);
+    let opening = start(cipher, x);
     let started = opening.answer;
     let Answer::Accepted = started else {
         return started;
@@ -38,20 +46,25 @@ fn walk_over(set: &[u8], x: &[u8], answer: &mut [u8]) -> Answer
     fetch(end.walk, answer)
 }
 
-// The output coding and then the cipher taken off.
-fn take_off(key: &[u8], bundle: &[u8], coded: &[u8], again: &mut [u8]) -> Answer
-    ensures { λ r. ⌜ TakesOff (now (key .entry)) (now (bundle .entry)) (now (coded .entry)) (now (again .entry)) r (now (again .exit)) ⌝ }
+// The output coding and then the cipher taken off: the inverse cipher is taken off by enciphering.
+fn take_off(cipher: u64, key: &[u8], bundle: &[u8], coded: &[u8], again: &mut [u8]) -> Answer
+    ensures { λ r. ⌜ TakesOff cipher (now (key .entry)) (now (bundle .entry)) (now (coded .entry)) (now (again .entry)) r (now (again .exit)) ⌝ }
 {
     let mut t = [0u8; 16];
     let uncoded = decode_output(bundle, coded, &mut t);
     let Answer::Accepted = uncoded else {
         return uncoded;
     };
-    decipher(key, &t, again)
+    if cipher == 0 {
+        decipher(key, &t, again)
+    } else {
+        encipher(key, &t, again)
+    }
 }
 
 // All of it: the answer under the output coding, and the block again.
 pub fn there_and_back(
+    cipher: u64,
     key: &[u8],
     bundle: &[u8],
     block: &[u8],
@@ -59,16 +72,16 @@ pub fn there_and_back(
     coded: &mut [u8],
     again: &mut [u8],
 ) -> Answer
-    ensures { λ r. ⌜ ThereAndBack (now (key .entry)) (now (bundle .entry)) (now (block .entry)) (now (set .entry)) (now (coded .entry)) (now (again .entry)) r (now (set .exit)) (now (coded .exit)) (now (again .exit)) ⌝ }
+    ensures { λ r. ⌜ ThereAndBack cipher (now (key .entry)) (now (bundle .entry)) (now (block .entry)) (now (set .entry)) (now (coded .entry)) (now (again .entry)) r (now (set .exit)) (now (coded .exit)) (now (again .exit)) ⌝ }
 {
     let mut x = [0u8; 16];
-    let presented = present(key, bundle, block, set, &mut x);
+    let presented = present(cipher, key, bundle, block, set, &mut x);
     let Answer::Accepted = presented else {
         return presented;
     };
-    let walked = walk_over(set, &x, coded);
+    let walked = walk_over(cipher, set, &x, coded);
     let Answer::Accepted = walked else {
         return walked;
     };
-    take_off(key, bundle, coded, again)
+    take_off(cipher, key, bundle, coded, again)
 }

@@ -48,12 +48,12 @@ abbrev pub lastIn : Walk → List CallMade → Walk
 lastIn w [] = w
 lastIn w (m ∷ ms) = lastIn (walkAfter w m) ms
 
-module _ (reads : ℕ → ℕ) (nr : ℕ) where
+module _ (nr : ℕ) where
   -- The call meets its contract.
   abbrev pub Meets : Walk → CallMade → Type 0
-  Meets w (moveTo set stop r) = Moves reads nr (toStop set stop) w r
-  Meets w (moveOne table r) = Moves reads nr (oneLookup table) w r
-  Meets w (fetched lent r left) = Fetches reads nr lent w r left
+  Meets w (moveTo set stop r) = Moves nr (toStop set stop) w r
+  Meets w (moveOne table r) = Moves nr (oneLookup table) w r
+  Meets w (fetched lent r left) = Fetches nr lent w r left
 
   -- Each call does, at the walk that it gets.
   abbrev pub Chain : Walk → List CallMade → Type 0
@@ -63,8 +63,8 @@ module _ (reads : ℕ → ℕ) (nr : ℕ) where
   -- A chain of any length, from any walk, over any memory: what its calls answer is what demand 3 has that list of calls answer, and the last
   -- walk is the one that it says.
   pub record Serves (w : Walk) (ms : List CallMade) : Type 0 where
-    pub answers : servedIn w ms ≡ serve reads nr (held w) (map callOf ms)
-    pub last : held (lastIn w ms) ≡ lastWalk reads nr (held w) (map callOf ms)
+    pub answers : servedIn w ms ≡ serve nr (held w) (map callOf ms)
+    pub last : held (lastIn w ms) ≡ lastWalk nr (held w) (map callOf ms)
 
   abbrev pub ChainServes : Type 0
   ChainServes = (w : Walk) (ms : List CallMade) → Chain w ms → Serves w ms

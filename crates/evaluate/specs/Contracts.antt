@@ -1,5 +1,5 @@
--- What the calls of src/walk.rt ensure: their contracts cite these records, at ten rounds and with the row shift `shifted`, and so does every
--- statement about calls in code. Each part is an equation with a definition of crate whitebox, specs/Calls.antt. Definitions only.
+-- What the calls of src/walk.rt ensure: their contracts cite these records, at ten rounds, and so does every statement about calls in code. Each part is an
+-- equation with a definition of crate whitebox, specs/Calls.antt. Definitions only.
 use mathlib.Core.List.{List}
 use mathlib.Core.Path.{_≡_}
 use Prim.Native.Nat.{ℕ}
@@ -11,18 +11,18 @@ use Rattle.evaluate.specs.declared.walk.Move.{Move}
 use Rattle.evaluate.specs.declared.walk.Opening.{Opening}
 use Rattle.evaluate.specs.declared.walk.Walk.{Walk}
 
--- `start` over this block hands back r.
-pub record Opens (block : List ℕ) (r : Opening) : Type 0 where
+-- `start` for the cipher c over this block hands back r.
+pub record Opens (c : ℕ) (block : List ℕ) (r : Opening) : Type 0 where
   pub answer : r .answer ≡ judgeStart (length block)
-  pub walk : held (r .walk) ≡ started block
+  pub walk : held (r .walk) ≡ started c block
 
-module _ (reads : ℕ → ℕ) (nr : ℕ) where
+module _ (nr : ℕ) where
   -- `move_to` or `move_one`, as the call c, of the walk w hands back r.
   pub record Moves (c : Call) (w : Walk) (r : Move) : Type 0 where
-    pub answer : r .answer ≡ answer reads nr c (held w)
-    pub walk : held (r .walk) ≡ handed reads nr c (held w)
+    pub answer : r .answer ≡ answer nr c (held w)
+    pub walk : held (r .walk) ≡ handed nr c (held w)
 
   -- `fetch` from the walk w into a block that held `lent` answers r, and the block is `left` afterwards. The walk stays with the caller.
   pub record Fetches (lent : List ℕ) (w : Walk) (r : Answer) (left : List ℕ) : Type 0 where
-    pub answer : r ≡ answer reads nr (fetch lent) (held w)
-    pub block : left ≡ blockLeft reads nr (fetch lent) (held w)
+    pub answer : r ≡ answer nr (fetch lent) (held w)
+    pub block : left ≡ blockLeft nr (fetch lent) (held w)

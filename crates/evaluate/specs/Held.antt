@@ -4,4 +4,4 @@ use Rattle.whitebox.specs.Calls.{Held, holding}
 use Rattle.evaluate.specs.declared.walk.Walk.{Walk}
 
 abbrev pub held : Walk → Held
-held w = holding (stateAt (w .count) (w .standing) (w .area))
+held w = holding (w .cipher) (stateAt (w .count) (w .standing) (w .area))

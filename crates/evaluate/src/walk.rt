@@ -2,7 +2,10 @@
 ghost use mathlib.Core.Path.{_≡_};
 ghost use Prim.Native.Nat.{_-_, _<_, _≤_};
 ghost use lib.ListN.{length};
-ghost use Rattle.layout.specs.Stages.{shifted, tenLookups, tenSetBytes};
+ghost use Rattle.answers.specs.declared.Answer.the-variants.{Refused};
+ghost use Rattle.network.specs.Lookups.{stateAt};
+ghost use Rattle.layout.specs.Ciphers.{kept, readsOf};
+ghost use Rattle.layout.specs.Stages.{tenLookups, tenSetBytes};
 ghost use Rattle.whitebox.specs.Calls as calls;
 ghost use Rattle.evaluate.specs.Held.{held};
 ghost use Rattle.evaluate.specs.Advanced.{Advanced};
@@ -11,14 +14,17 @@ use answers::Answer;
 use answers::Refusal;
 use bits::block::load;
 use bits::block::store;
+use layout::cipher::kept;
 use layout::stage::LOOKUPS;
 use layout::stage::SET_BYTES;
 use layout::stage::place_of;
 use layout::stage::width_of;
 use lookups::layer;
 
-// "A held walk is a count, 16 standing bytes and a spread area of 256 bytes, all by value."
+// "A held walk is a count, 16 standing bytes and a spread area of 256 bytes, all by value." It keeps the cipher that it was started for, "as 0 or 1 (any
+// other number there acts as 1, which an accepted move hands back)" (document 02, Ticket 1).
 pub struct Walk {
+    pub cipher: u64,
     pub count: usize,
     pub standing: [u8; 16],
     pub area: [u8; 256],
@@ -36,15 +42,39 @@ pub struct Move {
     pub walk: Walk,
 }
 
-// A walk that has the block as its standing bytes. "A refused start hands back a walk of zeros only."
-pub fn start(block: &[u8]) -> Opening
-    ensures { λ r. ⌜ Opens (now (block .entry)) r ⌝ }
+// The walk of a cipher at a count, with these standing bytes and this area: it keeps 0 or 1.
+fn walk_for(cipher: u64, count: usize, standing: [u8; 16], area: [u8; 256]) -> Walk
+    ensures { λ r. ⌜ held r ≡ calls.holding (kept cipher) (stateAt count standing area) ⌝ }
+{
+    let number = kept(cipher);
+    Walk {
+        cipher: number,
+        count: count,
+        standing: standing,
+        area: area,
+    }
+}
+
+// A refused move hands the walk back as it was given.
+fn refused(walk: Walk, refusal: Refusal) -> Move
+    ensures { λ r. ⌜ (r .answer ≡ Refused refusal) × (r .walk ≡ walk) ⌝ }
+{
+    Move {
+        answer: Answer::Refused(refusal),
+        walk: walk,
+    }
+}
+
+// A walk for a cipher that has the block as its standing bytes. "A refused start hands back a walk of zeros only."
+pub fn start(cipher: u64, block: &[u8]) -> Opening
+    ensures { λ r. ⌜ Opens cipher (now (block .entry)) r ⌝ }
 {
     let area = [0u8; 256];
     if block.len() != 16 {
         return Opening {
             answer: Answer::Refused(Refusal::BlockLength),
             walk: Walk {
+                cipher: 0,
                 count: 0,
                 standing: [0u8; 16],
                 area: area,
@@ -53,18 +83,21 @@ pub fn start(block: &[u8]) -> Opening
     }
     Opening {
         answer: Answer::Accepted,
-        walk: Walk {
-            count: 0,
-            standing: load(block),
-            area: area,
-        },
+        walk: walk_for(cipher, 0, load(block), area),
     }
 }
 
 // At count n, all lookups of a stage or half where it begins here and ends by the stop, else one. The count reached.
-fn step(standing: &mut [u8; 16], area: &mut [u8; 256], set: &[u8], n: usize, stop: usize) -> usize
+fn step(
+    cipher: u64,
+    standing: &mut [u8; 16],
+    area: &mut [u8; 256],
+    set: &[u8],
+    n: usize,
+    stop: usize,
+) -> usize
     requires { ⌜ (length (now set) ≡ tenSetBytes) × (n < stop) × (stop ≤ tenLookups) × (length (now standing) ≡ 16) × (length (now area) ≡ 256) ⌝ }
-    ensures { λ r. ⌜ Advanced shifted 10 (now (set .entry)) n stop r (now (standing .entry)) (now (area .entry)) (now (standing .exit)) (now (area .exit)) ⌝ }
+    ensures { λ r. ⌜ Advanced (readsOf cipher) 10 (now (set .entry)) n stop r (now (standing .entry)) (now (area .entry)) (now (standing .exit)) (now (area .exit)) ⌝ }
 {
     let p = place_of(n);
     let from = p.offset;
@@ -73,54 +106,42 @@ fn step(standing: &mut [u8; 16], area: &mut [u8; 256], set: &[u8], n: usize, sto
     let all = layer::lookups_of(width_of(stage));
     if index == 0 {
         if all <= stop - n {
-            layer::layer_in(standing, area, set, from, stage);
+            layer::layer_in(cipher, standing, area, set, from, stage);
             return n + all;
         }
     }
     let to = from + p.size;
-    layer::lookup_in(standing, area, &set[from..to], stage, index);
+    layer::lookup_in(cipher, standing, area, &set[from..to], stage, index);
     n + 1
 }
 
 // The lookups from the count up to the stop.
 fn advance(walk: Walk, set: &[u8], stop: usize) -> Walk
     requires { ⌜ (length (now set) ≡ tenSetBytes) × (stop ≤ tenLookups) × (walk .count ≤ stop) ⌝ }
-    ensures { λ r. ⌜ held r ≡ calls.changed (calls.advance shifted 10 (now (set .entry)) (stop - walk .count)) (held walk) ⌝ }
+    ensures { λ r. ⌜ held r ≡ calls.changed (calls.advance (readsOf (walk .cipher)) 10 (now (set .entry)) (stop - walk .count)) (held walk) ⌝ }
 {
+    let cipher = walk.cipher;
     let mut standing = walk.standing;
     let mut area = walk.area;
     let mut n = walk.count;
     while n < stop {
-        n = step(&mut standing, &mut area, set, n, stop);
+        n = step(cipher, &mut standing, &mut area, set, n, stop);
     }
-    Walk {
-        count: n,
-        standing: standing,
-        area: area,
-    }
+    walk_for(cipher, n, standing, area)
 }
 
 // A move to a stop.
 pub fn move_to(walk: Walk, set: &[u8], stop: usize) -> Move
-    ensures { λ r. ⌜ Moves shifted 10 (calls.toStop (now (set .entry)) stop) walk r ⌝ }
+    ensures { λ r. ⌜ Moves 10 (calls.toStop (now (set .entry)) stop) walk r ⌝ }
 {
     if set.len() != SET_BYTES {
-        return Move {
-            answer: Answer::Refused(Refusal::SetLength),
-            walk: walk,
-        };
+        return refused(walk, Refusal::SetLength);
     }
     if stop > LOOKUPS {
-        return Move {
-            answer: Answer::Refused(Refusal::Stop),
-            walk: walk,
-        };
+        return refused(walk, Refusal::Stop);
     }
     if stop < walk.count {
-        return Move {
-            answer: Answer::Refused(Refusal::Stop),
-            walk: walk,
-        };
+        return refused(walk, Refusal::Stop);
     }
     let w = advance(walk, set, stop);
     Move {
@@ -131,40 +152,31 @@ pub fn move_to(walk: Walk, set: &[u8], stop: usize) -> Move
 
 // A move of one lookup, with only that table lent.
 pub fn move_one(walk: Walk, table: &[u8]) -> Move
-    ensures { λ r. ⌜ Moves shifted 10 (calls.oneLookup (now (table .entry))) walk r ⌝ }
+    ensures { λ r. ⌜ Moves 10 (calls.oneLookup (now (table .entry))) walk r ⌝ }
 {
     let n = walk.count;
     if n >= LOOKUPS {
-        return Move {
-            answer: Answer::Refused(Refusal::Stop),
-            walk: walk,
-        };
+        return refused(walk, Refusal::Stop);
     }
     let p = place_of(n);
     if table.len() != p.size {
-        return Move {
-            answer: Answer::Refused(Refusal::SetLength),
-            walk: walk,
-        };
+        return refused(walk, Refusal::SetLength);
     }
+    let cipher = walk.cipher;
     let mut standing = walk.standing;
     let mut area = walk.area;
     let stage = p.stage;
     let index = p.index;
-    layer::lookup_in(&mut standing, &mut area, table, stage, index);
+    layer::lookup_in(cipher, &mut standing, &mut area, table, stage, index);
     Move {
         answer: Answer::Accepted,
-        walk: Walk {
-            count: n + 1,
-            standing: standing,
-            area: area,
-        },
+        walk: walk_for(cipher, n + 1, standing, area),
     }
 }
 
 // The answer: the standing bytes, once all lookups are made.
 pub fn fetch(walk: Walk, block: &mut [u8]) -> Answer
-    ensures { λ r. ⌜ Fetches shifted 10 (now (block .entry)) walk r (now (block .exit)) ⌝ }
+    ensures { λ r. ⌜ Fetches 10 (now (block .entry)) walk r (now (block .exit)) ⌝ }
 {
     if block.len() != 16 {
         return Answer::Refused(Refusal::BlockLength);

@@ -1,5 +1,6 @@
 // The inverse S-box of FIPS 197, section 5.3.2, as a table.
 ghost use mathlib.Core.Path.{_≡_};
+ghost use Rattle.bits.specs.Lists.{tabulate};
 ghost use Rattle.field.specs.Sbox.{invSboxOf};
 
 const INV_SBOX: [u8; 256] = [
@@ -267,4 +268,11 @@ pub fn inv_sub(x: u8) -> u8
 {
     let i = x as usize;
     INV_SBOX[i]
+}
+
+// The inverse S-box as a table, as `sbox_table` hands out the S-box.
+pub fn inv_sbox_table() -> [u8; 256]
+    ensures { λ r. ⌜ r ≡ tabulate 256 invSboxOf ⌝ }
+{
+    INV_SBOX
 }

@@ -2,6 +2,7 @@
 mod inv_sbox;
 mod sbox;
 
+pub use inv_sbox::inv_sbox_table;
 pub use inv_sbox::inv_sub;
 pub use sbox::sbox_table;
 pub use sbox::sub;

@@ -1,4 +1,4 @@
--- The call for C from a block to its answer: start, one move over the set to the last count, fetch. Definitions only.
+-- The call for C from a block to its answer, by a walk for the cipher c: start, one move over the set to the last count, fetch. Definitions only.
 use mathlib.Core.List.{List}
 use Prim.Native.Nat.{ℕ}
 use lib.ListN.{length}
@@ -14,5 +14,5 @@ walkAnswer set block answer =
     andThen (wantsLength (setBytes 10) set SetLength) (andThen (wantsLength 16 block BlockLength) (wantsLength 16 answer BlockLength))
 
 -- What the call leaves of the lent answer: demand 2's block, or the bytes that it held.
-unfoldable pub walkLeaves : List ℕ → List ℕ → List ℕ → List ℕ
-walkLeaves set block answer = ifAccepted (walkAnswer (length set) (length block) (length answer)) (walkedOver 10 set block answer) answer
+unfoldable pub walkLeaves : ℕ → List ℕ → List ℕ → List ℕ → List ℕ
+walkLeaves c set block answer = ifAccepted (walkAnswer (length set) (length block) (length answer)) (walkedOver c 10 set block answer) answer

@@ -28,17 +28,17 @@ fn judged(set: usize, block: usize, answer: usize) -> Answer
     Answer::Accepted
 }
 
-// From a block under the input coding to the answer under the output coding, over a whole set.
+// From a block under the input coding to the answer under the output coding, over a whole set, by a walk for a cipher: 0 forward, any other number inverse.
 #[no_mangle]
-pub extern "C" fn tazhikko_walk(set: &[u8], block: &[u8], answer: &mut [u8]) -> u64
+pub extern "C" fn tazhikko_walk(cipher: u64, set: &[u8], block: &[u8], answer: &mut [u8]) -> u64
     ensures answer { λ r. ⌜ r ≡ numberOf (walkAnswer (length (now (set .entry))) (length (now (block .entry))) (length (now (answer .entry)))) ⌝ }
-    ensures block { λ _. ⌜ now (answer .exit) ≡ walkLeaves (now (set .entry)) (now (block .entry)) (now (answer .entry)) ⌝ }
+    ensures block { λ _. ⌜ now (answer .exit) ≡ walkLeaves cipher (now (set .entry)) (now (block .entry)) (now (answer .entry)) ⌝ }
 {
     let a = judged(set.len(), block.len(), answer.len());
     let Answer::Accepted = a else {
         return number(a);
     };
-    let opening = start(block);
+    let opening = start(cipher, block);
     let moved = move_to(opening.walk, set, LOOKUPS);
     fetch(moved.walk, answer);
     number(a)

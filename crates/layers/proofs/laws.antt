@@ -4,4 +4,5 @@ pub mod Inverses
 pub mod Linear
 pub mod Numbers
 pub mod Values
+pub mod Keys
 pub mod Words

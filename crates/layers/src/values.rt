@@ -1,19 +1,18 @@
-// The byte behind the S-box, for each byte that a first half or the exit reads.
-ghost use mathlib.Core.Bool.{cond};
+// The byte behind the S-box of a cipher, for each byte that a first half or the exit reads.
 ghost use mathlib.Core.Path.{_≡_};
 ghost use Prim.Native.Nat.{_+_, _*_, _/_, _%_, _<_, _≤_};
 ghost use lib.Bits.{bitXor};
-ghost use lib.Dec.{eqb};
 ghost use lib.ListN.{length};
 ghost use Rattle.answers.specs.declared.Answer.the-variants.{Accepted};
 ghost use Rattle.bits.specs.Lists.{at, tabulate};
 ghost use Rattle.matrices.specs.Matrices.{product};
 ghost use Rattle.matrices.specs.Rows.{rowsOf};
-ghost use Rattle.field.specs.Sbox.{sboxOf};
+ghost use Rattle.field.specs.Sbox.{sboxOf, invSboxOf};
 ghost use Rattle.round.specs.Key.{keyOf};
 ghost use Rattle.judgement.specs.Judge.{judge};
+ghost use Rattle.layout.specs.Ciphers.{forCipher};
 ghost use Rattle.whitebox.specs.Bundles.{codingsOf};
-ghost use Rattle.whitebox.specs.Parts.{forward};
+ghost use Rattle.whitebox.specs.Parts.{partsFor};
 ghost use Rattle.whitebox.specs.Words.{substituted};
 ghost use Rattle.entries.specs.Spread.{nibbleByte};
 use crate::inverse;
@@ -21,7 +20,8 @@ use crate::words;
 use bits::encoding;
 use bundle::parts;
 use entries::spread;
-use layout::stage;
+use layout::cipher::reads_of;
+use layout::stage::ROUNDS;
 
 // The products of the bytes with one nibble, which add up to those of all bytes.
 fn nibble_products(inverse: &[u64], dst: &mut [u8])
@@ -44,14 +44,25 @@ fn substituted(products: &[u8], sbox: &[u8], before: u8, behind: u8, x: usize) -
     sbox[encoding::widened(y)] ^ behind
 }
 
+// The S-box, or the inverse S-box.
+fn sbox_of(cipher: u64) -> [u8; 256]
+    ensures { λ r. ⌜ r ≡ tabulate 256 (forCipher cipher sboxOf invSboxOf) ⌝ }
+{
+    if cipher == 0 {
+        field::sbox_table()
+    } else {
+        field::inv_sbox_table()
+    }
+}
+
 // Of every byte of `read`.
-fn substitute(inverse: &[u64], before: u8, behind: u8, read: &[u8], dst: &mut [u8])
+fn substitute(cipher: u64, inverse: &[u64], before: u8, behind: u8, read: &[u8], dst: &mut [u8])
     requires { ⌜ (16 ≤ length (now inverse)) × (length (now read) ≡ 256) × (length (now dst) ≡ 256) ⌝ }
-    ensures { λ _. ⌜ now (dst .exit) ≡ tabulate 256 (λ x. bitXor (sboxOf (bitXor (product 8 (rowsOf 8 (now (inverse .entry))) (at (now (read .entry)) x)) before)) behind) ⌝ }
+    ensures { λ _. ⌜ now (dst .exit) ≡ tabulate 256 (λ x. bitXor (forCipher cipher sboxOf invSboxOf (bitXor (product 8 (rowsOf 8 (now (inverse .entry))) (at (now (read .entry)) x)) before)) behind) ⌝ }
 {
     let mut products = [0u8; 32];
     nibble_products(inverse, &mut products);
-    let sbox = field::sbox_table();
+    let sbox = sbox_of(cipher);
     let mut x: usize = 0;
     while x < 256 {
         let y = encoding::widened(read[x]);
@@ -60,26 +71,65 @@ fn substitute(inverse: &[u64], before: u8, behind: u8, read: &[u8], dst: &mut [u
     }
 }
 
-// The first byte of round key 10, among those of all round keys.
-const LAST_KEY: usize = 160;
+// The bytes of a round key.
+const KEY_BYTES: usize = 16;
 
-// The key byte behind the S-box: byte p of round key 10 in round 10, else none.
-fn key_behind(keys: &[u8], r: usize, p: usize) -> u8
-    requires { ⌜ (length (now keys) ≡ 176) × (p < 16) ⌝ }
-    ensures { λ b. ⌜ b ≡ cond (eqb r 10) (at (keyOf (now (keys .entry)) 10) p) 0 ⌝ }
+// Byte j of round key k.
+fn key_byte(keys: &[u8], k: usize, j: usize) -> u8
+    requires { ⌜ (length (now keys) ≡ 176) × (k ≤ 10) × (j < 16) ⌝ }
+    ensures { λ b. ⌜ b ≡ at (keyOf (now (keys .entry)) k) j ⌝ }
 {
-    if r == 10 { keys[LAST_KEY + p] } else { 0 }
+    keys[KEY_BYTES * k + j]
 }
 
-// Round r, position p: "read byte j [..], multiply by the inverse of matrix (r, j), XOR byte j of round key r−1, S-box".
-pub fn behind_sbox(bundle: &[u8], keys: &[u8], r: usize, p: usize, read: &[u8], dst: &mut [u8])
-    requires { ⌜ (judge 10 (now bundle) ≡ Accepted) × (length (now keys) ≡ 176) × (1 ≤ r) × (r ≤ 10) × (p < 16) × (length (now read) ≡ 256) × (length (now dst) ≡ 256) ⌝ }
-    ensures { λ _. ⌜ now (dst .exit) ≡ tabulate 256 (λ x. substituted (forward 10 (now (keys .entry))) (codingsOf 10 (now (bundle .entry))) r p (at (now (read .entry)) x)) ⌝ }
+// The key byte before the S-box of round r, that of the byte j that is read: of round key r−1; for the inverse cipher, of round key 10 in round 1, else none.
+fn key_before(cipher: u64, keys: &[u8], r: usize, j: usize) -> u8
+    requires { ⌜ (length (now keys) ≡ 176) × (1 ≤ r) × (r ≤ 10) × (j < 16) ⌝ }
+    ensures { λ b. ⌜ b ≡ partsFor cipher 10 (now (keys .entry)) .before r j ⌝ }
 {
-    let k = 16 * (r - 1) + stage::shifted(p);
+    if cipher == 0 {
+        return key_byte(keys, r - 1, j);
+    }
+    if r == 1 { key_byte(keys, ROUNDS, j) } else { 0 }
+}
+
+// The key byte behind it, that of position p: of round key 10 in round 10, else none; for the inverse cipher, of round key 10−r.
+fn key_behind(cipher: u64, keys: &[u8], r: usize, p: usize) -> u8
+    requires { ⌜ (length (now keys) ≡ 176) × (r ≤ 10) × (p < 16) ⌝ }
+    ensures { λ b. ⌜ b ≡ partsFor cipher 10 (now (keys .entry)) .behind r p ⌝ }
+{
+    if cipher != 0 {
+        return key_byte(keys, ROUNDS - r, p);
+    }
+    if r == ROUNDS {
+        key_byte(keys, ROUNDS, p)
+    } else {
+        0
+    }
+}
+
+// Round r, position p: "read byte j [..], multiply by the inverse of matrix (r, j), XOR byte j of round key r−1, S-box"; for the inverse cipher with its own byte
+// read, key bytes and S-box.
+pub fn behind_sbox(
+    cipher: u64,
+    bundle: &[u8],
+    keys: &[u8],
+    r: usize,
+    p: usize,
+    read: &[u8],
+    dst: &mut [u8],
+)
+    requires { ⌜ (judge 10 (now bundle) ≡ Accepted) × (length (now keys) ≡ 176) × (1 ≤ r) × (r ≤ 10) × (p < 16) × (length (now read) ≡ 256) × (length (now dst) ≡ 256) ⌝ }
+    ensures { λ _. ⌜ now (dst .exit) ≡ tabulate 256 (λ x. substituted (partsFor cipher 10 (now (keys .entry))) (codingsOf 10 (now (bundle .entry))) r p (at (now (read .entry)) x)) ⌝ }
+{
+    let j = reads_of(cipher, p);
     let mut rows = [0u64; 16];
-    inverse::read(parts::byte_matrix_part(bundle, k), &mut rows, 1);
-    let before = keys[k];
-    let behind = key_behind(keys, r, p);
-    substitute(&rows, before, behind, read, dst);
+    inverse::read(
+        parts::byte_matrix_part(bundle, 16 * (r - 1) + j),
+        &mut rows,
+        1,
+    );
+    let before = key_before(cipher, keys, r, j);
+    let behind = key_behind(cipher, keys, r, p);
+    substitute(cipher, &rows, before, behind, read, dst);
 }

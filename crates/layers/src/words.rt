@@ -8,21 +8,24 @@ ghost use Rattle.bits.specs.Words.{value};
 ghost use Rattle.matrices.specs.Matrices.{product, matrixOf};
 ghost use Rattle.matrices.specs.Rows.{rowsOf, stored};
 ghost use Rattle.field.specs.Field.{mul};
-ghost use Rattle.round.specs.State.{mixRows, entry};
+ghost use Rattle.round.specs.State.{mixRows, invMixRows, entry};
 ghost use Rattle.bundle.specs.Format.{frame, partOf, tenByteMatrices};
+ghost use Rattle.layout.specs.Ciphers.{forCipher};
 ghost use Rattle.layers.specs.Layers.{spreadWord};
 use bits::vector;
 use bits::vector::Vector;
 use bundle::sections;
 use matrices::matrix;
+use round::state::INV_MIX;
 use round::state::MIX;
 
-// Row t, column q of MixColumns.
-fn coefficient(t: usize, q: usize) -> u8
+// Row t, column q of MixColumns, or of InvMixColumns.
+fn coefficient(cipher: u64, t: usize, q: usize) -> u8
     requires { ⌜ (t < 4) × (q < 4) ⌝ }
-    ensures { λ r. ⌜ r ≡ entry mixRows t q ⌝ }
+    ensures { λ r. ⌜ r ≡ entry (forCipher cipher mixRows invMixRows) t q ⌝ }
 {
-    MIX[4 * t + q]
+    let i = 4 * t + q;
+    if cipher == 0 { MIX[i] } else { INV_MIX[i] }
 }
 
 // The byte 2^k.
@@ -77,15 +80,15 @@ fn placed(n: usize, i: usize, y: u8) -> Vector
     vector::read(&b, 0, n)
 }
 
-// The byte y times column q of MixColumns.
-fn mixed(q: usize, y: u8) -> Vector
+// The byte y times column q of MixColumns, or of InvMixColumns.
+fn mixed(cipher: u64, q: usize, y: u8) -> Vector
     requires { ⌜ q < 4 ⌝ }
-    ensures { λ r. ⌜ value r ≡ number 4 (λ t. mul (entry mixRows t q) y) ⌝ }
+    ensures { λ r. ⌜ value r ≡ number 4 (λ t. mul (entry (forCipher cipher mixRows invMixRows) t q) y) ⌝ }
 {
     let mut b = [0u8; 16];
     let mut t: usize = 0;
     while t < 4 {
-        b[t] = field::product(coefficient(t, q), y);
+        b[t] = field::product(coefficient(cipher, t, q), y);
         t += 1;
     }
     vector::read(&b, 0, 4)
@@ -122,16 +125,16 @@ pub fn spread_basis(bundle: &[u8], m: &[u64], n: usize, i: usize, first: usize, 
     }
 }
 
-// First halves: the byte times column q of MixColumns, then by the column matrix that bytes write.
-pub fn mixed_basis(p: &[u8], q: usize, basis: &mut [u64])
+// First halves: the byte times column q of MixColumns, or of InvMixColumns, then by the column matrix that bytes write.
+pub fn mixed_basis(cipher: u64, p: &[u8], q: usize, basis: &mut [u64])
     requires { ⌜ (128 ≤ length (now p)) × (q < 4) × (length (now basis) ≡ 16) ⌝ }
-    ensures { λ _. ⌜ now (basis .exit) ≡ stored 8 (λ k. product 32 (matrixOf 4 (now (p .entry))) (number 4 (λ t. mul (entry mixRows t q) (2 ^ k)))) (now (basis .entry)) ⌝ }
+    ensures { λ _. ⌜ now (basis .exit) ≡ stored 8 (λ k. product 32 (matrixOf 4 (now (p .entry))) (number 4 (λ t. mul (entry (forCipher cipher mixRows invMixRows) t q) (2 ^ k)))) (now (basis .entry)) ⌝ }
 {
     let mut m = [0u64; 64];
     matrix::read(p, &mut m, 4);
     let mut k: usize = 0;
     while k < 8 {
-        let v = matrix::multiply(&m, 32, mixed(q, power(k)));
+        let v = matrix::multiply(&m, 32, mixed(cipher, q, power(k)));
         matrix::set_row(basis, k, v);
         k += 1;
     }

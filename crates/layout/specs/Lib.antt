@@ -1,3 +1,4 @@
 pub mod Stages
+pub mod Ciphers
 pub mod Cases
 pub mod Theorems

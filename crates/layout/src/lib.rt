@@ -1,2 +1,3 @@
-// Document 01's layout of a set: the stage, the table size and the offset of a lookup. The definitions are those of specs/.
+// Document 01's layout of a set: the stage, the table size and the offset of a lookup; and the two ciphers' row shifts. The definitions are those of specs/.
+pub mod cipher;
 pub mod stage;

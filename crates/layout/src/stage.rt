@@ -1,7 +1,9 @@
 // Where a lookup stands: document 01's table of stages.
 ghost use mathlib.Core.Path.{_≡_};
 ghost use Prim.Native.Nat.{_<_, _≤_};
-ghost use Rattle.layout.specs.Stages.{tenTablesBytes, entryLookups, roundLookups, placeOf, placeFrom, placeInRound, widthOf, shifted, sourceOf};
+ghost use Rattle.layout.specs.Stages.{tenTablesBytes, entryLookups, roundLookups, placeOf, placeFrom, placeInRound, widthOf, sourceOf};
+ghost use Rattle.layout.specs.Ciphers.{readsOf};
+use crate::cipher::reads_of;
 
 // The entry, the first and the second half of a round, the exit; or beyond the last lookup.
 pub enum Stage {
@@ -11,6 +13,9 @@ pub enum Stage {
     Exit,
     Beyond,
 }
+
+// The rounds of the cipher.
+pub const ROUNDS: usize = 10;
 
 // The lookups of a set of ten rounds, the bytes of its tables, and its bytes.
 pub const LOOKUPS: usize = 3008;
@@ -117,22 +122,15 @@ pub fn width_of(stage: Stage) -> usize
     }
 }
 
-// The row shift of FIPS 197: "position p = 4c+q: read byte j = 4((c+q) mod 4)+q".
-pub fn shifted(p: usize) -> usize
-    ensures { λ r. ⌜ (r ≡ shifted p) × (r < 16) ⌝ }
-{
-    4 * ((p / 4 + p % 4) % 4) + p % 4
-}
-
 // The standing byte that spread lookup p reads.
-pub fn source_of(stage: Stage, p: usize) -> usize
-    ensures { λ r. ⌜ (r ≡ sourceOf shifted stage p) × (p < 16 → r < 16) ⌝ }
+pub fn source_of(cipher: u64, stage: Stage, p: usize) -> usize
+    ensures { λ r. ⌜ (r ≡ sourceOf (readsOf cipher) stage p) × (p < 16 → r < 16) ⌝ }
 {
     match stage {
         Stage::Entry => p,
-        Stage::First(_) => shifted(p),
+        Stage::First(_) => reads_of(cipher, p),
         Stage::Second(_) => p,
-        Stage::Exit => shifted(p),
+        Stage::Exit => reads_of(cipher, p),
         Stage::Beyond => p,
     }
 }

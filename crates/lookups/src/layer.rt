@@ -6,7 +6,8 @@ ghost use lib.ListN.{length};
 ghost use Rattle.network.specs.Lookups.{xorArea, zeroArea};
 ghost use Rattle.network.specs.Order.{xors, layerLookups};
 ghost use Rattle.network.specs.Sizes.{layerBytes};
-ghost use Rattle.layout.specs.Stages.{widthOf, shapeAt, shifted};
+ghost use Rattle.layout.specs.Ciphers.{readsOf};
+ghost use Rattle.layout.specs.Stages.{widthOf, shapeAt};
 ghost use Rattle.lookups.specs.InPlace.{Fits, XorIn, LookedUp, spreadsIn, xorsIn, sumsIn};
 use crate::area;
 use layout::stage::ENTRY_LOOKUPS;
@@ -40,8 +41,9 @@ fn xor_in(area: &mut [u8; 256], table: &[u8], width: usize, x: usize)
     }
 }
 
-// Lookup j of a stage or half. "The last XOR of a stage or half copies the sums to the standing bytes and zeroes the area."
+// Lookup j of a stage or half, of a walk for a cipher. "The last XOR of a stage or half copies the sums to the standing bytes and zeroes the area."
 pub fn lookup_in(
+    cipher: u64,
     standing: &mut [u8; 16],
     area: &mut [u8; 256],
     table: &[u8],
@@ -49,11 +51,11 @@ pub fn lookup_in(
     j: usize,
 )
     requires { ⌜ Fits stage j (length (now table)) × (length (now area) ≡ 256) × (length (now standing) ≡ 16) ⌝ }
-    ensures { λ _. ⌜ LookedUp (shapeAt shifted stage) j (now (table .entry)) (now (standing .entry)) (now (area .entry)) (now (standing .exit)) (now (area .exit)) ⌝ }
+    ensures { λ _. ⌜ LookedUp (shapeAt (readsOf cipher) stage) j (now (table .entry)) (now (standing .entry)) (now (area .entry)) (now (standing .exit)) (now (area .exit)) ⌝ }
 {
     let width = width_of(stage);
     if j < 16 {
-        let i = source_of(stage, j);
+        let i = source_of(cipher, stage, j);
         area::spread(area, table, width, j, standing[i]);
         return;
     }
@@ -79,16 +81,23 @@ fn xor_pair_in(area: &mut [u8; 256], high: &[u8], low: &[u8], width: usize, y: u
 }
 
 // All spread lookups of a stage or half, whose tables begin at byte `from` of the set.
-fn spread_all(standing: &[u8; 16], area: &mut [u8; 256], set: &[u8], from: usize, stage: Stage)
+fn spread_all(
+    cipher: u64,
+    standing: &[u8; 16],
+    area: &mut [u8; 256],
+    set: &[u8],
+    from: usize,
+    stage: Stage,
+)
     requires { ⌜ (from + layerBytes (widthOf stage) ≤ length (now set)) × (length (now area) ≡ 256) × (length (now standing) ≡ 16) ⌝ }
-    ensures { λ _. ⌜ now (area .exit) ≡ spreadsIn (shapeAt shifted stage) (now (set .entry)) from (now (standing .entry)) 16 (now (area .entry)) ⌝ }
+    ensures { λ _. ⌜ now (area .exit) ≡ spreadsIn (shapeAt (readsOf cipher) stage) (now (set .entry)) from (now (standing .entry)) 16 (now (area .entry)) ⌝ }
     ensures { λ _. ⌜ length (now (area .exit)) ≡ 256 ⌝ }
 {
     let width = width_of(stage);
     let size = 256 * width;
     let mut p = 0;
     while p < 16 {
-        let i = source_of(stage, p);
+        let i = source_of(cipher, stage, p);
         let start = from + p * size;
         let end = start + size;
         area::spread(area, &set[start..end], width, p, standing[i]);
@@ -116,6 +125,7 @@ fn xor_all(area: &mut [u8; 256], set: &[u8], from: usize, width: usize)
 
 // All lookups of a stage or half, whose tables begin at byte `from` of the set.
 pub fn layer_in(
+    cipher: u64,
     standing: &mut [u8; 16],
     area: &mut [u8; 256],
     set: &[u8],
@@ -123,11 +133,11 @@ pub fn layer_in(
     stage: Stage,
 )
     requires { ⌜ (from + layerBytes (widthOf stage) ≤ length (now set)) × ((widthOf stage ≡ 4) ⊎ (widthOf stage ≡ 16)) × (length (now area) ≡ 256) × (length (now standing) ≡ 16) ⌝ }
-    ensures { λ _. ⌜ now (standing .exit) ≡ sumsIn (shapeAt shifted stage) (now (set .entry)) from (now (standing .entry)) (now (area .entry)) ⌝ }
+    ensures { λ _. ⌜ now (standing .exit) ≡ sumsIn (shapeAt (readsOf cipher) stage) (now (set .entry)) from (now (standing .entry)) (now (area .entry)) ⌝ }
     ensures { λ _. ⌜ now (area .exit) ≡ zeroArea ⌝ }
 {
     let width = width_of(stage);
-    spread_all(standing, area, set, from, stage);
+    spread_all(cipher, standing, area, set, from, stage);
     xor_all(area, set, from, width);
     area::take_sums(standing, area, width);
     area::clear(area);

@@ -13,9 +13,9 @@ use Rattle.streams.specs.Written.{Written}
 use Rattle.streams.specs.Received.{Received}
 
 -- "The maker .. writes the tables in order, or `refused N I` and a newline (cause, then its second number)": for the bytes read as the key, of nk
--- words, and as the bundle.
+-- words, and as the bundle. "The programs stay with the forward [cipher]" (document 02, Ticket 1).
 unfoldable pub makerWrites : ℕ → List ℕ → List ℕ → List ℕ
-makerWrites nk key bundle = orLine (judgedFor nk (length key) bundle) refusalLine (madeSet nk key bundle)
+makerWrites nk key bundle = orLine (judgedFor nk (length key) bundle) refusalLine (madeSet 0 nk key bundle)
 
 -- "The maker reads the key and then the bundle from standard input."
 unfoldable pub makerWritesOn : ℕ → List ℕ → List ℕ

@@ -6,6 +6,7 @@ ghost use Rattle.streams.specs.Written.{Written};
 ghost use Rattle.maker.specs.Writes.{makerWrites, Runs};
 use answers::Answer;
 use bundle::frame::LONGEST;
+use layout::cipher::FORWARD;
 use layout::stage::SET_BYTES;
 use streams::line::refusal_line;
 use streams::stream::receive;
@@ -17,7 +18,7 @@ fn make(key: &[u8], bundle: &[u8], memory: &mut [u8]) -> usize
     requires { ⌜ length (now memory) ≡ tenSetBytes ⌝ }
     ensures { λ r. ⌜ Written (makerWrites 4 (now (key .entry)) (now (bundle .entry))) (now (memory .entry)) r (now (memory .exit)) ⌝ }
 {
-    let answer = make_set(key, bundle, memory);
+    let answer = make_set(FORWARD, key, bundle, memory);
     let Answer::Refused(refusal) = answer else {
         return memory.len();
     };

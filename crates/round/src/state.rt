@@ -9,7 +9,7 @@ ghost use Rattle.round.specs.Key.{keyOf};
 // The matrices of MixColumns and InvMixColumns, row after row.
 pub const MIX: [u8; 16] = [2, 3, 1, 1, 1, 2, 3, 1, 1, 1, 2, 3, 3, 1, 1, 2];
 
-const INV_MIX: [u8; 16] = [14, 11, 13, 9, 9, 14, 11, 13, 13, 9, 14, 11, 11, 13, 9, 14];
+pub const INV_MIX: [u8; 16] = [14, 11, 13, 9, 9, 14, 11, 13, 13, 9, 14, 11, 11, 13, 9, 14];
 
 // Each byte through the S-box.
 pub fn sub_bytes(s: [u8; 16]) -> [u8; 16]

@@ -1,5 +1,5 @@
--- What the maker's calls answer, and what they leave in the lent memory: the set or the table, or what it held. Over keys of nk words, whose ciphers
--- have roundsOf nk rounds; the calls are those for AES-128, 4 words and ten rounds. Definitions only.
+-- What the maker's calls answer, and what they leave in the lent memory: the set or the table for the cipher c, or what it held. The cipher is no cause of
+-- refusal. Over keys of nk words, whose ciphers have roundsOf nk rounds; the calls are those for AES-128, 4 words and ten rounds. Definitions only.
 use mathlib.Core.Bool.{not}
 use mathlib.Core.List.{List}
 use Prim.Native.Nat.{ℕ, _*_}
@@ -28,12 +28,12 @@ module _ (nk : ℕ) where
       andThen (judgedFor key l)
       (andThen (refusedIf (not (ltb number (lookups (roundsOf nk)))) TableNumber) (wantsLength (tableSize (roundsOf nk) number) memory SetLength))
 
-  -- What the calls leave in a memory that held the bytes `held`: the contracts of `make_set` and `make_table` cite these.
-  abbrev pub setLeft : List ℕ → List ℕ → List ℕ → List ℕ
-  setLeft key l held = ifAccepted (setAnswerFor (length key) l (length held)) (madeSet nk key l) held
+-- What the calls for the cipher c leave in a memory that held the bytes `held`: the contracts of `make_set` and `make_table` cite these.
+abbrev pub setLeft : ℕ → ℕ → List ℕ → List ℕ → List ℕ → List ℕ
+setLeft c nk key l held = ifAccepted (setAnswerFor nk (length key) l (length held)) (madeSet c nk key l) held
 
-  abbrev pub tableLeft : List ℕ → List ℕ → ℕ → List ℕ → List ℕ
-  tableLeft key l n held = ifAccepted (tableAnswerFor (length key) l n (length held)) (madeTable nk key l n) held
+abbrev pub tableLeft : ℕ → ℕ → List ℕ → List ℕ → ℕ → List ℕ → List ℕ
+tableLeft c nk key l n held = ifAccepted (tableAnswerFor nk (length key) l n (length held)) (madeTable c nk key l n) held
 
 -- ---- the calls
 abbrev pub judged : ℕ → List ℕ → Answer

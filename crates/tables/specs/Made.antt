@@ -1,19 +1,18 @@
 -- The maker and the demands joined, for a reader: the statements. They are proved in proofs/laws/Made.antt. Demands 2 and 3 (crate whitebox) speak of
 -- `Given` keys and bundles and of the bytes `madeSet`, `madeTable`; here they are what the calls answer and leave, `setLeft` and `tableLeft`, which
--- their contracts cite. Over keys of nk words; the calls are those for 4.
+-- their contracts cite. Over ciphers c and keys of nk words; the calls are those for 4 words.
 use mathlib.Core.List.{List}
 use mathlib.Core.Path.{_≡_}
-use Prim.Native.Nat.{ℕ, _<_}
+use Prim.Native.Nat.{ℕ, suc, _<_}
 use lib.ListN.{length}
 use Rattle.answers.specs.declared.Answer.the-variants.{Accepted}
 use Rattle.bits.specs.Bytes.{Bytes, Block}
 use Rattle.round.specs.Key.{roundsOf}
-use Rattle.aes.specs.Cipher.{encipherOf, decipherOf}
-use Rattle.external.specs.Coding.{encodeInput, encodeOutput, decodeOutput}
 use Rattle.layout.specs.Stages.{lookups, setBytes, tableSize}
 use Rattle.whitebox.specs.Calls.{tablePart}
-use Rattle.whitebox.specs.Demand2.{walkedOver}
-use Rattle.whitebox.specs.Demand3.{Given}
+use Rattle.whitebox.specs.Demand2.{WalkIsCipher}
+use Rattle.whitebox.specs.Demand3.{Given, Presented}
+use Rattle.whitebox.specs.RoundTrip.{Crossed, GivesBack}
 use Rattle.tables.specs.Calls.{setAnswerFor, tableAnswerFor, setLeft, tableLeft}
 
 module _ (nk : ℕ) where
@@ -33,34 +32,35 @@ module _ (nk : ℕ) where
       (key l : List ℕ) (n : ℕ) → Given nk key l → n < lookups (roundsOf nk)
       → tableAnswerFor nk (length key) l n (tableSize (roundsOf nk) n) ≡ Accepted
 
-  -- ---- demand 2 of the bytes that an accepted `make_set` leaves: the walk over them gives FIPS 197's cipher block under the output coding
-  -- The answer of a walk over the memory that held `held` before the call, from block b under the input coding.
-  abbrev pub answerOver : List ℕ → List ℕ → List ℕ → List ℕ → List ℕ → List ℕ
-  answerOver key l held b lent = walkedOver (roundsOf nk) (setLeft nk key l held) (encodeInput (roundsOf nk) l b) lent
+  -- ---- demand 2 of the bytes that an accepted `make_set` leaves in a memory that held `held`: a walk over them for the cipher that the call named gives FIPS 197's
+  -- block under the output coding
+  abbrev pub MadeWalkIsCipher : Type 0
+  MadeWalkIsCipher =
+      (c : ℕ) (key l held b lent : List ℕ) → Bytes key → Bytes l → setAnswerFor nk (length key) l (length held) ≡ Accepted → Block b → length lent ≡ 16
+      → WalkIsCipher c nk key l (setLeft c nk key l held) b lent
 
-  pub record SetEnciphers (key l held b lent : List ℕ) : Type 0 where
-    pub coded : answerOver key l held b lent ≡ encodeOutput (roundsOf nk) l (encipherOf nk key b)
-    pub uncoded : decodeOutput (roundsOf nk) l (answerOver key l held b lent) ≡ encipherOf nk key b
-    pub deciphered : decipherOf nk key (decodeOutput (roundsOf nk) l (answerOver key l held b lent)) ≡ b
-
-  abbrev pub MadeSetEnciphers : Type 0
-  MadeSetEnciphers =
-      (key l held b lent : List ℕ) → Bytes key → Bytes l → setAnswerFor nk (length key) l (length held) ≡ Accepted → Block b → length lent ≡ 16
-      → SetEnciphers key l held b lent
+  -- ---- the round trip of the bytes that accepted calls leave, for the forward cipher and for the inverse one, which any numbers but 0 name
+  abbrev pub MadeSetsGiveBack : Type 0
+  MadeSetsGiveBack =
+      (i i′ : ℕ) (key l l′ held held′ x lent lent′ : List ℕ) → Bytes key → Bytes l → Bytes l′
+      → setAnswerFor nk (length key) l (length held) ≡ Accepted → setAnswerFor nk (length key) l′ (length held′) ≡ Accepted
+      → Crossed (roundsOf nk) l l′ → Presented x → length lent ≡ 16 → length lent′ ≡ 16
+      → GivesBack (roundsOf nk) i (setLeft 0 nk key l held) (setLeft (suc i′) nk key l′ held′) x lent lent′
 
   -- ---- one table: an accepted `make_table` leaves the part that is table n of what an accepted `make_set` leaves
   abbrev pub TableOfSet : Type 0
   TableOfSet =
-      (key l : List ℕ) (n : ℕ) (held one : List ℕ)
+      (c : ℕ) (key l : List ℕ) (n : ℕ) (held one : List ℕ)
       → setAnswerFor nk (length key) l (length held) ≡ Accepted → tableAnswerFor nk (length key) l n (length one) ≡ Accepted
-      → tableLeft nk key l n one ≡ tablePart (roundsOf nk) (setLeft nk key l held) n
+      → tableLeft c nk key l n one ≡ tablePart (roundsOf nk) (setLeft c nk key l held) n
 
 pub record MadeFor (nk : ℕ) : Type 0 where
   pub given-by-set : GivenBySet nk
   pub given-by-table : GivenByTable nk
   pub set-of-given : SetOfGiven nk
   pub table-of-given : TableOfGiven nk
-  pub set-enciphers : MadeSetEnciphers nk
+  pub walk-is-cipher : MadeWalkIsCipher nk
+  pub sets-give-back : MadeSetsGiveBack nk
   pub table-of-set : TableOfSet nk
 
 -- AES-128: a key of 16 bytes, ten rounds.

@@ -1,4 +1,4 @@
-// The maker's calls on slices of any length.
+// The maker's calls on slices of any length, for a cipher: "0 forward, any other number inverse" (document 02, Ticket 1).
 ghost use mathlib.Core.Path.{_≡_};
 ghost use Prim.Native.Nat.{_<_};
 ghost use lib.ListN.{length};
@@ -16,22 +16,22 @@ use layers::inverses;
 use layout::stage;
 
 // The set of an accepted bundle.
-fn fill_set(key: &[u8], bundle: &[u8], memory: &mut [u8])
+fn fill_set(cipher: u64, key: &[u8], bundle: &[u8], memory: &mut [u8])
     requires { ⌜ (length (now key) ≡ 16) × (judge 10 (now bundle) ≡ Accepted) × (length (now memory) ≡ tenSetBytes) ⌝ }
-    ensures { λ _. ⌜ now (memory .exit) ≡ madeSet 4 (now (key .entry)) (now (bundle .entry)) ⌝ }
+    ensures { λ _. ⌜ now (memory .exit) ≡ madeSet cipher 4 (now (key .entry)) (now (bundle .entry)) ⌝ }
 {
     let keys = round::key::expand_key(load(key));
     let mut columns = [0u64; inverses::COLUMNS_WORDS];
     let mut input = [0u64; inverses::INPUT_WORDS];
     inverses::of_columns(bundle, &mut columns);
     inverses::of_input(bundle, &mut input);
-    set::write_all(bundle, &keys, &columns, &input, memory);
+    set::write_all(cipher, bundle, &keys, &columns, &input, memory);
 }
 
 // Table n of that set; no other inverse than its own is worked out.
-fn fill_table(key: &[u8], bundle: &[u8], n: usize, memory: &mut [u8])
+fn fill_table(cipher: u64, key: &[u8], bundle: &[u8], n: usize, memory: &mut [u8])
     requires { ⌜ (length (now key) ≡ 16) × (judge 10 (now bundle) ≡ Accepted) × (n < tenLookups) × (length (now memory) ≡ tableSize 10 n) ⌝ }
-    ensures { λ _. ⌜ now (memory .exit) ≡ madeTable 4 (now (key .entry)) (now (bundle .entry)) n ⌝ }
+    ensures { λ _. ⌜ now (memory .exit) ≡ madeTable cipher 4 (now (key .entry)) (now (bundle .entry)) n ⌝ }
 {
     let keys = round::key::expand_key(load(key));
     let place = stage::place_of(n);
@@ -39,7 +39,7 @@ fn fill_table(key: &[u8], bundle: &[u8], n: usize, memory: &mut [u8])
     let j = place.index;
     let mut inverse = [0u64; inverses::INPUT_WORDS];
     inverses::of_table(bundle, s, j, &mut inverse);
-    set::write_one(bundle, &keys, &inverse, n, memory);
+    set::write_one(cipher, bundle, &keys, &inverse, n, memory);
 }
 
 // Causes 1 to 7.
@@ -53,9 +53,9 @@ fn judged(key: &[u8], bundle: &[u8]) -> Answer
 }
 
 // The whole set, into the lent memory.
-pub fn make_set(key: &[u8], bundle: &[u8], memory: &mut [u8]) -> Answer
+pub fn make_set(cipher: u64, key: &[u8], bundle: &[u8], memory: &mut [u8]) -> Answer
     ensures answer { λ r. ⌜ r ≡ setAnswer (length (now (key .entry))) (now (bundle .entry)) (length (now (memory .entry))) ⌝ }
-    ensures bytes { λ _. ⌜ now (memory .exit) ≡ setLeft 4 (now (key .entry)) (now (bundle .entry)) (now (memory .entry)) ⌝ }
+    ensures bytes { λ _. ⌜ now (memory .exit) ≡ setLeft cipher 4 (now (key .entry)) (now (bundle .entry)) (now (memory .entry)) ⌝ }
 {
     let answer = judged(key, bundle);
     let Answer::Accepted = answer else {
@@ -64,14 +64,20 @@ pub fn make_set(key: &[u8], bundle: &[u8], memory: &mut [u8]) -> Answer
     if memory.len() != stage::SET_BYTES {
         return Answer::Refused(Refusal::SetLength);
     }
-    fill_set(key, bundle, memory);
+    fill_set(cipher, key, bundle, memory);
     answer
 }
 
 // One table, into the lent memory.
-pub fn make_table(key: &[u8], bundle: &[u8], number: usize, memory: &mut [u8]) -> Answer
+pub fn make_table(
+    cipher: u64,
+    key: &[u8],
+    bundle: &[u8],
+    number: usize,
+    memory: &mut [u8],
+) -> Answer
     ensures answer { λ r. ⌜ r ≡ tableAnswer (length (now (key .entry))) (now (bundle .entry)) number (length (now (memory .entry))) ⌝ }
-    ensures bytes { λ _. ⌜ now (memory .exit) ≡ tableLeft 4 (now (key .entry)) (now (bundle .entry)) number (now (memory .entry)) ⌝ }
+    ensures bytes { λ _. ⌜ now (memory .exit) ≡ tableLeft cipher 4 (now (key .entry)) (now (bundle .entry)) number (now (memory .entry)) ⌝ }
 {
     let answer = judged(key, bundle);
     let Answer::Accepted = answer else {
@@ -85,6 +91,6 @@ pub fn make_table(key: &[u8], bundle: &[u8], number: usize, memory: &mut [u8]) -
     if memory.len() != size {
         return Answer::Refused(Refusal::SetLength);
     }
-    fill_table(key, bundle, number, memory);
+    fill_table(cipher, key, bundle, number, memory);
     answer
 }

@@ -1,5 +1,6 @@
 // Reads orders from standard input, and writes what the calls of a walk answer over memory that a formula fills. An order is 8 bytes: its
-// kind, a small number k and a number n of six bytes. The expected output is made by a program of other authorship (tests/walk_cases.py).
+// kind, a small number k and a number n of six bytes; behind a start and a given walk stand 8 bytes of a cipher's number and the content. The
+// expected output is made by a program of other authorship (tests/walk_cases.py).
 ghost use Prim.Native.Nat.{_<_};
 use answers::Answer;
 use answers::cause;
@@ -54,9 +55,11 @@ fn changes(old: &[u8], new: &[u8]) {
     }
 }
 
-// The cause, the count and all that a call changed in the walk.
+// The cause, the cipher, the count and all that a call changed in the walk.
 fn report(answer: Answer, old: Walk, new: Walk) {
     io::print_decimal(STDOUT_FILENO, cause(answer) as u64);
+    io::write_all(STDOUT_FILENO, b" ");
+    io::print_decimal(STDOUT_FILENO, new.cipher);
     io::write_all(STDOUT_FILENO, b" ");
     io::print_decimal(STDOUT_FILENO, new.count as u64);
     let s = old.standing;
@@ -76,32 +79,56 @@ fn take(b: &mut [u8], n: usize) {
     }
 }
 
+fn three(a: u8, b: u8, c: u8) -> usize
+    ensures { λ r. ⌜ r < 16777216 ⌝ }
+{
+    (encoding::widened(a) * 256 + encoding::widened(b)) * 256 + encoding::widened(c)
+}
+
+fn four(a: u8, b: u8, c: u8, d: u8) -> usize
+    ensures { λ r. ⌜ r < 4294967296 ⌝ }
+{
+    three(a, b, c) * 256 + encoding::widened(d)
+}
+
+// The number of a cipher, the next 8 bytes of the input: any number of 64 bits.
+fn cipher_read() -> u64 {
+    let mut b = [0u8; 8];
+    io::read_full(STDIN_FILENO, &mut b);
+    let high = four(b[0], b[1], b[2], b[3]);
+    let low = four(b[4], b[5], b[6], b[7]);
+    (high * 4294967296 + low) as u64
+}
+
 // Starts over the first k bytes.
-fn start_over(walk: Walk, block: &[u8], k: usize) -> Walk {
+fn start_over(walk: Walk, cipher: u64, block: &[u8], k: usize) -> Walk {
     if block.len() < k {
         return walk;
     }
-    let o = start(&block[0..k]);
+    let o = start(cipher, &block[0..k]);
     let answer = o.answer;
     let w = o.walk;
     report(answer, walk, w);
     w
 }
 
-// Starts over a block of k bytes, the next of the input.
+// Starts for a cipher over a block of k bytes, the next of the input.
 fn started(walk: Walk, k: usize) -> Walk {
+    let cipher = cipher_read();
     let mut block = [0u8; 256];
     take(&mut block, k);
-    start_over(walk, &block, k)
+    start_over(walk, cipher, &block, k)
 }
 
 // A walk of any content: the next bytes of the input.
 fn given(walk: Walk, k: usize, n: usize) -> Walk {
+    let cipher = cipher_read();
     let mut standing = [0u8; 16];
     let mut area = [0u8; 256];
     io::read_full(STDIN_FILENO, &mut standing);
     io::read_full(STDIN_FILENO, &mut area);
     let w = Walk {
+        cipher: cipher,
         count: far(k, n),
         standing: standing,
         area: area,
@@ -210,15 +237,10 @@ fn order(walk: Walk, mem: &[u8], kind: u8, k: usize, n: usize) -> Walk {
     }
 }
 
-fn three(a: u8, b: u8, c: u8) -> usize
-    ensures { λ r. ⌜ r < 16777216 ⌝ }
-{
-    (encoding::widened(a) * 256 + encoding::widened(b)) * 256 + encoding::widened(c)
-}
-
 // Order after order, to the end of the input.
 fn run(mem: &[u8]) {
     let mut walk = Walk {
+        cipher: 0,
         count: 0,
         standing: [0u8; 16],
         area: [0u8; 256],

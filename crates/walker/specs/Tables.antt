@@ -20,33 +20,33 @@ use Rattle.streams.specs.Received.{Received, AllReceived}
 abbrev pub tableRoom : ℕ
 tableRoom = 4096
 
--- `reads` is the byte that a position of a first half or of the exit reads, nr the number of rounds.
-module _ (reads : ℕ → ℕ) (nr : ℕ) where
+-- Over nr rounds.
+module _ (nr : ℕ) where
   -- One lookup, over what was read for its table: no more than that table's bytes.
   pub record Next (w : Walk) (r : Move) : Type 0 where
     pub table : List ℕ
     pub read : Received table
     pub most : length table ≤ tableSize nr (w .count)
-    pub moves : Moves reads nr (oneLookup table) w r
+    pub moves : Moves nr (oneLookup table) w r
 
   -- Moves of one lookup over the tables, one after the other, are all accepted.
   abbrev pub AllAccepted : Held → List (List ℕ) → Type 0
   AllAccepted w [] = Unit {0}
-  AllAccepted w (t ∷ ts) = (answer reads nr (oneLookup t) w ≡ Accepted) × AllAccepted (handed reads nr (oneLookup t) w) ts
+  AllAccepted w (t ∷ ts) = (answer nr (oneLookup t) w ≡ Accepted) × AllAccepted (handed nr (oneLookup t) w) ts
 
   -- They took the walk w to w′.
   pub record OverTables (w w′ : Held) : Type 0 where
     pub tables : List (List ℕ)
     pub read : AllReceived tables
     pub accepted : AllAccepted w tables
-    pub walk : w′ ≡ lastWalk reads nr w (map oneLookup tables)
+    pub walk : w′ ≡ lastWalk nr w (map oneLookup tables)
 
   -- The next table is refused for its length, for it is too short: 9, "set or single table of wrong length".
   pub record Short (w : Held) (r : Refusal) : Type 0 where
     pub table : List ℕ
     pub read : Received table
     pub less : length table < tableSize nr (w .state .count)
-    pub answer : answer reads nr (oneLookup table) w ≡ Refused r
+    pub answer : answer nr (oneLookup table) w ≡ Refused r
     pub cause : r ≡ SetLength
 
   -- The walk over the input: all lookups are made, or a table was too short. A refused move leaves the walk.

@@ -7,7 +7,7 @@ use lib.Dec.{ltb}
 use lib.ListN.{length, take, replicate}
 use Rattle.answers.specs.Answers.{refusedIf, wantsLength, andThen}
 use Rattle.answers.specs.declared.Refusal.the-variants.{SetLength}
-use Rattle.layout.specs.Stages.{shifted, setBytes}
+use Rattle.layout.specs.Stages.{setBytes}
 use Rattle.whitebox.specs.Calls.{Held, judgeStart, fetch, answer, blockLeft}
 use Rattle.whitebox.specs.Demand2.{walkedOver}
 use Rattle.streams.specs.Lines.{orLine, causeLine, answerLine}
@@ -19,17 +19,17 @@ abbrev pub blank : List ℕ
 blank = replicate 16 0
 
 -- "It prints 32 lowercase hex digits and a newline, or `refused 10` (short block, where the set is not judged) or `refused 9` (set too short or
--- long) and a newline": for the bytes read as the block and as the set, over nr rounds.
+-- long) and a newline": for the bytes read as the block and as the set, over nr rounds. "The programs stay with the forward [cipher]" (document 02, Ticket 1).
 unfoldable pub walkerWrites : ℕ → List ℕ → List ℕ → List ℕ
 walkerWrites nr block set =
     orLine (andThen (judgeStart (length block)) (wantsLength (setBytes nr) (length set) SetLength)) causeLine
-    (answerLine (walkedOver nr set block blank))
+    (answerLine (walkedOver 0 nr set block blank))
 
 -- What it writes for a walk behind its last table, where `rest` bytes more were read: a set too long, a fetch that is refused, or the answer.
 unfoldable pub lineOf : ℕ → Held → ℕ → List ℕ
 lineOf nr w rest =
-    orLine (andThen (refusedIf (ltb 0 rest) SetLength) (answer shifted nr (fetch blank) w)) causeLine
-    (answerLine (blockLeft shifted nr (fetch blank) w))
+    orLine (andThen (refusedIf (ltb 0 rest) SetLength) (answer nr (fetch blank) w)) causeLine
+    (answerLine (blockLeft nr (fetch blank) w))
 
 -- A run leaves in the lent line the bytes that it writes for some block, of at most 16 bytes, and for some parts, of at most one byte more than a set: a table at
 -- a time, and what stands behind the last. Which bytes they are, and whether the input had more, no contract can say; the mark `Received` shows in the proof

@@ -2,7 +2,6 @@
 ghost use mathlib.Core.Path.{_≡_};
 ghost use Prim.Native.Nat.{_≤_};
 ghost use lib.ListN.{length};
-ghost use Rattle.layout.specs.Stages.{shifted};
 ghost use Rattle.evaluate.specs.Held.{held};
 ghost use Rattle.streams.specs.Lines.{lineRoom};
 ghost use Rattle.streams.specs.Written.{Written};
@@ -15,6 +14,7 @@ use evaluate::walk::Walk;
 use evaluate::walk::fetch;
 use evaluate::walk::move_one;
 use evaluate::walk::start;
+use layout::cipher::FORWARD;
 use layout::stage::LOOKUPS;
 use layout::stage::place_of;
 use streams::line::ROOM;
@@ -29,7 +29,7 @@ const TABLE_ROOM: usize = 4096;
 // Reads the table of the next lookup into the lent memory, and makes the lookup.
 fn over_next(walk: Walk, table: &mut [u8]) -> Move
     requires { ⌜ length (now table) ≡ tableRoom ⌝ }
-    ensures { λ r. ⌜ Next shifted 10 walk r ⌝ }
+    ensures { λ r. ⌜ Next 10 walk r ⌝ }
 {
     let n = walk.count;
     let p = place_of(n);
@@ -41,7 +41,7 @@ fn over_next(walk: Walk, table: &mut [u8]) -> Move
 // Makes the lookups over the tables as they are read, up to the last or to the first refusal.
 fn over_input(walk: Walk, table: &mut [u8]) -> Move
     requires { ⌜ length (now table) ≡ tableRoom ⌝ }
-    ensures { λ r. ⌜ OverInput shifted 10 (held walk) (r .answer) (held (r .walk)) ⌝ }
+    ensures { λ r. ⌜ OverInput 10 (held walk) (r .answer) (held (r .walk)) ⌝ }
 {
     let mut w = walk;
     while w.count < LOOKUPS {
@@ -84,7 +84,7 @@ fn run(line: &mut [u8]) -> usize
 {
     let mut block = [0u8; 16];
     let got = receive(&mut block);
-    let opening = start(&block[..got]);
+    let opening = start(FORWARD, &block[..got]);
     let opened = opening.answer;
     let walk = opening.walk;
     if let Answer::Refused(refusal) = opened {

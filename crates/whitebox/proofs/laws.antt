@@ -1,4 +1,8 @@
 pub mod States
+pub mod Bytewise
+pub mod Forward
+pub mod Inverse
+pub mod Ciphers
 pub mod Words
 pub mod Values
 pub mod Judged
@@ -7,8 +11,10 @@ pub mod Set
 pub mod InRange
 pub mod Bundles
 pub mod FreeBytes
+pub mod Named
 pub mod Joined
 pub mod Demands
+pub mod RoundTrip
 pub mod Cases
 pub mod Witness
 pub mod Zeros

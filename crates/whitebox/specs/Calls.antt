@@ -11,28 +11,34 @@ use Rattle.answers.specs.declared.Answer.{Answer}
 use Rattle.answers.specs.declared.Answer.the-variants.{Refused}
 use Rattle.answers.specs.declared.Refusal.the-variants.{SetLength, BlockLength, Stop, Unfinished}
 use Rattle.network.specs.Lookups.{State, stateAt, zeroArea, lookup}
+use Rattle.layout.specs.Ciphers.{kept, readsOf}
 use Rattle.layout.specs.Stages.{shapes, lookups, setBytes, tableSize, tableOffset}
 
 -- ---- the held walk
--- What lookups change of it is its state. What else a walk holds stands here beside the state, and no lookup changes it.
+-- What lookups change of it is its state. Beside it stands the number of its cipher, which no lookup changes; an accepted move hands it back as 0 or 1 (`changed`).
 pub record Held : Type 0 where
+  pub cipher : ℕ
   pub state : State
 
--- The walk that holds a state; and a walk with its state changed by f, the rest kept.
-abbrev pub holding : State → Held
-holding s = record { state = s }
+-- The walk of a cipher's number and a state.
+abbrev pub holding : ℕ → State → Held
+holding c s = record { cipher = c; state = s }
 
+-- What an accepted move makes of a walk, whose state it changes by f: "a held walk keeps [the cipher] as 0 or 1 (any other number there acts as 1, which an
+-- accepted move hands back)" (document 02, Ticket 1).
 abbrev pub changed : (State → State) → Held → Held
-changed f w = record { state = f (w .state) }
+changed f w = holding (kept (w .cipher)) (f (w .state))
 
 -- ---- start
 -- 10: "block not 16 bytes, in or out".
 unfoldable pub judgeStart : ℕ → Answer
 judgeStart len = wantsLength 16 len BlockLength
 
--- "At the start the standing bytes are the presented block and the area is zero." "A refused start hands back a walk of zeros only."
-unfoldable pub started : List ℕ → Held
-started block = ifAccepted (judgeStart (length block)) (holding (stateAt 0 block zeroArea)) (holding (stateAt 0 (replicate 16 0) zeroArea))
+-- "At the start the standing bytes are the presented block and the area is zero." "A refused start hands back a walk of zeros only." The start names the
+-- cipher c.
+unfoldable pub started : ℕ → List ℕ → Held
+started c block =
+    ifAccepted (judgeStart (length block)) (holding (kept c) (stateAt 0 block zeroArea)) (holding 0 (stateAt 0 (replicate 16 0) zeroArea))
 
 -- ---- what is turned down, from lengths, the stop and the count
 -- 9: "set or single table of wrong length"; 11: "stop above 3,008 or below the count".
@@ -72,6 +78,8 @@ module _ (reads : ℕ → ℕ) (nr : ℕ) where
   advance mem zero s = s
   advance mem (suc n) s = advance mem n (step (tablePart nr mem (s .count)) s)
 
+-- The calls on a walk, whose lookups read as its cipher does.
+module _ (nr : ℕ) where
   unfoldable pub answer : Call → Held → Answer
   answer (toStop mem stop) w = judgeStop nr (length mem) stop (w .state .count)
   answer (oneLookup mem) w = judgeOne nr (length mem) (w .state .count)
@@ -83,8 +91,10 @@ module _ (reads : ℕ → ℕ) (nr : ℕ) where
 
   -- The walk handed back, or left: a refused call leaves it as it was, and so does a fetch.
   unfoldable pub handed : Call → Held → Held
-  handed (toStop mem stop) w = ifAccepted (judgeStop nr (length mem) stop (w .state .count)) (changed (advance mem (stop - w .state .count)) w) w
-  handed (oneLookup mem) w = ifAccepted (judgeOne nr (length mem) (w .state .count)) (changed (step mem) w) w
+  handed (toStop mem stop) w =
+      let reads = readsOf (w .cipher) in
+      ifAccepted (judgeStop nr (length mem) stop (w .state .count)) (changed (advance reads nr mem (stop - w .state .count)) w) w
+  handed (oneLookup mem) w = ifAccepted (judgeOne nr (length mem) (w .state .count)) (changed (step (readsOf (w .cipher)) nr mem) w) w
   handed (fetch block) w = w
 
   -- The lent block afterwards: the standing bytes, or what it held. A move is lent none.
@@ -100,12 +110,12 @@ pub record Served : Type 0 where
   pub walk : Held
   pub block : List ℕ
 
-module _ (reads : ℕ → ℕ) (nr : ℕ) where
+module _ (nr : ℕ) where
   unfoldable pub serve : Held → List Call → List Served
   serve w [] = []
   serve w (c ∷ cs) =
-      record { reply = reply reads nr c w; walk = handed reads nr c w; block = blockLeft reads nr c w } ∷ serve (handed reads nr c w) cs
+      record { reply = reply nr c w; walk = handed nr c w; block = blockLeft nr c w } ∷ serve (handed nr c w) cs
 
   unfoldable pub lastWalk : Held → List Call → Held
   lastWalk w [] = w
-  lastWalk w (c ∷ cs) = lastWalk (handed reads nr c w) cs
+  lastWalk w (c ∷ cs) = lastWalk (handed nr c w) cs

@@ -30,12 +30,13 @@ pub record Starred : Type 0 where
   pub table-3007 : tableOffset 10 3007 ≡ 769920
   -- "Rows 01, 02, 04 .. 80 hex, times 80 hex: 01."
   pub reversed : product 8 (0x01 ∷ 0x02 ∷ 0x04 ∷ 0x08 ∷ 0x10 ∷ 0x20 ∷ 0x40 ∷ 0x80 ∷ []) 0x80 ≡ 0x01
-  -- "Plain bundle, XOR table: first byte 01, last byte 10 (hex)." Every XOR table: those from the 17th lookup of a stage or half on.
-  pub xor-table : (key l : List ℕ) → PlainBundle l → (k : ℕ) → k < lookups 10 → 16 ≤ indexOf 10 k
-      → (at (madeTable 4 key l k) 0 ≡ 0x01) × (at (madeTable 4 key l k) 127 ≡ 0x10)
-  -- "Plain bundle, zero key, table 496, entry 0: c6 63 63 a5 (hex)."
+  -- "Plain bundle, XOR table: first byte 01, last byte 10 (hex)." Every XOR table, of either cipher: those from the 17th lookup of a
+  -- stage or half on.
+  pub xor-table : (c : ℕ) (key l : List ℕ) → PlainBundle l → (k : ℕ) → k < lookups 10 → 16 ≤ indexOf 10 k
+      → (at (madeTable c 4 key l k) 0 ≡ 0x01) × (at (madeTable c 4 key l k) 127 ≡ 0x10)
+  -- "Plain bundle, zero key, table 496, entry 0: c6 63 63 a5 (hex)." Of the forward cipher.
   pub entry-0 : (l : List ℕ) → PlainBundle l
-      → let t : List ℕ = madeTable 4 (replicate 16 0) l 496 in
+      → let t : List ℕ = madeTable 0 4 (replicate 16 0) l 496 in
       (at t 0 ≡ 0xc6) × (at t 1 ≡ 0x63) × (at t 2 ≡ 0x63) × (at t 3 ≡ 0xa5)
   -- "List 0 sends 0 and 1 to 0, no lower cause applies: refused, 4 with 0."
   pub list-0 : List0

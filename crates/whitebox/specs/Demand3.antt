@@ -1,5 +1,5 @@
 -- DEMAND 3, for a reader to hold against the mission and document 01, "Lists of calls"; proved in proofs/laws/Demands.antt. ONE claim about a
--- list of calls of any length, from the walk that an accepted start hands back.
+-- list of calls of any length, from the walk that an accepted start hands back. The start names the cipher c that the set is made for (document 02, Ticket 1).
 use mathlib.Core.List.{List, map}
 use mathlib.Core.Path.{_≡_}
 use Prim.Native.Nat.{ℕ, _*_, _≤_, _<_}
@@ -9,13 +9,12 @@ use Rattle.answers.specs.declared.Answer.the-variants.{Accepted}
 use Rattle.bits.specs.Bytes.{Bytes}
 use Rattle.bits.specs.Nibbles.{nibble}
 use Rattle.round.specs.Key.{roundsOf}
-use Rattle.aes.specs.Cipher.{encipherOf}
 use Rattle.judgement.specs.Judge.{judge}
 use Rattle.external.specs.Coding.{decodeInput, encodeOutput, SameOuter}
 use Rattle.network.specs.Rule.{labelOf, under, labels}
 use Rattle.network.specs.Theorems.{Reads}
-use Rattle.layout.specs.Stages.{shifted, widths, lookups}
-use Rattle.whitebox.specs.Bundles.{codingsOf, partsOf, madeSet, madeTable, dueAt, dueHeld}
+use Rattle.layout.specs.Stages.{widths, lookups}
+use Rattle.whitebox.specs.Bundles.{codingsOf, partsOf, cipherBlock, madeSet, madeTable, dueAt, dueHeld}
 use Rattle.whitebox.specs.Calls.{judgeStart, started, Call, toStop, reply, handed, Served, serve, lastWalk}
 use Rattle.whitebox.specs.PlainCount.{argsOf, plainCount, Lent, dueServed, Alike, seen}
 use Rattle.whitebox.specs.Values.{dueStanding, dueArea}
@@ -33,49 +32,49 @@ pub record Presented (x : List ℕ) : Type 0 where
   pub started : judgeStart (length x) ≡ Accepted
 
 -- ---- a list of calls
--- What the calls cs are to answer over the set of a key and a bundle, for the presented block x.
-abbrev pub dueFor : ℕ → List ℕ → List ℕ → List ℕ → List Call → List Served
-dueFor nk key l x cs =
-    dueServed (roundsOf nk) (dueHeld nk key l (decodeInput (roundsOf nk) l x))
-    (encodeOutput (roundsOf nk) l (encipherOf nk key (decodeInput (roundsOf nk) l x))) 0 cs
+-- What the calls cs are to answer over the set of a cipher, a key and a bundle, for the presented block x.
+abbrev pub dueFor : ℕ → ℕ → List ℕ → List ℕ → List ℕ → List Call → List Served
+dueFor c nk key l x cs =
+    dueServed (roundsOf nk) (dueHeld c nk key l (decodeInput (roundsOf nk) l x))
+    (encodeOutput (roundsOf nk) l (cipherBlock c nk key (decodeInput (roundsOf nk) l x))) 0 cs
 
-pub record Answered (nk : ℕ) (key l x : List ℕ) (cs : List Call) (n : ℕ) : Type 0 where
+pub record Answered (c nk : ℕ) (key l x : List ℕ) (cs : List Call) (n : ℕ) : Type 0 where
   -- Call by call: the reply is the plain count's; the walk handed back or left is the one due at the plain count; an accepted fetch leaves
-  -- the cipher block under the output coding, a refused one the bytes that the lent block held.
-  pub calls : serve shifted (roundsOf nk) (started x) cs ≡ dueFor nk key l x cs
+  -- the cipher's block under the output coding, a refused one the bytes that the lent block held.
+  pub calls : serve (roundsOf nk) (started c x) cs ≡ dueFor c nk key l x cs
   -- At the end: the walk due at the plain count n, which is, byte for byte, what one move straight to that count hands back.
-  pub last : lastWalk shifted (roundsOf nk) (started x) cs ≡ dueHeld nk key l (decodeInput (roundsOf nk) l x) n
-  pub straight-reply : reply shifted (roundsOf nk) (toStop (madeSet nk key l) n) (started x) ≡ accepted
-  pub straight : handed shifted (roundsOf nk) (toStop (madeSet nk key l) n) (started x) ≡ lastWalk shifted (roundsOf nk) (started x) cs
+  pub last : lastWalk (roundsOf nk) (started c x) cs ≡ dueHeld c nk key l (decodeInput (roundsOf nk) l x) n
+  pub straight-reply : reply (roundsOf nk) (toStop (madeSet c nk key l) n) (started c x) ≡ accepted
+  pub straight : handed (roundsOf nk) (toStop (madeSet c nk key l) n) (started c x) ≡ lastWalk (roundsOf nk) (started c x) cs
 
 abbrev pub ListOfCalls : ℕ → Type 0
 ListOfCalls nk =
-    (key l x : List ℕ) → Given nk key l → Presented x → (cs : List Call) → Lent (roundsOf nk) (madeTable nk key l) (madeSet nk key l) 0 cs
-    → Answered nk key l x cs (plainCount (roundsOf nk) 0 (map argsOf cs))
+    (c : ℕ) (key l x : List ℕ) → Given nk key l → Presented x → (cs : List Call) → Lent (roundsOf nk) (madeTable c nk key l) (madeSet c nk key l) 0 cs
+    → Answered c nk key l x cs (plainCount (roundsOf nk) 0 (map argsOf cs))
 
 -- ---- what is due at each place of the walk, at every count
 -- Each coded nibble held, its encoding taken off, is the value due; a place with no encoding is zero. And the encoding of each place is "that
 -- of the last look-up numbered below the count whose result these rules put there".
-pub record Places (nk : ℕ) (key l b : List ℕ) (k : ℕ) : Type 0 where
+pub record Places (c nk : ℕ) (key l b : List ℕ) (k : ℕ) : Type 0 where
   pub standing : (q : ℕ) → q < 32
-      → Reads (codingsOf (roundsOf nk) l .encoding) (nibble (dueAt nk key l b k .standing) q) (dueStanding (partsOf nk key) (codingsOf (roundsOf nk) l) (roundsOf nk) b k q)
+      → Reads (codingsOf (roundsOf nk) l .encoding) (nibble (dueAt c nk key l b k .standing) q) (dueStanding (partsOf c nk key) (codingsOf (roundsOf nk) l) (roundsOf nk) b k q)
   pub area : (q : ℕ) → q < 512
-      → Reads (codingsOf (roundsOf nk) l .encoding) (nibble (dueAt nk key l b k .area) q) (dueArea (partsOf nk key) (codingsOf (roundsOf nk) l) (roundsOf nk) b k q)
+      → Reads (codingsOf (roundsOf nk) l .encoding) (nibble (dueAt c nk key l b k .area) q) (dueArea (partsOf c nk key) (codingsOf (roundsOf nk) l) (roundsOf nk) b k q)
   pub standing-label : (q : ℕ) → q < 32
-      → labelOf (dueStanding (partsOf nk key) (codingsOf (roundsOf nk) l) (roundsOf nk) b k q) ≡ under (labels (widths (roundsOf nk)) k .standing q)
+      → labelOf (dueStanding (partsOf c nk key) (codingsOf (roundsOf nk) l) (roundsOf nk) b k q) ≡ under (labels (widths (roundsOf nk)) k .standing q)
   pub area-label : (q : ℕ) → q < 512
-      → labelOf (dueArea (partsOf nk key) (codingsOf (roundsOf nk) l) (roundsOf nk) b k q) ≡ labels (widths (roundsOf nk)) k .area q
+      → labelOf (dueArea (partsOf c nk key) (codingsOf (roundsOf nk) l) (roundsOf nk) b k q) ≡ labels (widths (roundsOf nk)) k .area q
 
 abbrev pub EveryPlace : ℕ → Type 0
 EveryPlace nk =
-    (key l x : List ℕ) → Given nk key l → Presented x → (k : ℕ) → k ≤ lookups (roundsOf nk) → Places nk key l (decodeInput (roundsOf nk) l x) k
+    (c : ℕ) (key l x : List ℕ) → Given nk key l → Presented x → (k : ℕ) → k ≤ lookups (roundsOf nk) → Places c nk key l (decodeInput (roundsOf nk) l x) k
 
--- ---- two sets of one key with the same outer codings answer alike
+-- ---- two sets of one key with the same outer codings, "made for one cipher", answer alike
 abbrev pub TwoSets : ℕ → Type 0
 TwoSets nk =
-    (key l l′ x : List ℕ) → Given nk key l → Given nk key l′ → SameOuter (roundsOf nk) l l′ → Presented x → (cs cs′ : List Call) → Alike cs cs′
-    → Lent (roundsOf nk) (madeTable nk key l) (madeSet nk key l) 0 cs → Lent (roundsOf nk) (madeTable nk key l′) (madeSet nk key l′) 0 cs′
-    → map seen (serve shifted (roundsOf nk) (started x) cs) ≡ map seen (serve shifted (roundsOf nk) (started x) cs′)
+    (c : ℕ) (key l l′ x : List ℕ) → Given nk key l → Given nk key l′ → SameOuter (roundsOf nk) l l′ → Presented x → (cs cs′ : List Call) → Alike cs cs′
+    → Lent (roundsOf nk) (madeTable c nk key l) (madeSet c nk key l) 0 cs → Lent (roundsOf nk) (madeTable c nk key l′) (madeSet c nk key l′) 0 cs′
+    → map seen (serve (roundsOf nk) (started c x) cs) ≡ map seen (serve (roundsOf nk) (started c x) cs′)
 
 pub record Demand3For (nk : ℕ) : Type 0 where
   pub calls : ListOfCalls nk

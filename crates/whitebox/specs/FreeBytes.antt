@@ -22,11 +22,11 @@ pub record SameBundle (nr : ℕ) (l l′ : List ℕ) : Type 0 where
   pub output-off : (x : List ℕ) → decodeOutput nr l x ≡ decodeOutput nr l′ x
   pub codings : codingsOf nr l ≡ codingsOf nr l′
 
--- And the set, and each of its tables, of every key of nk words.
+-- And the set, and each of its tables, of every cipher and key of nk words.
 pub record SameMade (nk : ℕ) (l l′ : List ℕ) : Type 0 where
   pub bundle : SameBundle (roundsOf nk) l l′
-  pub set : (key : List ℕ) → madeSet nk key l ≡ madeSet nk key l′
-  pub table : (key : List ℕ) (k : ℕ) → madeTable nk key l k ≡ madeTable nk key l′ k
+  pub set : (c : ℕ) (key : List ℕ) → madeSet c nk key l ≡ madeSet c nk key l′
+  pub table : (c : ℕ) (key : List ℕ) (k : ℕ) → madeTable c nk key l k ≡ madeTable c nk key l′ k
 
 -- For any number of rounds, and any length of a key.
 abbrev pub FreeBytes : Type 0

@@ -1,5 +1,5 @@
 -- The set, its tables and the walk joined, for a reader: the statements. They are proved in proofs/laws/Joined.antt. Each is over any parts of a
--- cipher, codings and number of rounds first, and then of what is made from a key and a bundle.
+-- cipher, codings and number of rounds first, and then of what is made for a cipher from a key and a bundle.
 use mathlib.Core.List.{List}
 use mathlib.Core.Path.{_≡_}
 use Prim.Native.Nat.{ℕ, suc, _<_}
@@ -7,7 +7,7 @@ use lib.ListN.{length}
 use Rattle.answers.specs.Answers.{accepted}
 use Rattle.round.specs.Key.{roundsOf}
 use Rattle.network.specs.Rule.{firstResult, labels, ruleIn}
-use Rattle.layout.specs.Stages.{shifted, widths, lookups, setBytes, tableSize, stageOf, indexOf}
+use Rattle.layout.specs.Stages.{widths, lookups, setBytes, tableSize, stageOf, indexOf}
 use Rattle.whitebox.specs.Bundles.{codingsOf, partsOf, madeSet, madeTable}
 use Rattle.whitebox.specs.Calls.{Held, tablePart, toStop, oneLookup, reply, handed}
 use Rattle.whitebox.specs.Codings.{Codings}
@@ -25,7 +25,7 @@ abbrev pub TableInSet : Type 0
 TableInSet = (P : Parts) (C : Codings) (nr : ℕ) → InSet nr (setOf P C nr) (tableOf P C nr)
 
 abbrev pub MadeTableInSet : ℕ → Type 0
-MadeTableInSet nk = (key l : List ℕ) → InSet (roundsOf nk) (madeSet nk key l) (madeTable nk key l)
+MadeTableInSet nk = (c : ℕ) (key l : List ℕ) → InSet (roundsOf nk) (madeSet c nk key l) (madeTable c nk key l)
 
 -- ---- the tables by document 01's own rule of the lists' numbers
 -- Table k is that of its lookup in its stage or half. Its result has the next lists "in order of use" from list 32 on (`firstResult`), and each place
@@ -39,30 +39,30 @@ TableByRule =
 
 abbrev pub MadeTableByRule : ℕ → Type 0
 MadeTableByRule nk =
-    (key l : List ℕ) (k : ℕ) → k < lookups (roundsOf nk)
-    → madeTable nk key l k ≡ tableByRule (partsOf nk key) (codingsOf (roundsOf nk) l) (roundsOf nk) k
+    (c : ℕ) (key l : List ℕ) (k : ℕ) → k < lookups (roundsOf nk)
+    → madeTable c nk key l k ≡ tableByRule (partsOf c nk key) (codingsOf (roundsOf nk) l) (roundsOf nk) k
 
 -- ---- "a walk can also be moved one look-up with only that table lent; its stop is the count plus one"
 -- From the walk w a move of one lookup over `table` is accepted, as the move over `mem` to the count plus one is, and both hand back the same
 -- walk, at that count.
-pub record NextMove (reads : ℕ → ℕ) (nr : ℕ) (mem table : List ℕ) (w : Held) : Type 0 where
-  pub one : reply reads nr (oneLookup table) w ≡ accepted
-  pub to-stop : reply reads nr (toStop mem (suc (w .state .count))) w ≡ accepted
-  pub same : handed reads nr (oneLookup table) w ≡ handed reads nr (toStop mem (suc (w .state .count))) w
-  pub next : handed reads nr (oneLookup table) w .state .count ≡ suc (w .state .count)
+pub record NextMove (nr : ℕ) (mem table : List ℕ) (w : Held) : Type 0 where
+  pub one : reply nr (oneLookup table) w ≡ accepted
+  pub to-stop : reply nr (toStop mem (suc (w .state .count))) w ≡ accepted
+  pub same : handed nr (oneLookup table) w ≡ handed nr (toStop mem (suc (w .state .count))) w
+  pub next : handed nr (oneLookup table) w .state .count ≡ suc (w .state .count)
 
 -- Over the part at the count's table of any memory of a set's length, from any walk with lookups left.
 abbrev pub OneIsNext : Type 0
 OneIsNext =
-    (reads : ℕ → ℕ) (nr : ℕ) (mem : List ℕ) → length mem ≡ setBytes nr → (w : Held) → w .state .count < lookups nr
-    → NextMove reads nr mem (tablePart nr mem (w .state .count)) w
+    (nr : ℕ) (mem : List ℕ) → length mem ≡ setBytes nr → (w : Held) → w .state .count < lookups nr
+    → NextMove nr mem (tablePart nr mem (w .state .count)) w
 
 abbrev pub MadeOneIsNext : ℕ → Type 0
 MadeOneIsNext nk =
-    (key l : List ℕ) (w : Held) → w .state .count < lookups (roundsOf nk)
-    → NextMove shifted (roundsOf nk) (madeSet nk key l) (madeTable nk key l (w .state .count)) w
+    (c : ℕ) (key l : List ℕ) (w : Held) → w .state .count < lookups (roundsOf nk)
+    → NextMove (roundsOf nk) (madeSet c nk key l) (madeTable c nk key l (w .state .count)) w
 
--- ---- All of them; and of what is made from a key of nk words and a bundle.
+-- ---- All of them; and of what is made for a cipher from a key of nk words and a bundle.
 pub record JoinedFor (nk : ℕ) : Type 0 where
   pub in-set : MadeTableInSet nk
   pub by-rule : MadeTableByRule nk

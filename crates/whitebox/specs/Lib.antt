@@ -10,9 +10,11 @@ pub mod PlainCount
 pub mod InRange
 pub mod Bundles
 pub mod FreeBytes
+pub mod Named
 pub mod Joined
 pub mod Demand2
 pub mod Zeros
 pub mod Demand3
+pub mod RoundTrip
 pub mod Cases
 pub mod Witness

@@ -4,9 +4,10 @@ use mathlib.Core.List.{List}
 use Prim.Native.Nat.{ℕ, _-_, _<_}
 use lib.Dec.{eqb}
 use Rattle.bits.specs.Lists.{at}
-use Rattle.field.specs.Sbox.{sboxOf}
+use Rattle.field.specs.Sbox.{sboxOf, invSboxOf}
 use Rattle.round.specs.Key.{keyOf}
-use Rattle.round.specs.State.{entry, mixRows}
+use Rattle.round.specs.State.{entry, mixRows, invMixRows}
+use Rattle.layout.specs.Ciphers.{forCipher, invShifted}
 use Rattle.layout.specs.Stages.{shifted}
 
 -- The substitution; the byte that a position reads; the coefficient of the column mixing in a row and a column; the key byte that is
@@ -37,3 +38,20 @@ forward nr w =
       before = λ r j. at (keyOf w (r - 1)) j;
       behind = λ r p. cond (eqb r nr) (at (keyOf w nr) p) 0;
     }
+
+-- FIPS 197's inverse cipher (document 02, Ticket 1): "the inverse row shift, inverse S-box and inverse MixColumns in the places of the forward ones. Round
+-- key 10 is added before the first inverse S-box, each later key behind its inverse S-box; before it the key byte is that of the byte read, behind it
+-- that of position p." So behind the substitution of round r it is round key nr − r, and in the exit round key 0.
+unfoldable pub inverse : ℕ → List ℕ → Parts
+inverse nr w =
+    record {
+      substitute = invSboxOf;
+      reads = invShifted;
+      coefficient = entry invMixRows;
+      before = λ r j. cond (eqb r 1) (at (keyOf w nr) j) 0;
+      behind = λ r p. at (keyOf w (nr - r)) p;
+    }
+
+-- The parts of the cipher c.
+abbrev pub partsFor : ℕ → ℕ → List ℕ → Parts
+partsFor c nr w = forCipher c (forward nr w) (inverse nr w)

@@ -1,5 +1,5 @@
--- The cipher's state from its parts. For the forward parts it is FIPS 197's, read off between the rounds: behind MixColumns, before the
--- round key is added (Ciphers.antt). Definitions only.
+-- The cipher's state from its parts. It is FIPS 197's, read off between the rounds: for the forward parts behind MixColumns, before the round key is added; for
+-- the inverse parts behind InvMixColumns, and at the start before round key nr is added (Ciphers.antt). Definitions only.
 use mathlib.Core.List.{List}
 use Prim.Native.Nat.{ℕ, zero, suc, _+_, _-_, _*_, _/_, _%_}
 use lib.Bits.{bitXor}
@@ -10,7 +10,7 @@ use Rattle.whitebox.specs.Parts.{Parts}
 
 module _ (P : Parts) where
   -- The state in front of the column mixing of round r, from the state s behind that of the round before. In the last round it is the
-  -- cipher block.
+  -- cipher's block.
   unfoldable pub keyed : ℕ → List ℕ → List ℕ
   keyed r s = tabulate 16 (λ p. bitXor (P .substitute (bitXor (at s (P .reads p)) (P .before r (P .reads p)))) (P .behind r p))
 
@@ -23,6 +23,6 @@ module _ (P : Parts) where
   stateAfter b zero = b
   stateAfter b (suc r) = mixed (keyed (suc r) (stateAfter b r))
 
-  -- The cipher block, after nr rounds.
+  -- The cipher's block, after nr rounds.
   unfoldable pub result : ℕ → List ℕ → List ℕ
   result nr b = keyed nr (stateAfter b (nr - 1))

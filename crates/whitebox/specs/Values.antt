@@ -18,7 +18,8 @@ use Rattle.whitebox.specs.States.{keyed, stateAfter, result}
 use Rattle.whitebox.specs.Words.{entryWord, mixedWord, secondWord, placedWord}
 
 module _ (C : Codings) where
-  -- Each byte j of s under byte matrix (r, j): "the state behind MixColumns, each byte under its round r+1 matrix".
+  -- Each byte j of s under byte matrix (r, j): "the state behind MixColumns, each byte under its round r+1 matrix"; for the inverse cipher
+  -- behind InvMixColumns.
   unfoldable pub underBytes : ℕ → List ℕ → List ℕ
   underBytes r s = tabulate 16 (λ j. product 8 (byteMatrixAt C r j) (at s j))
 
@@ -50,7 +51,7 @@ module _ (P : Parts) (C : Codings) (nr : ℕ) (b : List ℕ) where
   unfoldable pub values : List Values
   values = map valuesAt (stages nr)
 
-  -- What stands at the end: the output matrix times the cipher block.
+  -- What stands at the end: the output matrix times the cipher's block.
   unfoldable pub ended : List ℕ
   ended = multiply (C .outputMatrix) (result P nr b)
 

@@ -1,5 +1,5 @@
--- What each spread table makes of the byte that indexes it, decoded: the four kinds of document 01, "Spread tables". Position p = 4c+q.
--- Definitions only.
+-- What each spread table makes of the byte that indexes it, decoded: the four kinds of document 01, "Spread tables". Position p = 4c+q. What is quoted here is of
+-- the forward cipher; the inverse cipher has its own row shift, S-box, column mixing and key bytes in their places (Parts.antt). Definitions only.
 use mathlib.Core.List.{List}
 use Prim.Native.Nat.{ℕ, suc, _+_, _*_, _/_, _%_}
 use lib.Bits.{bitXor}

@@ -1,4 +1,4 @@
--- Laws, not definitions: orders served one after the other, for any number nr of rounds and any byte `reads` that the row shift reads.
+-- Laws, not definitions: orders served one after the other, for any number nr of rounds.
 -- Assumes nothing.
 use mathlib.Core.List.{List, [], _∷_, _++_, append-nil, append-assoc}
 use mathlib.Core.Path.{_≡_, refl, sym, ap, ap₂, _∙_, subst}
@@ -40,64 +40,64 @@ module _ (nr n : ℕ) (mem : List ℕ) (p : Place) (e : p ≡ placeOf nr n) wher
   table-part = cut-is mem (p .offset) (p .size) ∙ sym is-place
 
 -- ---- one order
-module _ {reads : ℕ → ℕ} {nr : ℕ} {mem : List ℕ} {order : ℕ} {w : Walk} {lent : List ℕ} where
+module _ {nr : ℕ} {mem : List ℕ} {order : ℕ} {w : Walk} {lent : List ℕ} where
   -- Where the order is the call c.
-  as-call : (c : Call) → c ≡ callFor nr mem order (w .count) lent → {r : Move} {left : List ℕ} → Moves reads nr c w r
-      → left ≡ blockBehind c (blockLeft reads nr c (held w)) lent → OneServed reads nr mem order w lent r left
+  as-call : (c : Call) → c ≡ callFor nr mem order (w .count) lent → {r : Move} {left : List ℕ} → Moves nr c w r
+      → left ≡ blockBehind c (blockLeft nr c (held w)) lent → OneServed nr mem order w lent r left
   as-call c e {r} m b =
       record {
-        moves = subst (λ (c : Call). Moves reads nr c w r) e m;
-        block = b ∙ ap (λ (c : Call). blockBehind c (blockLeft reads nr c (held w)) lent) e;
+        moves = subst (λ (c : Call). Moves nr c w r) e m;
+        block = b ∙ ap (λ (c : Call). blockBehind c (blockLeft nr c (held w)) lent) e;
       }
 
-  pub one-served : {t : List ℕ} {r : Move} → order ≡ oneOrder → t ≡ tablePart nr mem (w .count) → Moves reads nr (oneLookup t) w r
-      → OneServed reads nr mem order w lent r lent
+  pub one-served : {t : List ℕ} {r : Move} → order ≡ oneOrder → t ≡ tablePart nr mem (w .count) → Moves nr (oneLookup t) w r
+      → OneServed nr mem order w lent r lent
   unfolding callFor
   one-served {t} h e m = as-call (oneLookup t) (rw (e, eq-eqb order oneOrder h)) m refl
 
-  pub fetch-served : {a : Answer} {left : List ℕ} → (order ≡ oneOrder → ⊥) → order ≡ fetchOrder → Fetches reads nr lent w a left
-      → OneServed reads nr mem order w lent (record { answer = a; walk = w }) left
+  pub fetch-served : {a : Answer} {left : List ℕ} → (order ≡ oneOrder → ⊥) → order ≡ fetchOrder → Fetches nr lent w a left
+      → OneServed nr mem order w lent (record { answer = a; walk = w }) left
   unfolding callFor handed
   fetch-served n h f =
       as-call (fetch lent) (rw (ne-eqb order oneOrder n, eq-eqb order fetchOrder h)) (record { answer = f .answer; walk = refl }) (f .block)
 
-  pub stop-served : {r : Move} → (order ≡ oneOrder → ⊥) → (order ≡ fetchOrder → ⊥) → Moves reads nr (toStop mem order) w r
-      → OneServed reads nr mem order w lent r lent
+  pub stop-served : {r : Move} → (order ≡ oneOrder → ⊥) → (order ≡ fetchOrder → ⊥) → Moves nr (toStop mem order) w r
+      → OneServed nr mem order w lent r lent
   unfolding callFor
   stop-served n m h = as-call (toStop mem order) (rw (ne-eqb order oneOrder n, ne-eqb order fetchOrder m)) h refl
 
 -- ---- what orders give: the last walk, the numbers, the block
-module _ (reads : ℕ → ℕ) (nr : ℕ) (mem : List ℕ) (w : Held) (block orders : List ℕ) where
+module _ (nr : ℕ) (mem : List ℕ) (w : Held) (block orders : List ℕ) where
   abbrev cs : List Call
-  cs = callsOf reads nr mem w block orders
+  cs = callsOf nr mem w block orders
 
   abbrev walkOf : Held
-  walkOf = lastWalk reads nr w cs
+  walkOf = lastWalk nr w cs
 
   abbrev writtenOf : List ℕ
-  writtenOf = numbersOf (serve reads nr w cs)
+  writtenOf = numbersOf (serve nr w cs)
 
   abbrev blockOf : List ℕ
-  blockOf = lastBlock block cs (serve reads nr w cs)
+  blockOf = lastBlock block cs (serve nr w cs)
 
 -- ---- the loop: of the orders, i are served and in their places stand the numbers returned. The rest is as it was, and what it gives from the walk
 -- and the block as they are now is what is left of what all give.
-pub record Serving (reads : ℕ → ℕ) (nr : ℕ) (mem : List ℕ) (w₀ : Walk) (orders lent : List ℕ) (w : Walk) (t block : List ℕ) (i : ℕ) : Type 0 where
+pub record Serving (nr : ℕ) (mem : List ℕ) (w₀ : Walk) (orders lent : List ℕ) (w : Walk) (t block : List ℕ) (i : ℕ) : Type 0 where
   pub within : i ≤ length orders
   pub kept : length t ≡ length orders
   pub sized : length block ≡ length lent
   pub rest : drop i t ≡ drop i orders
-  pub walk : walkOf reads nr mem (held w₀) lent orders ≡ walkOf reads nr mem (held w) block (drop i orders)
-  pub numbers : writtenOf reads nr mem (held w₀) lent orders ≡ take i t ++ writtenOf reads nr mem (held w) block (drop i orders)
-  pub left : blockOf reads nr mem (held w₀) lent orders ≡ blockOf reads nr mem (held w) block (drop i orders)
+  pub walk : walkOf nr mem (held w₀) lent orders ≡ walkOf nr mem (held w) block (drop i orders)
+  pub numbers : writtenOf nr mem (held w₀) lent orders ≡ take i t ++ writtenOf nr mem (held w) block (drop i orders)
+  pub left : blockOf nr mem (held w₀) lent orders ≡ blockOf nr mem (held w) block (drop i orders)
 
-pub serving-none : {reads : ℕ → ℕ} {nr : ℕ} {mem : List ℕ} {w : Walk} {orders lent : List ℕ} → Serving reads nr mem w orders lent w orders lent 0
+pub serving-none : {nr : ℕ} {mem : List ℕ} {w : Walk} {orders lent : List ℕ} → Serving nr mem w orders lent w orders lent 0
 serving-none = record { within = omega arith; kept = refl; sized = refl; rest = refl; walk = refl; numbers = refl; left = refl }
 
-module _ {reads : ℕ → ℕ} {nr : ℕ} {mem : List ℕ} {w₀ : Walk} {orders lent : List ℕ} {w : Walk} {t block : List ℕ} {i : ℕ}
-    (I : Serving reads nr mem w₀ orders lent w t block i) where
-  pub serving-more : {r : Move} {left : List ℕ} {v : ℕ} → i < length t → OneServed reads nr mem (getD t i 0) w block r left → length left ≡ length block
-      → v ≡ numberOf (r .answer) → Serving reads nr mem w₀ orders lent (r .walk) (set t i v) left (i + 1)
+module _ {nr : ℕ} {mem : List ℕ} {w₀ : Walk} {orders lent : List ℕ} {w : Walk} {t block : List ℕ} {i : ℕ}
+    (I : Serving nr mem w₀ orders lent w t block i) where
+  pub serving-more : {r : Move} {left : List ℕ} {v : ℕ} → i < length t → OneServed nr mem (getD t i 0) w block r left → length left ≡ length block
+      → v ≡ numberOf (r .answer) → Serving nr mem w₀ orders lent (r .walk) (set t i v) left (i + 1)
   unfolding callsOf serve lastWalk lastBlock
   serving-more {r} {left} {v} h d s e =
       let o : ℕ = getD t i 0 in
@@ -107,33 +107,33 @@ module _ {reads : ℕ → ℕ} {nr : ℕ} {mem : List ℕ} {w₀ : Walk} {orders
       let more : drop i t ≡ o ∷ os = drop-cons t i 0 h ∙ ap (λ (n : ℕ). o ∷ drop n t) (sym (add-one i)) ∙ ap (λ (l : List ℕ). o ∷ l) tail in
       let next : drop i orders ≡ o ∷ os = sym (I .rest) ∙ more in
       let front : take (i + 1) (set t i v) ≡ take i t ++ (v ∷ []) = ap (λ (n : ℕ). take n (set t i v)) (add-one i) ∙ take-suc-set t i v h in
-      let returns : returned (reply reads nr c (held w)) ≡ v =
+      let returns : returned (reply nr c (held w)) ≡ v =
       ap (λ (a : Answer). returned (replyOf a)) (sym (d .moves .answer)) ∙ sym (number-is (r .answer)) ∙ sym e in
-      let was : handed reads nr c (held w) ≡ held (r .walk) = sym (d .moves .walk) in
-      let block-was : blockBehind c (blockLeft reads nr c (held w)) block ≡ left = sym (d .block) in
+      let was : handed nr c (held w) ≡ held (r .walk) = sym (d .moves .walk) in
+      let block-was : blockBehind c (blockLeft nr c (held w)) block ≡ left = sym (d .block) in
       record {
         within = omega (arith, I .kept);
         kept = length-set t i v ∙ I .kept;
         sized = s ∙ I .sized;
         rest = drop-set-lt (i + 1) t i v (omega arith) ∙ tail;
-        walk = I .walk ∙ ap (walkOf reads nr mem (held w) block) next ∙ ap₂ (λ (u : Held) (b : List ℕ). walkOf reads nr mem u b os) was block-was;
+        walk = I .walk ∙ ap (walkOf nr mem (held w) block) next ∙ ap₂ (λ (u : Held) (b : List ℕ). walkOf nr mem u b os) was block-was;
         numbers =
             I .numbers
-            ∙ ap (λ (l : List ℕ). take i t ++ writtenOf reads nr mem (held w) block l) next
-            ∙ ap₂ (λ (u : Held) (b : List ℕ). take i t ++ (returned (reply reads nr c (held w)) ∷ writtenOf reads nr mem u b os)) was block-was
-            ∙ ap (λ (n : ℕ). take i t ++ (n ∷ writtenOf reads nr mem (held (r .walk)) left os)) returns
+            ∙ ap (λ (l : List ℕ). take i t ++ writtenOf nr mem (held w) block l) next
+            ∙ ap₂ (λ (u : Held) (b : List ℕ). take i t ++ (returned (reply nr c (held w)) ∷ writtenOf nr mem u b os)) was block-was
+            ∙ ap (λ (n : ℕ). take i t ++ (n ∷ writtenOf nr mem (held (r .walk)) left os)) returns
             ∙ sym (append-assoc (take i t) (v ∷ []) _)
-            ∙ ap (λ (l : List ℕ). l ++ writtenOf reads nr mem (held (r .walk)) left os) (sym front);
-        left = I .left ∙ ap (blockOf reads nr mem (held w) block) next ∙ ap₂ (λ (u : Held) (b : List ℕ). blockOf reads nr mem u b os) was block-was;
+            ∙ ap (λ (l : List ℕ). l ++ writtenOf nr mem (held (r .walk)) left os) (sym front);
+        left = I .left ∙ ap (blockOf nr mem (held w) block) next ∙ ap₂ (λ (u : Held) (b : List ℕ). blockOf nr mem u b os) was block-was;
       }
 
-  pub serving-all : length t ≤ i → AllServed reads nr mem w₀ orders lent w t block
+  pub serving-all : length t ≤ i → AllServed nr mem w₀ orders lent w t block
   unfolding callsOf serve lastWalk lastBlock
   serving-all h =
       let end : drop i orders ≡ [] = drop-of-length-le orders {i = i} (omega (arith, I .kept)) in
       record {
-        walk = sym (I .walk ∙ ap (walkOf reads nr mem (held w) block) end);
+        walk = sym (I .walk ∙ ap (walkOf nr mem (held w) block) end);
         numbers =
-            sym (I .numbers ∙ ap (λ (l : List ℕ). take i t ++ writtenOf reads nr mem (held w) block l) end ∙ append-nil (take i t) ∙ take-all i t h);
-        block = sym (I .left ∙ ap (blockOf reads nr mem (held w) block) end);
+            sym (I .numbers ∙ ap (λ (l : List ℕ). take i t ++ writtenOf nr mem (held w) block l) end ∙ append-nil (take i t) ∙ take-all i t h);
+        block = sym (I .left ∙ ap (blockOf nr mem (held w) block) end);
       }

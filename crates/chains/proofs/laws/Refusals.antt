@@ -16,13 +16,12 @@ use Rattle.answers.specs.declared.Refusal.the-variants.{KeyLength, BlockLength,
 use Rattle.answers.proofs.laws.Tests.{together, behind, front, back, length-right}
 use Rattle.bits.proofs.laws.Nibbles.{length-packed}
 use Rattle.aes.specs.Answers.{answerOf}
-use Rattle.aes.specs.Cipher.{encipherOf}
 use Rattle.judgement.specs.Judge.{judge}
 use Rattle.external.specs.Calls as external
 use Rattle.external.specs.Coding.{encodeNibbles, encodeBy, decodeBy, encodeInput, encodeOutput, decodeOutput}
 use Rattle.external.proofs.laws.Coding.{multiply-block}
-use Rattle.layout.specs.Stages.{shifted, lookups, setBytes}
-use Rattle.whitebox.specs.Bundles.{madeSet}
+use Rattle.layout.specs.Stages.{lookups, setBytes}
+use Rattle.whitebox.specs.Bundles.{cipherBlock, madeSet}
 use Rattle.whitebox.specs.Calls.{started, toStop, fetch, judgeFetch, answer, handed}
 use Rattle.whitebox.specs.PlainCount.{stopArgs, plain}
 use Rattle.whitebox.proofs.laws.Calls.{start-count, counted}
@@ -52,26 +51,26 @@ unfolding external.answer
 coding-lengths nr l from j = front j (back refl)
 
 -- ---- the walk over a set of its length, from 16 bytes
-module _ (reads : ℕ → ℕ) (nr : ℕ) (set x coded : List ℕ) (long : length set ≡ setBytes nr) where
-  moves : answer reads nr (toStop set (lookups nr)) (started x) ≡ Accepted
+module _ (c nr : ℕ) (set x coded : List ℕ) (long : length set ≡ setBytes nr) where
+  moves : answer nr (toStop set (lookups nr)) (started c x) ≡ Accepted
   unfolding answer
-  moves = sym (stop-right nr (length set) (lookups nr) (started x .state .count) long (le-refl (lookups nr)) (omega (arith, start-count x)))
+  moves = sym (stop-right nr (length set) (lookups nr) (started c x .state .count) long (le-refl (lookups nr)) (omega (arith, start-count c x)))
 
-  at-end : handed reads nr (toStop set (lookups nr)) (started x) .state .count ≡ lookups nr
+  at-end : handed nr (toStop set (lookups nr)) (started c x) .state .count ≡ lookups nr
   unfolding plain
   at-end =
-      counted reads nr (toStop set (lookups nr)) (started x) (omega (arith, start-count x))
-      ∙ ap (λ (n : ℕ). plain nr (stopArgs (length set) (lookups nr)) n .count) (start-count x)
+      counted nr (toStop set (lookups nr)) (started c x) (omega (arith, start-count c x))
+      ∙ ap (λ (n : ℕ). plain nr (stopArgs (length set) (lookups nr)) n .count) (start-count c x)
       ∙ rw (eq-eqb (length set) (setBytes nr) long, le-ltb (lookups nr) (lookups nr) (le-refl (lookups nr)), le-ltb (lookups nr) 0 (omega arith))
 
-  fetches : answer reads nr (fetch coded) (handed reads nr (toStop set (lookups nr)) (started x)) ≡ wantsLength 16 (length coded) BlockLength
+  fetches : answer nr (fetch coded) (handed nr (toStop set (lookups nr)) (started c x)) ≡ wantsLength 16 (length coded) BlockLength
   unfolding answer judgeFetch
   fetches = rw at-end (back (ap (λ b. refusedIf (not b) Unfinished) (eq-eqb (lookups nr) (lookups nr) refl)))
 
-walk-lengths : (set x coded : List ℕ) → length set ≡ setBytes 10 → length x ≡ 16 → overAnswer set x coded ≡ wantsLength 16 (length coded) BlockLength
+walk-lengths : (c : ℕ) (set x coded : List ℕ) → length set ≡ setBytes 10 → length x ≡ 16 → overAnswer c set x coded ≡ wantsLength 16 (length coded) BlockLength
 unfolding overAnswer
-walk-lengths set x coded long block =
-    front (sym (presented-right (length x) block)) (front (moves shifted 10 set x coded long) (fetches shifted 10 set x coded long))
+walk-lengths c set x coded long block =
+    front (sym (presented-right (length x) block)) (front (moves c 10 set x coded long) (fetches c 10 set x coded long))
 
 -- ---- what is taken off, of an accepted bundle and a key of 16 bytes
 off-lengths : (key l coded again : List ℕ) → length key ≡ 16 → judge 10 l ≡ Accepted → length coded ≡ 16
@@ -85,15 +84,15 @@ off-lengths key l coded again k j c =
 -- ---- all of it
 pub refusals : Refusals
 unfolding wholeAnswer codedAnswer presentAnswer
-refusals key l block set coded again =
+refusals c key l block set coded again =
     let A : Answer = setAnswer (length key) l (length set) in
     let E : Answer = external.answer 10 l (length block) 16 in
-    let W : Answer = overAnswer (madeSet 4 key l) (encodeInput 10 l block) coded in
-    let O : Answer = offAnswer key l (encodeOutput 10 l (encipherOf 4 key block)) again in
+    let W : Answer = overAnswer c (madeSet c 4 key l) (encodeInput 10 l block) coded in
+    let O : Answer = offAnswer key l (encodeOutput 10 l (cipherBlock c 4 key block)) again in
     together (andThen A E) W O
     ∙ together A E (andThen W O)
     ∙ behind A (λ e.
     let given = set-given key l set e in
     ap₂ andThen (coding-lengths 10 l (length block) (given .1))
-    (ap₂ andThen (walk-lengths (madeSet 4 key l) (encodeInput 10 l block) coded (made-in-set 4 key l .long) (input-long 10 l block))
-    (off-lengths key l (encodeOutput 10 l (encipherOf 4 key block)) again (given .0) (given .1) (output-long 10 l (encipherOf 4 key block)))))
+    (ap₂ andThen (walk-lengths c (madeSet c 4 key l) (encodeInput 10 l block) coded (made-in-set 4 c key l .long) (input-long 10 l block))
+    (off-lengths key l (encodeOutput 10 l (cipherBlock c 4 key block)) again (given .0) (given .1) (output-long 10 l (cipherBlock c 4 key block)))))

@@ -1,5 +1,5 @@
--- Laws, not definitions: the calls, from what their parts left, for any number nr of rounds and any byte `reads` that the row shift reads. What the
--- code has as numbers, the lookups and the bytes of a set, is `count` and `bytes`.
+-- Laws, not definitions: the calls, from what their parts left, for any number nr of rounds; what lookups leave, for any byte `reads` that the row shift reads,
+-- which for a call is its walk's cipher's (`readsOf`). What the code has as numbers, the lookups and the bytes of a set, is `count` and `bytes`.
 -- Assumes nothing.
 use mathlib.Core.List.{List}
 use mathlib.Core.Logic.{_⊎_}
@@ -16,11 +16,12 @@ use Rattle.network.specs.Lookups.{State, stateAt, zeroArea, lookup, lookupIn}
 use Rattle.network.specs.Order.{layerLookups}
 use Rattle.network.specs.Sizes.{layerBytes}
 use Rattle.network.proofs.laws.Order.{layer-lookups}
+use Rattle.layout.specs.Ciphers.{kept, readsOf}
 use Rattle.layout.specs.Stages.{widthOf, shapeAt, shapes, lookups, setBytes, tableOffset, stageOf, indexOf, placeOf}
 use Rattle.layout.specs.declared.stage.Place.{Place}
 use Rattle.layout.proofs.laws.Lookup.{Sizes, Stands, stands, tables-in-set}
 use Rattle.layout.proofs.laws.Ranges.{by-stage}
-use Rattle.whitebox.specs.Calls.{Held, holding, changed, toStop, oneLookup, started, judgeStop, judgeOne, judgeFetch, advance, answer, handed, blockLeft}
+use Rattle.whitebox.specs.Calls.{holding, changed, toStop, oneLookup, started, judgeStop, judgeOne, judgeFetch, advance, answer, handed, blockLeft}
 use Rattle.whitebox.proofs.laws.Judged as judged
 use Rattle.whitebox.proofs.laws.Judged.{presented-wrong, presented-right, set-wrong, stop-right, none-left, table-wrong, table-right, block-wrong, count-wrong, count-right}
 use Rattle.lookups.specs.InPlace.{Fits, LookedUp, sumsIn}
@@ -29,6 +30,7 @@ use Rattle.lookups.proofs.laws.Whole.{length-sums-in}
 use Rattle.evaluate.specs.Held.{held}
 use Rattle.evaluate.specs.Advanced.{Advanced}
 use Rattle.evaluate.specs.Contracts.{Opens, Moves, Fetches}
+use Rattle.evaluate.specs.declared.walk.Move.{Move}
 use Rattle.evaluate.specs.declared.walk.Walk.{Walk}
 use Rattle.evaluate.proofs.laws.Stages.{advance-split, layer-walk}
 
@@ -143,86 +145,86 @@ module _ {reads : ℕ → ℕ} {nr : ℕ} {set : List ℕ} {stop : ℕ} {w₀ : 
       sym (I .same ∙ ap (λ (x : ℕ). advance reads nr set x (stateAt n s a)) z)
 
 -- ---- start
-pub start-refused : (block : List ℕ) → (length block ≡ 16 → ⊥)
-    → Opens block (record { answer = Refused BlockLength; walk = record { count = 0; standing = replicate 16 0; area = zeroArea } })
+pub start-refused : (c : ℕ) (block : List ℕ) → (length block ≡ 16 → ⊥)
+    → Opens c block (record { answer = Refused BlockLength; walk = record { cipher = 0; count = 0; standing = replicate 16 0; area = zeroArea } })
 unfolding started
-start-refused block n =
+start-refused c block n =
     let j = presented-wrong (length block) n in
     record { answer = j; walk = left-old _ BlockLength _ _ (sym j) }
 
--- The standing bytes s are the block.
-pub start-done : (block s : List ℕ) → length block ≡ 16 → s ≡ block
-    → Opens block (record { answer = Accepted; walk = record { count = 0; standing = s; area = zeroArea } })
+-- The walk w keeps the cipher, and its standing bytes s are the block.
+pub start-done : (c : ℕ) (block s : List ℕ) (w : Walk) → length block ≡ 16 → s ≡ block → held w ≡ holding (kept c) (stateAt 0 s zeroArea)
+    → Opens c block (record { answer = Accepted; walk = w })
 unfolding started
-start-done block s l e =
-    let begun : List ℕ → Held = λ x. holding (stateAt 0 x zeroArea) in
+start-done c block s w l e f =
     let j = presented-right (length block) l in
-    record { answer = j; walk = ap begun e ∙ left-new _ _ _ (sym j) }
+    record { answer = j; walk = f ∙ ap (λ (x : List ℕ). holding (kept c) (stateAt 0 x zeroArea)) e ∙ left-new _ _ _ (sym j) }
 
 -- ---- a move: the answer, and the walk handed back
--- A refused one leaves the walk as it was.
-module _ (reads : ℕ → ℕ) {nr count bytes : ℕ} (N : Sizes nr count bytes) (set : List ℕ) (stop : ℕ) (w : Walk) where
-  not-moved : (r : Refusal) → Refused r ≡ judgeStop nr (length set) stop (w .count) → Moves reads nr (toStop set stop) w (record { answer = Refused r; walk = w })
+-- It hands back m. A refused one leaves the walk as it was.
+module _ {nr count bytes : ℕ} (N : Sizes nr count bytes) (set : List ℕ) (stop : ℕ) (w : Walk) (m : Move) where
+  not-moved : (r : Refusal) → m .answer ≡ Refused r → m .walk ≡ w → Refused r ≡ judgeStop nr (length set) stop (w .count) → Moves nr (toStop set stop) w m
   unfolding answer handed
-  not-moved r e = record { answer = e; walk = left-old _ r _ (held w) (sym e) }
+  not-moved r a b e = record { answer = a ∙ e; walk = ap held b ∙ left-old _ r _ (held w) (sym e) }
 
-  pub wrong-set : (length set ≡ bytes → ⊥) → Moves reads nr (toStop set stop) w (record { answer = Refused SetLength; walk = w })
-  wrong-set n = not-moved SetLength (set-wrong nr _ _ _ (λ e. n (e ∙ N .all-bytes)))
+  pub wrong-set : m .answer ≡ Refused SetLength → m .walk ≡ w → (length set ≡ bytes → ⊥) → Moves nr (toStop set stop) w m
+  wrong-set a b n = not-moved SetLength a b (set-wrong nr _ _ _ (λ e. n (e ∙ N .all-bytes)))
 
   module _ (l : length set ≡ bytes) where
     long : length set ≡ setBytes nr
     long = l ∙ sym (N .all-bytes)
 
-    pub stop-above : count < stop → Moves reads nr (toStop set stop) w (record { answer = Refused Stop; walk = w })
-    stop-above h = not-moved Stop (judged.stop-above nr _ _ _ long (omega (arith, N .all-lookups)))
+    pub stop-above : m .answer ≡ Refused Stop → m .walk ≡ w → count < stop → Moves nr (toStop set stop) w m
+    stop-above a b h = not-moved Stop a b (judged.stop-above nr _ _ _ long (omega (arith, N .all-lookups)))
 
-    pub stop-below : stop ≤ count → stop < w .count → Moves reads nr (toStop set stop) w (record { answer = Refused Stop; walk = w })
-    stop-below h b = not-moved Stop (judged.stop-below nr _ _ _ long (omega (arith, N .all-lookups)) b)
+    pub stop-below : m .answer ≡ Refused Stop → m .walk ≡ w → stop ≤ count → stop < w .count → Moves nr (toStop set stop) w m
+    stop-below a b h d = not-moved Stop a b (judged.stop-below nr _ _ _ long (omega (arith, N .all-lookups)) d)
 
-    pub stop-done : (w′ : Walk) → stop ≤ count → w .count ≤ stop → held w′ ≡ changed (advance reads nr set (stop - w .count)) (held w)
-        → Moves reads nr (toStop set stop) w (record { answer = Accepted; walk = w′ })
+    pub stop-done : m .answer ≡ Accepted → stop ≤ count → w .count ≤ stop
+        → held (m .walk) ≡ changed (advance (readsOf (w .cipher)) nr set (stop - w .count)) (held w) → Moves nr (toStop set stop) w m
     unfolding answer handed
-    stop-done w′ h b e =
+    stop-done a h b e =
         let j = stop-right nr _ stop (w .count) long (omega (arith, N .all-lookups)) b in
-        record { answer = j; walk = e ∙ left-new _ _ (held w) (sym j) }
+        record { answer = a ∙ j; walk = e ∙ left-new _ _ (held w) (sym j) }
 
-module _ (reads : ℕ → ℕ) {nr count bytes : ℕ} (N : Sizes nr count bytes) (table : List ℕ) (w : Walk) where
-  not-looked : (r : Refusal) → Refused r ≡ judgeOne nr (length table) (w .count) → Moves reads nr (oneLookup table) w (record { answer = Refused r; walk = w })
+module _ {nr count bytes : ℕ} (N : Sizes nr count bytes) (table : List ℕ) (w : Walk) (m : Move) where
+  not-looked : (r : Refusal) → m .answer ≡ Refused r → m .walk ≡ w → Refused r ≡ judgeOne nr (length table) (w .count) → Moves nr (oneLookup table) w m
   unfolding answer handed
-  not-looked r e = record { answer = e; walk = left-old _ r _ (held w) (sym e) }
+  not-looked r a b e = record { answer = a ∙ e; walk = ap held b ∙ left-old _ r _ (held w) (sym e) }
 
-  pub no-lookup : count ≤ w .count → Moves reads nr (oneLookup table) w (record { answer = Refused Stop; walk = w })
-  no-lookup h = not-looked Stop (none-left nr _ _ (omega (arith, N .all-lookups)))
+  pub no-lookup : m .answer ≡ Refused Stop → m .walk ≡ w → count ≤ w .count → Moves nr (oneLookup table) w m
+  no-lookup a b h = not-looked Stop a b (none-left nr _ _ (omega (arith, N .all-lookups)))
 
   module _ (p : Place) (h : w .count < count) (e : p ≡ placeOf nr (w .count)) where
     left : w .count < lookups nr
     left = omega (arith, N .all-lookups)
 
-    pub wrong-table : (length table ≡ p .size → ⊥) → Moves reads nr (oneLookup table) w (record { answer = Refused SetLength; walk = w })
-    wrong-table n = not-looked SetLength (table-wrong nr _ _ left (λ l. n (l ∙ sym (stands left e .size))))
+    pub wrong-table : m .answer ≡ Refused SetLength → m .walk ≡ w → (length table ≡ p .size → ⊥) → Moves nr (oneLookup table) w m
+    wrong-table a b n = not-looked SetLength a b (table-wrong nr _ _ left (λ l. n (l ∙ sym (stands left e .size))))
 
-    pub one-done : (s′ a′ : List ℕ) → length table ≡ p .size → LookedUp (shapeAt reads (p .stage)) (p .index) table (w .standing) (w .area) s′ a′
-        → Moves reads nr (oneLookup table) w (record { answer = Accepted; walk = record { count = w .count + 1; standing = s′; area = a′ } })
+    pub one-done : (s′ a′ : List ℕ) → m .answer ≡ Accepted → length table ≡ p .size
+        → LookedUp (shapeAt (readsOf (w .cipher)) (p .stage)) (p .index) table (w .standing) (w .area) s′ a′
+        → held (m .walk) ≡ holding (kept (w .cipher)) (stateAt (w .count + 1) s′ a′) → Moves nr (oneLookup table) w m
     unfolding answer handed
-    one-done s′ a′ l u =
+    one-done s′ a′ a l u f =
         let j = table-right nr _ _ left (l ∙ stands left e .size) in
-        let made = looked-up reads nr (w .count) p left e table (w .standing) (w .area) s′ a′ u in
-        record { answer = j; walk = ap holding (sym made) ∙ left-new _ _ (held w) (sym j) }
+        let made = looked-up (readsOf (w .cipher)) nr (w .count) p left e table (w .standing) (w .area) s′ a′ u in
+        record { answer = a ∙ j; walk = f ∙ ap (holding (kept (w .cipher))) (sym made) ∙ left-new _ _ (held w) (sym j) }
 
 -- ---- fetch: the answer, and the block as it is left
-module _ (reads : ℕ → ℕ) {nr count bytes : ℕ} (N : Sizes nr count bytes) (block : List ℕ) (w : Walk) where
-  not-fetched : (r : Refusal) → Refused r ≡ judgeFetch nr (length block) (w .count) → Fetches reads nr block w (Refused r) block
+module _ {nr count bytes : ℕ} (N : Sizes nr count bytes) (block : List ℕ) (w : Walk) where
+  not-fetched : (r : Refusal) → Refused r ≡ judgeFetch nr (length block) (w .count) → Fetches nr block w (Refused r) block
   unfolding answer blockLeft
   not-fetched r e = record { answer = e; block = left-old _ r _ block (sym e) }
 
-  pub wrong-block : (length block ≡ 16 → ⊥) → Fetches reads nr block w (Refused BlockLength) block
+  pub wrong-block : (length block ≡ 16 → ⊥) → Fetches nr block w (Refused BlockLength) block
   wrong-block n = not-fetched BlockLength (block-wrong nr _ _ n)
 
-  pub unfinished : length block ≡ 16 → (w .count ≡ count → ⊥) → Fetches reads nr block w (Refused Unfinished) block
+  pub unfinished : length block ≡ 16 → (w .count ≡ count → ⊥) → Fetches nr block w (Refused Unfinished) block
   unfinished l n = not-fetched Unfinished (count-wrong nr _ _ l (λ e. n (e ∙ N .all-lookups)))
 
   -- The block is left as the standing bytes.
-  pub fetched : (left : List ℕ) → length block ≡ 16 → w .count ≡ count → left ≡ w .standing → Fetches reads nr block w Accepted left
+  pub fetched : (left : List ℕ) → length block ≡ 16 → w .count ≡ count → left ≡ w .standing → Fetches nr block w Accepted left
   unfolding answer blockLeft
   fetched left l n e =
       let j = count-right nr _ _ l (n ∙ sym (N .all-lookups)) in

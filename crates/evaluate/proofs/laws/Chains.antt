@@ -1,5 +1,5 @@
--- Laws, not definitions: a chain of calls in code answers as the list of its calls does, for any number of rounds and any byte that the row shift
--- reads. A call that meets its contract answers what that list has it answer, and leaves the walk that it says; the rest is an induction.
+-- Laws, not definitions: a chain of calls in code answers as the list of its calls does, for any number of rounds. A call that meets its contract answers
+-- what that list has it answer, and leaves the walk that it says; the rest is an induction.
 -- Assumes nothing.
 use mathlib.Core.List.{List, [], _∷_, map}
 use mathlib.Core.Path.{_≡_, refl, ap, ap₂, _∙_}
@@ -14,29 +14,29 @@ use Rattle.evaluate.specs.declared.walk.Walk.{Walk}
 served : Answer → Held → List ℕ → Served
 served a w block = record { reply = replyOf a; walk = w; block = block }
 
-module _ (reads : ℕ → ℕ) (nr : ℕ) where
+module _ (nr : ℕ) where
   -- ---- one call
-  answers : (w : Walk) (m : CallMade) → Meets reads nr w m
-      → servedBy w m ≡ record { reply = reply reads nr (callOf m) (held w); walk = handed reads nr (callOf m) (held w); block = blockLeft reads nr (callOf m) (held w) }
+  answers : (w : Walk) (m : CallMade) → Meets nr w m
+      → servedBy w m ≡ record { reply = reply nr (callOf m) (held w); walk = handed nr (callOf m) (held w); block = blockLeft nr (callOf m) (held w) }
   unfolding served blockLeft handed
   answers w (moveTo set stop r) h = ap₂ (λ (a : Answer) (v : Held). served a v []) (h .answer) (h .walk)
   answers w (moveOne table r) h = ap₂ (λ (a : Answer) (v : Held). served a v []) (h .answer) (h .walk)
   answers w (fetched lent r left) h = ap₂ (λ (a : Answer) (b : List ℕ). served a (held w) b) (h .answer) (h .block)
 
-  leaves : (w : Walk) (m : CallMade) → Meets reads nr w m → held (walkAfter w m) ≡ handed reads nr (callOf m) (held w)
+  leaves : (w : Walk) (m : CallMade) → Meets nr w m → held (walkAfter w m) ≡ handed nr (callOf m) (held w)
   unfolding handed
   leaves w (moveTo set stop r) h = h .walk
   leaves w (moveOne table r) h = h .walk
   leaves w (fetched lent r left) h = refl
 
   -- ---- a chain of them
-  pub chain-serves : ChainServes reads nr
+  pub chain-serves : ChainServes nr
   unfolding serve lastWalk
   chain-serves w [] h = record { answers = refl; last = refl }
   chain-serves w (m ∷ ms) h =
-      let rest : Serves reads nr (walkAfter w m) ms = chain-serves (walkAfter w m) ms (h .1) in
+      let rest : Serves nr (walkAfter w m) ms = chain-serves (walkAfter w m) ms (h .1) in
       let next = leaves w m (h .0) in
       record {
-        answers = ap₂ (λ (s : Served) (ss : List Served). s ∷ ss) (answers w m (h .0)) (rest .answers ∙ ap (λ (v : Held). serve reads nr v (map callOf ms)) next);
-        last = rest .last ∙ ap (λ (v : Held). lastWalk reads nr v (map callOf ms)) next;
+        answers = ap₂ (λ (s : Served) (ss : List Served). s ∷ ss) (answers w m (h .0)) (rest .answers ∙ ap (λ (v : Held). serve nr v (map callOf ms)) next);
+        last = rest .last ∙ ap (λ (v : Held). lastWalk nr v (map callOf ms)) next;
       }

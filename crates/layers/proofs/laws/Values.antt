@@ -1,13 +1,10 @@
 -- Laws, not definitions: the byte behind the S-box, from the products of nibbles, the S-box as a table and the two key bytes.
 -- Assumes nothing.
-use mathlib.Core.Bool.{cond}
 use mathlib.Core.List.{List, _++_}
-use mathlib.Core.Path.{_≡_, refl, sym, ap, ap₂, _∙_, subst}
+use mathlib.Core.Path.{_≡_, sym, ap, ap₂, _∙_, subst}
 use Prim.Native.Nat.{ℕ, _+_, _-_, _*_, _/_, _%_, _≤_, _<_}
 use native.Mathlib.Omega.{arith}
-use borrow.Author.Tests.{eq-eqb, ne-eqb}
 use lib.Bits.{bitXor, xor-lt}
-use lib.Dec.{eqb}
 use lib.ListN.{length, set, take}
 use lib.Seq.{take-at}
 use Rattle.answers.specs.declared.Answer.the-variants.{Accepted}
@@ -20,8 +17,6 @@ use Rattle.matrices.specs.Rows.{rowsOf, wordsOf}
 use Rattle.matrices.proofs.laws.Matrices.{product-lt, product-xor}
 use Rattle.matrices.proofs.laws.Words.{length-words, product-of-words}
 use Rattle.inversion.specs.Elimination.{inverseOf}
-use Rattle.round.specs.Key.{keyOf}
-use Rattle.round.proofs.laws.Key.{key-at}
 use Rattle.bundle.specs.Format.{byteMatrices, byteMatrixPart}
 use Rattle.judgement.specs.Judge.{judge}
 use Rattle.judgement.proofs.laws.Judgements.{accepted-sound}
@@ -76,13 +71,6 @@ module _ (box : ℕ → ℕ) (m products sbox : List ℕ) (before behind : ℕ) 
   substituted-more read {x = x} y F h e k ev =
       filled-more F h (ev ∙ ap (λ (z : ℕ). bitXor z behind) (substituted-is (at read x) y e k))
 
--- ---- the key byte behind the S-box of nr rounds
-pub behind-last : (nr : ℕ) (keys : List ℕ) (r p : ℕ) → r ≡ nr → p < 16 → at keys (16 * nr + p) ≡ cond (eqb r nr) (at (keyOf keys nr) p) 0
-behind-last nr keys r p e h = rw (eq-eqb r nr e) (sym (key-at keys nr p h))
-
-pub behind-none : (nr : ℕ) (keys : List ℕ) (r p : ℕ) → (r ≡ nr → ⊥) → 0 ≡ cond (eqb r nr) (at (keyOf keys nr) p) 0
-behind-none nr keys r p e = rw (ne-eqb r nr e) refl
-
 -- ---- round r of nr, position p, of an accepted bundle l: j is the position that p reads, part the byte matrix of round r there
 module _ (nr : ℕ) (l part : List ℕ) (r j : ℕ) (low : 1 ≤ r) (high : r ≤ nr) (h : j < 16) (ep : part ≡ byteMatrixPart nr l (16 * (r - 1) + j)) where
   number-lt : 16 * (r - 1) + j < byteMatrices nr
@@ -96,19 +84,19 @@ module _ (nr : ℕ) (l part : List ℕ) (r j : ℕ) (low : 1 ≤ r) (high : r �
   byte-part-invertible bytes a =
       subst (λ (t : List ℕ). Invertible 8 (matrixOf 1 t)) (sym ep) (accepted-sound nr l bytes a .bytes (16 * (r - 1) + j) number-lt)
 
-  -- Of a cipher of the parts P: rows has the words of the inverse, `before` and `behind` are the key bytes, t the bytes that are left.
-  pub behind-is : (P : Parts) (read rest rows : List ℕ) (p before behind : ℕ) (t : List ℕ) → j ≡ P .reads p
+  -- Of a cipher of the parts P: rows has the words of the inverse, `before` and `behind` are the key bytes, `box` is the S-box, t the bytes that are left.
+  pub behind-is : (P : Parts) (box : ℕ → ℕ) (read rest rows : List ℕ) (p before behind : ℕ) (t : List ℕ) → P .substitute ≡ box → j ≡ P .reads p
       → rows ≡ wordsOf 8 (inverseOf 8 (matrixOf 1 part)) ++ rest → before ≡ P .before r j → behind ≡ P .behind r p
-      → t ≡ tabulate 256 (behindAt (P .substitute) rows before behind read)
+      → t ≡ tabulate 256 (behindAt box rows before behind read)
       → t ≡ tabulate 256 (λ x. substituted P (codingsOf nr l) r p (at read x))
   unfolding substituted
-  behind-is P read rest rows p before behind t ej er ea eb e =
+  behind-is P box read rest rows p before behind t es ej er ea eb e =
       let n = 16 * (r - 1) + j in
       let words = wordsOf 8 (inverseOf 8 (matrixOf 1 part)) in
       let begins = ap (take 16) er ∙ take-at words rest 16 (length-words 8 (inverseOf 8 (matrixOf 1 part))) in
       let matrix = sym (byte-is nr l n number-lt) ∙ ap (λ (k : ℕ). codingsOf nr l .byteMatrix (16 * (r - 1) + k)) ej in
       let inverse = ap (λ (q : List ℕ). inverseOf 8 (matrixOf 1 q)) ep ∙ ap (inverseOf 8) matrix in
       let key = ea ∙ ap (P .before r) ej in
-      e ∙ tabulate-ext 256 _ _ (λ x g.
+      e ∙ ap (λ (f : ℕ → ℕ). tabulate 256 (behindAt f rows before behind read)) (sym es) ∙ tabulate-ext 256 _ _ (λ x g.
       let decoded = product-of-words 8 (inverseOf 8 (matrixOf 1 part)) rows begins (at read x) ∙ ap (λ (m : List ℕ). product 8 m (at read x)) inverse in
       ap₂ bitXor (ap (P .substitute) (ap₂ bitXor decoded key)) eb)

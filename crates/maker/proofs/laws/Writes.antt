@@ -34,11 +34,11 @@ answer-judged nk key l memory e =
 
 module _ (nk : ℕ) (key l held : List ℕ) (room : length held ≡ setBytes (roundsOf nk)) {a : Answer}
     (e : a ≡ setAnswerFor nk (length key) l (length held)) where
-  writes : {b : Answer} → a ≡ b → makerWrites nk key l ≡ orLine b refusalLine (madeSet nk key l)
+  writes : {b : Answer} → a ≡ b → makerWrites nk key l ≡ orLine b refusalLine (madeSet 0 nk key l)
   unfolding makerWrites
-  writes d = ap (λ (x : Answer). orLine x refusalLine (madeSet nk key l)) (sym (answer-judged nk (length key) l (length held) room) ∙ sym e ∙ d)
+  writes d = ap (λ (x : Answer). orLine x refusalLine (madeSet 0 nk key l)) (sym (answer-judged nk (length key) l (length held) room) ∙ sym e ∙ d)
 
-  pub set-written : {left : List ℕ} → left ≡ setLeft nk key l held → length left ≡ length held → a ≡ Accepted
+  pub set-written : {left : List ℕ} → left ≡ setLeft 0 nk key l held → length left ≡ length held → a ≡ Accepted
       → Written (makerWrites nk key l) held (length left) left
   set-written {left} m kept d =
       let made : left ≡ makerWrites nk key l = m ∙ sym (left-new _ _ _ (sym e ∙ d)) ∙ sym (writes d) in
@@ -47,7 +47,7 @@ module _ (nk : ℕ) (key l held : List ℕ) (room : length held ≡ setBytes (ro
         bytes = made ∙ sym (append-nil _) ∙ ap (λ (t : List ℕ). makerWrites nk key l ++ t) (sym (drop-length held) ∙ ap (λ (n : ℕ). drop n held) (sym kept));
       }
 
-  pub line-written : (r : Refusal) {mid left : List ℕ} {n : ℕ} → mid ≡ setLeft nk key l held → a ≡ Refused r
+  pub line-written : (r : Refusal) {mid left : List ℕ} {n : ℕ} → mid ≡ setLeft 0 nk key l held → a ≡ Refused r
       → Written (refusalLine r) mid n left → Written (makerWrites nk key l) held n left
   line-written r {mid} m d w =
       let same : mid ≡ held = m ∙ sym (left-old _ r _ _ (sym e ∙ d)) in
@@ -95,9 +95,9 @@ module _ (nk : ℕ) (key : List ℕ) where
       → makerWrites nk key l ≡ makerWrites nk key m
   unfolding makerWrites judgedFor by-bundle
   both-refused l m {r} e f =
-      ap (λ (x : Answer). by-bundle x (madeSet nk key l)) e
-      ∙ refused-alike (wantsLength (4 * nk) (length key) KeyLength) r (madeSet nk key l) (madeSet nk key m)
-      ∙ ap (λ (x : Answer). by-bundle x (madeSet nk key m)) (sym f)
+      ap (λ (x : Answer). by-bundle x (madeSet 0 nk key l)) e
+      ∙ refused-alike (wantsLength (4 * nk) (length key) KeyLength) r (madeSet 0 nk key l) (madeSet 0 nk key m)
+      ∙ ap (λ (x : Answer). by-bundle x (madeSet 0 nk key m)) (sym f)
 
   abbrev most : ℕ
   most = longest (roundsOf nk)

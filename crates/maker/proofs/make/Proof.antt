@@ -4,6 +4,7 @@
 use mathlib.Core.Path.{sym, _∙_}
 use Rattle.layout.proofs.laws.Ten.{ten}
 use Rattle.maker.proofs.laws.Writes.{set-written, line-written}
+use native.Mathlib.Omega.{arith}
 use borrow.Author.Needs.{needs}
 use Rattle.maker.proofs.make.Statement.{statement}
 use Rattle.maker.proofs.make.Tie as tie
@@ -12,7 +13,7 @@ returns : tie.Need-returns
 returns c =
     let made : tie.After-make-set = search in
     let entry : tie.Start = search in
-    set-written 4 _ _ _ (entry .pre ∙ sym (ten .all-bytes)) (made .make-set .ensures .0) (made .make-set .ensures .1) (made .make-set .kept .1 .1 .0) (search)
+    set-written 4 _ _ _ (entry .pre ∙ sym (ten .all-bytes)) (made .make-set .ensures .0) (made .make-set .ensures .1) (omega (arith, made .make-set)) (search)
 
 returns-2 : tie.Need-returns-2
 returns-2 c =

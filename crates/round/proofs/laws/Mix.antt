@@ -1,15 +1,21 @@
 -- Laws, not definitions: MixColumns and InvMixColumns undo each other. Both are linear, so the product of the two matrices is
--- tested at the eight powers of x alone.
+-- tested at the eight powers of x alone. And both matrices are bytes.
 -- Assumes nothing.
 use mathlib.Core.Path.{_≡_, refl, ap, _∙_}
 use mathlib.Core.Bool.{Bool, true, false, cond}
 use mathlib.Core.List.{List}
 use Prim.Native.Nat.{ℕ, _+_, _*_, _^_, _<_}
-use lib.Dec.{T, eqb, ltb, eqb→eq, ltb→lt}
+use native.Mathlib.Decide.{decLt}
+use native.Mathlib.Omega.{arith}
+use lib.Dec.{T, eqb, ltb, eqb→eq, ltb→lt, lit<}
 use lib.Bits.{bitXor}
+use lib.ListN.{length}
 use Rattle.bits.specs.Groups.{xorAll}
-use Rattle.bits.specs.Bytes.{Block}
+use Rattle.bits.specs.Bytes.{Bytes, Block}
+use Rattle.bits.specs.Lists.{at}
+use Rattle.bits.proofs.laws.Checked as checked
 use Rattle.bits.proofs.laws.Checked.{all, all-at}
+use Rattle.bits.proofs.laws.Lists.{at-past}
 use Rattle.bits.proofs.laws.Xor.{Linear, agree}
 use Rattle.bits.proofs.laws.XorAll.{xorAll-same, xorAll-lt, xorAll-swap, linear-xorAll, xorAll-one, xorAll-linear}
 use Rattle.field.specs.Field.{xtime, times, mul}
@@ -70,28 +76,32 @@ module _ (n m : List ℕ) (t : T (undoes n m)) where
       ∙ xorAll-same 4 _ _ (λ p hp. prod-delta r p (cell s p c) hr hp (b .bytes (p + 4 * c)))
       ∙ xorAll-one 4 r (λ p. cell s p c) hr)
 
--- The entries of a matrix are bytes.
-small : List ℕ → Bool
-small m = all 4 (λ r. all 4 (λ q. ltb (entry m r q) 256))
+-- ---- The entries of both matrices are bytes, tested at each of the 16.
+rows-bytes : (m : List ℕ) → length m ≡ 16 → ((i : ℕ) → i < 16 → at m i < 256) → Bytes m
+rows-bytes m l e i = elim (decLt i 16) [
+  | yes h ↦ e i h
+  | no h ↦ rw (at-past m i (omega arith)) (lit< tt)
+]
 
-mix-by-block : (m : List ℕ) → T (small m) → (s : List ℕ) → Block (mixBy m s)
-unfolding mixBy small
-mix-by-block m t s =
-    block _
-    (λ r c hr hc.
-    xorAll-lt 8 4 _
-    (λ q hq.
-    mul-lt (entry m r q) (cell s q c)
-    (ltb→lt _ _
-    (all-at 4 (λ q. ltb (entry m r q) 256) (all-at 4 (λ r. all 4 (λ q. ltb (entry m r q) 256)) t r hr) q hq))))
+pub mix-bytes : Bytes mixRows
+unfolding mixRows
+mix-bytes = rows-bytes mixRows refl (λ i h. ltb→lt (at mixRows i) 256 (checked.at (λ (k x : ℕ). ltb x 256) mixRows tt i h))
+
+pub inv-mix-bytes : Bytes invMixRows
+unfolding invMixRows
+inv-mix-bytes = rows-bytes invMixRows refl (λ i h. ltb→lt (at invMixRows i) 256 (checked.at (λ (k x : ℕ). ltb x 256) invMixRows tt i h))
+
+mix-by-block : (m : List ℕ) → Bytes m → (s : List ℕ) → Block (mixBy m s)
+unfolding mixBy
+mix-by-block m bytes s = block _ (λ r c hr hc. xorAll-lt 8 4 _ (λ q hq. mul-lt (entry m r q) (cell s q c) (bytes (4 * r + q))))
 
 pub mix-block : (s : List ℕ) → Block (MixColumns s)
-unfolding MixColumns mixRows small
-mix-block = mix-by-block mixRows tt
+unfolding MixColumns
+mix-block = mix-by-block mixRows mix-bytes
 
 pub inv-mix-block : (s : List ℕ) → Block (InvMixColumns s)
-unfolding InvMixColumns invMixRows small
-inv-mix-block = mix-by-block invMixRows tt
+unfolding InvMixColumns
+inv-mix-block = mix-by-block invMixRows inv-mix-bytes
 
 pub inv-mix : (s : List ℕ) → Block s → InvMixColumns (MixColumns s) ≡ s
 unfolding MixColumns InvMixColumns mixRows invMixRows undoes power prod delta xorAll xtime times mul

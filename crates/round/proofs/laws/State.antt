@@ -1,6 +1,6 @@
 -- Laws, not definitions: of states by their cells, of SubBytes, ShiftRows and AddRoundKey and what undoes them, and of loops that fill a state.
 -- Assumes nothing.
-use mathlib.Core.Path.{_≡_, refl, ap, ap₂, _∙_}
+use mathlib.Core.Path.{_≡_, refl, sym, ap, ap₂, _∙_}
 use mathlib.Core.List.{List}
 use Prim.Native.Nat.{ℕ, _+_, _-_, _*_, _/_, _%_, _≤_, _<_}
 use native.Mathlib.Omega.{arith}
@@ -8,7 +8,7 @@ use lib.Dec.{lit<}
 use lib.Bits.{bitXor, xor-lt}
 use lib.ListN.{length}
 use native.Mathlib.Nat.{le-of-lt, lt-of-le-of-lt, mul-le-mul-left}
-use Rattle.bits.specs.Lists.{at}
+use Rattle.bits.specs.Lists.{at, tabulate}
 use Rattle.bits.specs.Bytes.{Bytes, Block}
 use Rattle.bits.proofs.laws.Lists.{length-tabulate, at-tabulate, tabulate-ext, tabulate-at, tabulate-below}
 use Rattle.bits.proofs.laws.Xor.{xor-back}
@@ -52,6 +52,38 @@ block f h =
       long = length-tabulate 16 _;
       bytes = tabulate-below 256 16 _ (lit< tt) (λ i l. h (i % 4) (i / 4) (omega arith) (omega arith));
     }
+
+-- ---- Byte p of a state.
+pub at-state : (f : ℕ → ℕ → ℕ) (p : ℕ) → p < 16 → at (state f) p ≡ f (p % 4) (p / 4)
+unfolding state
+at-state f p h = at-tabulate 16 _ p h
+
+-- Of a transformation that makes each byte from those at its own place.
+each-at : (g : ℕ → ℕ) (p : ℕ) → p < 16 → at (state (λ r c. g (r + 4 * c))) p ≡ g p
+each-at g p h = at-state _ p h ∙ ap g (sym (place p))
+
+pub sub-at : (s : List ℕ) (p : ℕ) → p < 16 → at (SubBytes s) p ≡ sboxOf (at s p)
+unfolding SubBytes
+sub-at s = each-at (λ i. sboxOf (at s i))
+
+pub inv-sub-at : (s : List ℕ) (p : ℕ) → p < 16 → at (InvSubBytes s) p ≡ invSboxOf (at s p)
+unfolding InvSubBytes
+inv-sub-at s = each-at (λ i. invSboxOf (at s i))
+
+pub add-at : (s k : List ℕ) (p : ℕ) → p < 16 → at (AddRoundKey s k) p ≡ bitXor (at s p) (at k p)
+unfolding AddRoundKey
+add-at s k = each-at (λ i. bitXor (at s i) (at k i))
+
+-- A state from its bytes.
+tabulated : (f : ℕ → ℕ) (s : List ℕ) → length s ≡ 16 → ((p : ℕ) → p < 16 → f p ≡ at s p) → tabulate 16 f ≡ s
+tabulated f s l e = tabulate-ext 16 f (at s) e ∙ tabulate-at 16 s l
+
+pub shifted-is : (f : ℕ → ℕ) (s : List ℕ) → ((p : ℕ) → p < 16 → f p ≡ at (ShiftRows s) p) → tabulate 16 f ≡ ShiftRows s
+unfolding ShiftRows state
+shifted-is f s e = tabulated f _ (length-tabulate 16 _) e
+
+pub added-is : (f : ℕ → ℕ) (s k : List ℕ) → ((p : ℕ) → p < 16 → f p ≡ bitXor (at s p) (at k p)) → tabulate 16 f ≡ AddRoundKey s k
+added-is f s k e = tabulated f (AddRoundKey s k) (unfold AddRoundKey state in length-tabulate 16 _) (λ p h. e p h ∙ sym (add-at s k p h))
 
 -- ---- A function of each byte.
 each-block : (f : ℕ → ℕ) → ((x : ℕ) → x < 256 → f x < 256) → (s : List ℕ) → Block s → Block (state (λ r c. f (cell s r c)))

@@ -228,18 +228,19 @@ module _ (P : Parts) (fine : Fine P) (nr : ℕ) (l : List ℕ) (bytes : Bytes l)
       ∙ sym (packed-words (widthOf s) (spreadEntry (C .encoding) (layerOf P C nr s) (numbersOf nr s) p) (wide nr s round))
 
   -- The same from what the code has: the width m, the first number, the section of encodings, and each list as the call that fills it leaves it.
-  pub spread-made : (m first : ℕ) (section values basis old images rest dst : List ℕ)
+  pub spread-made : (m first : ℕ) (reads : ℕ → ℕ) (section values basis old images rest dst : List ℕ)
+      → P .reads ≡ reads
       → m ≡ widthOf s
       → first ≡ firstNumber nr s
       → section ≡ sectionOf nr l 0
       → 16 ≤ length old
-      → values ≡ tabulate 256 (λ x. acted P C nr s p (readByte nr (P .reads) l s p x))
+      → values ≡ tabulate 256 (λ x. acted P C nr s p (readByte nr reads l s p x))
       → basis ≡ stored 8 (λ k. wordNumber P C s p (2 ^ k)) old
       → images ≡ concat (2 * m) (λ h. encodingIn section (first + p * (2 * m) + h)) ++ rest
       → dst ≡ concat 256 (λ x. encodedWord (at images) m (combined (rowAt basis) (at values x)))
       → dst ≡ spreadTable (C .encoding) (layerOf P C nr s) (numbersOf nr s) p
   unfolding partAt partSize
-  spread-made m first section values basis old images rest dst width number sect long val bas img written =
-      spread-is values images dst (rowAt basis) (rw width at written) val
+  spread-made m first reads section values basis old images rest dst same width number sect long val bas img written =
+      spread-is values images dst (rowAt basis) (rw width at written) (rw (sym same) at val)
       (λ k h. ap (λ (t : List ℕ). rowAt t k) bas ∙ row-stored 8 _ old long k h)
       (rw (width, number, sect) at (images-front section images rest (first + p * (2 * m)) (2 * m) img))

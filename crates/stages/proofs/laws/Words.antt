@@ -81,11 +81,11 @@ module _ (P : Parts) (nr : ℕ) (l : List ℕ) (s : Stage) (p : ℕ) (old basis 
       let some : 1 ≤ nr = subst (InRounds nr) e round in
       rw e (b ∙ stored-same 8 _ _ old (λ k h. entry-code P nr l p (2 ^ k) m some (inverse .1)))
 
-  pub based-first : (r n : ℕ) (part : List ℕ) → s ≡ First r → n ≡ columnNumber r p → n < columnMatrices nr → part ≡ columnMatrixPart nr l n
-      → basis ≡ stored 8 (λ k. product 32 (matrixOf 4 part) (number 4 (λ t. mul (P .coefficient t (p % 4)) (2 ^ k)))) old
+  pub based-first : (r n : ℕ) (part : List ℕ) (mix : ℕ → ℕ → ℕ) → P .coefficient ≡ mix → s ≡ First r → n ≡ columnNumber r p → n < columnMatrices nr → part ≡ columnMatrixPart nr l n
+      → basis ≡ stored 8 (λ k. product 32 (matrixOf 4 part) (number 4 (λ t. mul (mix t (p % 4)) (2 ^ k)))) old
       → Based
-  based-first r n part e number small is b =
-      rw e (b ∙ stored-same 8 _ _ old (λ k h. first-code P nr l p (2 ^ k) r part (rw number at small) (rw number at is)))
+  based-first r n part mix same e number small is b =
+      rw e (rw (sym same) at b ∙ stored-same 8 _ _ old (λ k h. first-code P nr l p (2 ^ k) r part (rw number at small) (rw number at is)))
 
   pub based-second : (r : ℕ) (m : List ℕ) → s ≡ Second r → InRounds nr s → p < 16 → Begins (inverseFor nr l s p) m
       → basis ≡ stored 8 (λ k. spreadWord nr l (rowsOf 32 m) 4 (p % 4) (16 * r + 4 * (p / 4)) (2 ^ k)) old

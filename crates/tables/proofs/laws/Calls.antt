@@ -21,20 +21,20 @@ use Rattle.layout.specs.Stages.{lookups, setBytes, tableSize, placeOf}
 use Rattle.layout.specs.declared.stage.Place.{Place}
 use Rattle.layout.proofs.laws.Lookup.{Sizes}
 use Rattle.whitebox.specs.Bundles.{codingsOf, madeSet, madeTable}
-use Rattle.whitebox.specs.Parts.{forward}
+use Rattle.whitebox.specs.Parts.{partsFor}
 use Rattle.whitebox.specs.Tables.{tableOf, setOf}
 use Rattle.tables.specs.Calls.{judgedFor, setAnswerFor, tableAnswerFor}
 
--- ---- what is made, from the key that the code has copied and the round keys that it has expanded
-module _ (nk : ℕ) (key copy l w dst : List ℕ) (c : copy ≡ key) (e : w ≡ KeyExpansion nk copy) where
+-- ---- what is made for the cipher c, from the key that the code has copied and the round keys that it has expanded
+module _ (c nk : ℕ) (key copy l w dst : List ℕ) (same : copy ≡ key) (e : w ≡ KeyExpansion nk copy) where
   pub set-made : (count : ℕ) → lookups (roundsOf nk) ≡ count
-      → dst ≡ concat count (tableOf (forward (roundsOf nk) w) (codingsOf (roundsOf nk) l) (roundsOf nk)) → dst ≡ madeSet nk key l
+      → dst ≡ concat count (tableOf (partsFor c (roundsOf nk) w) (codingsOf (roundsOf nk) l) (roundsOf nk)) → dst ≡ madeSet c nk key l
   unfolding madeSet setOf
-  set-made count n d = rw (e, c, sym n) at d
+  set-made count n d = rw (e, same, sym n) at d
 
-  pub one-made : (n : ℕ) → dst ≡ tableOf (forward (roundsOf nk) w) (codingsOf (roundsOf nk) l) (roundsOf nk) n → dst ≡ madeTable nk key l n
+  pub one-made : (n : ℕ) → dst ≡ tableOf (partsFor c (roundsOf nk) w) (codingsOf (roundsOf nk) l) (roundsOf nk) n → dst ≡ madeTable c nk key l n
   unfolding madeTable
-  one-made n d = rw (e, c) at d
+  one-made n d = rw (e, same) at d
 
 -- ---- causes 1 to 7
 module _ (nk key : ℕ) (l : List ℕ) where

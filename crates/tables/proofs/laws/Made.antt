@@ -3,8 +3,8 @@
 -- Assumes nothing.
 use mathlib.Core.Bool.{not}
 use mathlib.Core.List.{List}
-use mathlib.Core.Path.{_≡_, refl, sym, ap, _∙_}
-use Prim.Native.Nat.{ℕ}
+use mathlib.Core.Path.{_≡_, refl, sym, ap, _∙_, subst}
+use Prim.Native.Nat.{ℕ, suc}
 use borrow.Author.Tests.{lt-ltb}
 use lib.ListN.{length}
 use Rattle.answers.specs.declared.Answer.the-variants.{Accepted}
@@ -12,17 +12,16 @@ use Rattle.answers.specs.declared.Refusal.the-variants.{TableNumber, SetLength}
 use Rattle.answers.proofs.laws.Tests.{second-decides, test-passes, length-right, left-new}
 use Rattle.bits.specs.Bytes.{Bytes}
 use Rattle.round.specs.Key.{roundsOf}
-use Rattle.aes.specs.Cipher.{decipherOf}
-use Rattle.external.specs.Coding.{encodeInput, decodeOutput}
 use Rattle.layout.specs.Stages.{lookups, setBytes, tableSize}
 use Rattle.whitebox.specs.Bundles.{madeSet, madeTable}
 use Rattle.whitebox.specs.Calls.{tablePart}
-use Rattle.whitebox.specs.Demand2.{walkedOver}
+use Rattle.whitebox.specs.Demand2.{WalkIsCipher}
 use Rattle.whitebox.specs.Demand3.{Given}
 use Rattle.whitebox.proofs.laws.Demands.{demand2-for}
 use Rattle.whitebox.proofs.laws.Joined.{made-in-set}
+use Rattle.whitebox.proofs.laws.RoundTrip.{round-trip-for}
 use Rattle.tables.specs.Calls.{judgedFor, setAnswerFor, tableAnswerFor, setLeft}
-use Rattle.tables.specs.Made.{GivenBySet, GivenByTable, SetOfGiven, TableOfGiven, MadeSetEnciphers, TableOfSet, MadeFor, Made}
+use Rattle.tables.specs.Made.{GivenBySet, GivenByTable, SetOfGiven, TableOfGiven, MadeWalkIsCipher, MadeSetsGiveBack, TableOfSet, MadeFor, Made}
 use Rattle.tables.proofs.laws.Calls.{judged-by, Lent, set-lent, table-lent, table-inside}
 
 -- ---- a given key and bundle, and the judgement of both
@@ -51,24 +50,27 @@ table-of-given nk key l n g h =
     sym (long ∙ second-decides _ _ (sym number) ∙ second-decides _ _ (judged-given nk key l g))
 
 -- ---- demand 2 of the bytes that are left
-pub set-enciphers : (nk : ℕ) → MadeSetEnciphers nk
-set-enciphers nk key l held b lent k bytes e block room =
+pub walk-is-cipher : (nk : ℕ) → MadeWalkIsCipher nk
+walk-is-cipher nk c key l held b lent k bytes e block room =
     let g = given-by-set nk key l (length held) k bytes e in
-    let D = demand2-for nk key l b lent (g .long) k bytes (g .judged) block room in
-    let made : setLeft nk key l held ≡ madeSet nk key l = sym (left-new _ (madeSet nk key l) held e) in
-    let walk = ap (λ (set : List ℕ). walkedOver (roundsOf nk) set (encodeInput (roundsOf nk) l b) lent) made in
-    record {
-      coded = walk ∙ D .coded;
-      uncoded = ap (decodeOutput (roundsOf nk) l) walk ∙ D .uncoded;
-      deciphered = ap (λ (y : List ℕ). decipherOf nk key (decodeOutput (roundsOf nk) l y)) walk ∙ D .deciphered;
-    }
+    let left : madeSet c nk key l ≡ setLeft c nk key l held = left-new _ (madeSet c nk key l) held e in
+    subst (λ (set : List ℕ). WalkIsCipher c nk key l set b lent) left (demand2-for nk c key l b lent (g .long) k bytes (g .judged) block room)
+
+-- ---- the round trip
+pub sets-give-back : (nk : ℕ) → MadeSetsGiveBack nk
+sets-give-back nk i i′ key l l′ held held′ x lent lent′ k bytes bytes′ e e′ crossed presented room room′ =
+    let g = given-by-set nk key l (length held) k bytes e in
+    let g′ = given-by-set nk key l′ (length held′) k bytes′ e′ in
+    let left : madeSet 0 nk key l ≡ setLeft 0 nk key l held = left-new _ (madeSet 0 nk key l) held e in
+    let left′ : madeSet (suc i′) nk key l′ ≡ setLeft (suc i′) nk key l′ held′ = left-new _ (madeSet (suc i′) nk key l′) held′ e′ in
+    rw (sym left, sym left′) (round-trip-for nk i i′ key l l′ x lent lent′ g g′ crossed presented room room′)
 
 -- ---- one table
 pub table-of-set : (nk : ℕ) → TableOfSet nk
-table-of-set nk key l n held one e f =
-    sym (left-new _ (madeTable nk key l n) one f)
-    ∙ sym (made-in-set nk key l .part n (table-inside nk (length key) l n (length one) f))
-    ∙ ap (λ (set : List ℕ). tablePart (roundsOf nk) set n) (left-new _ (madeSet nk key l) held e)
+table-of-set nk c key l n held one e f =
+    sym (left-new _ (madeTable c nk key l n) one f)
+    ∙ sym (made-in-set nk c key l .part n (table-inside nk (length key) l n (length one) f))
+    ∙ ap (λ (set : List ℕ). tablePart (roundsOf nk) set n) (left-new _ (madeSet c nk key l) held e)
 
 -- ---- all of them
 pub made-for : (nk : ℕ) → MadeFor nk
@@ -78,7 +80,8 @@ made-for nk =
       given-by-table = given-by-table nk;
       set-of-given = set-of-given nk;
       table-of-given = table-of-given nk;
-      set-enciphers = set-enciphers nk;
+      walk-is-cipher = walk-is-cipher nk;
+      sets-give-back = sets-give-back nk;
       table-of-set = table-of-set nk;
     }
 

@@ -6,9 +6,10 @@ use Prim.Native.Nat.{ℕ, _+_}
 use native.Mathlib.Omega.{arith}
 use lib.ListN.{length, take, drop, length-append}
 use lib.Seq.{take-at, drop-at}
+use Rattle.layout.specs.Ciphers.{kept, readsOf}
 use Rattle.layout.specs.Stages.{tableSize, tableOffset}
 use Rattle.layout.proofs.laws.Instance.{next-offset}
-use Rattle.whitebox.specs.Calls.{Held, step, advance, oneLookup, handed, lastWalk}
+use Rattle.whitebox.specs.Calls.{Held, holding, step, advance, oneLookup, handed, lastWalk}
 use Rattle.whitebox.proofs.laws.Calls.{one-handed}
 use Rattle.streams.specs.Received.{joined}
 use Rattle.walker.specs.Tables.{AllAccepted}
@@ -20,36 +21,40 @@ unfolding joined
 joined-more [] last = append-nil last
 joined-more (part ∷ parts) last = ap (λ (l : List ℕ). part ++ l) (joined-more parts last) ∙ sym (append-assoc part (joined parts) last)
 
-module _ (reads : ℕ → ℕ) (nr : ℕ) where
+module _ (nr : ℕ) where
   abbrev last : Held → List (List ℕ) → Held
-  last w ts = lastWalk reads nr w (map oneLookup ts)
+  last w ts = lastWalk nr w (map oneLookup ts)
 
   -- The bytes read stand up to the offset of the next table, and the count is the number of tables read.
-  pub joined-count : (w : Held) (ts : List (List ℕ)) → AllAccepted reads nr w ts → last w ts .state .count ≡ w .state .count + length ts
+  pub joined-count : (w : Held) (ts : List (List ℕ)) → AllAccepted nr w ts → last w ts .state .count ≡ w .state .count + length ts
   unfolding lastWalk
   joined-count w [] a = omega arith
   joined-count w (t ∷ ts) a =
-      omega (arith, made reads nr t w (a .0) .count, joined-count (handed reads nr (oneLookup t) w) ts (a .1))
+      omega (arith, made nr t w (a .0) .count, joined-count (handed nr (oneLookup t) w) ts (a .1))
 
-  pub joined-bytes : (w : Held) (ts : List (List ℕ)) → AllAccepted reads nr w ts
+  pub joined-bytes : (w : Held) (ts : List (List ℕ)) → AllAccepted nr w ts
       → tableOffset nr (w .state .count) + length (joined ts) ≡ tableOffset nr (last w ts .state .count)
   unfolding lastWalk joined
   joined-bytes w [] a = omega arith
   joined-bytes w (t ∷ ts) a =
-      let m = made reads nr t w (a .0) in
+      let m = made nr t w (a .0) in
       let on = next-offset nr (w .state .count) (m .inside) ∙ ap (λ (n : ℕ). tableOffset nr (w .state .count) + n) (sym (m .long)) in
-      let rest = joined-bytes (handed reads nr (oneLookup t) w) ts (a .1) in
+      let rest = joined-bytes (handed nr (oneLookup t) w) ts (a .1) in
       omega (arith, ap (tableOffset nr) (m .count), on, rest, length-append t (joined ts))
 
-  -- The memory has the tables behind a part of as many bytes as stand before them, and any bytes behind.
-  pub joined-walk : (w : Held) (ts : List (List ℕ)) → AllAccepted reads nr w ts → (before behind : List ℕ) → length before ≡ tableOffset nr (w .state .count)
-      → last w ts .state ≡ advance reads nr (before ++ joined ts ++ behind) (length ts) (w .state)
+  -- The memory has the tables behind a part of as many bytes as stand before them, and any bytes behind. The walk holds 0 or 1, and keeps it.
+  pub joined-walk : (w : Held) (ts : List (List ℕ)) → kept (w .cipher) ≡ w .cipher → AllAccepted nr w ts → (before behind : List ℕ)
+      → length before ≡ tableOffset nr (w .state .count)
+      → last w ts ≡ holding (w .cipher) (advance (readsOf (w .cipher)) nr (before ++ joined ts ++ behind) (length ts) (w .state))
   unfolding lastWalk joined advance
-  joined-walk w [] a before behind e = refl
-  joined-walk w (t ∷ ts) a before behind e =
-      let m = made reads nr t w (a .0) in
+  joined-walk w [] keeps a before behind e = refl
+  joined-walk w (t ∷ ts) keeps a before behind e =
+      let m = made nr t w (a .0) in
       let k = w .state .count in
-      let next = handed reads nr (oneLookup t) w in
+      let reads = readsOf (w .cipher) in
+      let next = handed nr (oneLookup t) w in
+      let gone : next ≡ holding (w .cipher) (step reads nr t (w .state)) = one-handed nr t w (a .0) ∙ ap (λ (c : ℕ). holding c (step reads nr t (w .state))) keeps in
+      let same : next .cipher ≡ w .cipher = ap (λ (v : Held). v .cipher) gone in
       let mem : List ℕ = before ++ (t ++ joined ts) ++ behind in
       let apart : mem ≡ before ++ (t ++ (joined ts ++ behind)) = simp append-assoc in
       let here : take (tableSize nr k) (drop (tableOffset nr k) mem) ≡ t =
@@ -60,7 +65,7 @@ module _ (reads : ℕ → ℕ) (nr : ℕ) where
       let upto : length (before ++ t) ≡ tableOffset nr (next .state .count) =
       omega (arith, length-append before t, m .long, next-offset nr k (m .inside), ap (tableOffset nr) (m .count))
       in
-      joined-walk next ts (a .1) (before ++ t) behind upto
-      ∙ ap (λ (l : List ℕ). advance reads nr (l ++ behind) (length ts) (next .state)) (append-assoc before t (joined ts))
-      ∙ ap (λ (v : Held). advance reads nr mem (length ts) (v .state)) (one-handed reads nr t w (a .0))
-      ∙ ap (λ (u : List ℕ). advance reads nr mem (length ts) (step reads nr u (w .state))) (sym here)
+      joined-walk next ts (ap kept same ∙ keeps ∙ sym same) (a .1) (before ++ t) behind upto
+      ∙ ap (λ (l : List ℕ). holding (next .cipher) (advance (readsOf (next .cipher)) nr (l ++ behind) (length ts) (next .state))) (append-assoc before t (joined ts))
+      ∙ ap (λ (v : Held). holding (v .cipher) (advance (readsOf (v .cipher)) nr mem (length ts) (v .state))) gone
+      ∙ ap (λ (u : List ℕ). holding (w .cipher) (advance reads nr mem (length ts) (step reads nr u (w .state)))) (sym here)

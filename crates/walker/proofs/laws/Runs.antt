@@ -16,12 +16,13 @@ use Rattle.answers.specs.declared.Answer.the-variants.{Accepted, Refused}
 use Rattle.answers.specs.declared.Refusal.{Refusal}
 use Rattle.answers.specs.declared.Refusal.the-variants.{SetLength}
 use Rattle.answers.proofs.laws.Tests.{length-wrong, length-right, left-new}
-use Rattle.layout.specs.Stages.{shifted, lookups, setBytes, tablesBytes, tableOffset}
+use Rattle.layout.specs.Ciphers.{kept, readsOf}
+use Rattle.layout.specs.Stages.{lookups, setBytes, tablesBytes, tableOffset}
 use Rattle.layout.proofs.laws.Instance.{first-offset, ends-in-tables}
 use Rattle.layout.proofs.laws.Ranges.{by-stage}
 use Rattle.whitebox.specs.Calls.{Held, holding, changed, judgeStart, judgeStop, judgeFetch, started, advance, toStop, oneLookup, fetch, answer, handed, blockLeft, lastWalk}
 use Rattle.whitebox.specs.Demand2.{walkedOver}
-use Rattle.whitebox.proofs.laws.Calls.{start-count}
+use Rattle.whitebox.proofs.laws.Calls.{start-keeps, start-count}
 use Rattle.whitebox.proofs.laws.Judged.{stop-right, count-right}
 use Rattle.evaluate.specs.Held.{held}
 use Rattle.evaluate.specs.Contracts.{Opens}
@@ -50,23 +51,23 @@ module _ (nr : ℕ) (block : List ℕ) where
     unfolding walkerWrites
     set-refused set h = rw (s, ← length-wrong (setBytes nr) (length set) SetLength h)
 
-    pub set-right : (set : List ℕ) → length set ≡ setBytes nr → walkerWrites nr block set ≡ answerLine (walkedOver nr set block blank)
+    pub set-right : (set : List ℕ) → length set ≡ setBytes nr → walkerWrites nr block set ≡ answerLine (walkedOver 0 nr set block blank)
     unfolding walkerWrites
     set-right set h = rw (s, ← length-right (setBytes nr) (length set) SetLength h)
 
   -- ---- from the start on
-  module _ {v : Held} (o : OverTables shifted nr (started block) v) where
-    same-count : v .state .count ≡ lastWalk shifted nr (started block) (map oneLookup (o .tables)) .state .count
+  module _ {v : Held} (o : OverTables nr (started 0 block) v) where
+    same-count : v .state .count ≡ lastWalk nr (started 0 block) (map oneLookup (o .tables)) .state .count
     same-count = ap (λ (w : Held). w .state .count) (o .walk)
 
-    none-before : tableOffset nr (started block .state .count) ≡ 0
-    none-before = ap (tableOffset nr) (start-count block) ∙ first-offset nr
+    none-before : tableOffset nr (started 0 block .state .count) ≡ 0
+    none-before = ap (tableOffset nr) (start-count 0 block) ∙ first-offset nr
 
     bytes-read : length (joined (o .tables)) ≡ tableOffset nr (v .state .count)
-    bytes-read = omega (arith, none-before, joined-bytes shifted nr (started block) (o .tables) (o .accepted), ap (tableOffset nr) same-count)
+    bytes-read = omega (arith, none-before, joined-bytes nr (started 0 block) (o .tables) (o .accepted), ap (tableOffset nr) same-count)
 
     -- A table that is too short.
-    short-set : {r : Refusal} (h : Short shifted nr v r) → length (joined (o .tables) ++ h .table) < setBytes nr
+    short-set : {r : Refusal} (h : Short nr v r) → length (joined (o .tables) ++ h .table) < setBytes nr
     short-set h = go (decLt (v .state .count) (lookups nr))
       where
         go : Dec (v .state .count < lookups nr) → length (joined (o .tables) ++ h .table) < setBytes nr
@@ -81,22 +82,24 @@ module _ (nr : ℕ) (block : List ℕ) where
           let all : tableOffset nr (lookups nr) ≡ tablesBytes nr = by-stage nr .offset-none (lookups nr) (omega arith) in
           omega (arith, bytes-read, ap (tableOffset nr) c, same-bytes nr, length-append (joined (o .tables)) extra)
 
-      whole-walk : length extra ≡ 0 → handed shifted nr (toStop (joined (o .tables) ++ extra) (lookups nr)) (started block) ≡ v
+      whole-walk : length extra ≡ 0 → handed nr (toStop (joined (o .tables) ++ extra) (lookups nr)) (started 0 block) ≡ v
       unfolding handed
       whole-walk z =
           let set : List ℕ = joined (o .tables) ++ extra in
-          let w : Held = started block in
-          let tables : length (o .tables) ≡ lookups nr - w .state .count =
-          omega (arith, start-count block, same-count, joined-count shifted nr w (o .tables) (o .accepted))
+          let w : Held = started 0 block in
+          let all : ℕ = lookups nr - w .state .count in
+          let tables : length (o .tables) ≡ all =
+          omega (arith, start-count 0 block, same-count, joined-count nr w (o .tables) (o .accepted))
           in
           let accepted : judgeStop nr (length set) (lookups nr) (w .state .count) ≡ Accepted =
-          sym (stop-right nr (length set) (lookups nr) (w .state .count) (omega (arith, set-length)) (omega arith) (omega (arith, start-count block)))
+          sym (stop-right nr (length set) (lookups nr) (w .state .count) (omega (arith, set-length)) (omega arith) (omega (arith, start-count 0 block)))
           in
-          let reached : v .state ≡ advance shifted nr set (lookups nr - w .state .count) (w .state) =
-          ap (λ (u : Held). u .state) (o .walk) ∙ joined-walk shifted nr w (o .tables) (o .accepted) [] extra (sym none-before)
-          ∙ ap (λ (n : ℕ). advance shifted nr set n (w .state)) tables
+          let keeps : kept (w .cipher) ≡ w .cipher = start-keeps 0 block in
+          let after : ℕ → ℕ → Held = λ c n. holding c (advance (readsOf (w .cipher)) nr set n (w .state)) in
+          let reached : v ≡ after (w .cipher) all =
+          o .walk ∙ joined-walk nr w (o .tables) keeps (o .accepted) [] extra (sym none-before) ∙ ap (after (w .cipher)) tables
           in
-          sym (left-new _ (changed (advance shifted nr set (lookups nr - w .state .count)) w) w accepted) ∙ ap holding (sym reached)
+          sym (left-new _ (changed (advance (readsOf (w .cipher)) nr set all) w) w accepted) ∙ ap (λ (c : ℕ). after c all) keeps ∙ sym reached
 
       module _ (s : judgeStart (length block) ≡ Accepted) where
         line-right : length extra ≡ 0 → lineOf nr v (length extra) ≡ walkerWrites nr block (joined (o .tables) ++ extra)
@@ -104,8 +107,8 @@ module _ (nr : ℕ) (block : List ℕ) where
         line-right z =
             let accepted : judgeFetch nr (length blank) (v .state .count) ≡ Accepted = sym (count-right nr (length blank) (v .state .count) refl c) in
             let none : ltb 0 (length extra) ≡ false = le-ltb 0 (length extra) (omega arith) in
-            let line : lineOf nr v (length extra) ≡ answerLine (blockLeft shifted nr (fetch blank) v) = rw (none, accepted) in
-            line ∙ ap (λ (w : Held). answerLine (blockLeft shifted nr (fetch blank) w)) (sym (whole-walk z))
+            let line : lineOf nr v (length extra) ≡ answerLine (blockLeft nr (fetch blank) v) = rw (none, accepted) in
+            line ∙ ap (λ (w : Held). answerLine (blockLeft nr (fetch blank) w)) (sym (whole-walk z))
             ∙ sym (set-right s (joined (o .tables) ++ extra) (omega (arith, set-length)))
 
         line-long : 0 < length extra → lineOf nr v (length extra) ≡ walkerWrites nr block (joined (o .tables) ++ extra)
@@ -126,7 +129,7 @@ none-joined : length (joined []) ≡ 0
 unfolding joined
 none-joined = refl
 
-module _ (nr got : ℕ) (array : List ℕ) (f : Front got array) (l : length array ≡ 16) {o : Opening} (p : Opens (take got array) o) where
+module _ (nr got : ℕ) (array : List ℕ) (f : Front got array) (l : length array ≡ 16) {o : Opening} (p : Opens 0 (take got array) o) where
   abbrev block : List ℕ
   block = take got array
 
@@ -145,11 +148,11 @@ module _ (nr got : ℕ) (array : List ℕ) (f : Front got array) (l : length arr
         written = rw (block-refused nr block (joined []) (sym (p .answer) ∙ e)) w;
       }
 
-  module _ (s : o .answer ≡ Accepted) {m : Move} (i : OverInput shifted nr (held (o .walk)) (m .answer) (held (m .walk))) where
+  module _ (s : o .answer ≡ Accepted) {m : Move} (i : OverInput nr (held (o .walk)) (m .answer) (held (m .walk))) where
     started-right : judgeStart (length block) ≡ Accepted
     started-right = sym (p .answer) ∙ s
 
-    over : OverInput shifted nr (started block) (m .answer) (held (m .walk))
+    over : OverInput nr (started 0 block) (m .answer) (held (m .walk))
     over = rw (p .walk) at i
 
     -- The tables and one part more.
@@ -179,7 +182,7 @@ module _ (nr got : ℕ) (array : List ℕ) (f : Front got array) (l : length arr
         → Written (lineOf nr (held (m .walk)) rest) line end left → Runs nr line end left
     runs-whole rest more a c one w =
         let extra : List ℕ = take rest more in
-        let all = over .whole a (omega (arith, start-count block)) in
+        let all = over .whole a (omega (arith, start-count 0 block)) in
         let most : length (joined (over .over .tables) ++ extra) ≤ suc (setBytes nr) =
         omega (arith, set-length nr block (over .over) all extra, c .counts) in
         with-last extra (c .received) most (rw (← line-is nr block (over .over) all extra started-right, ← c .counts .1) w)

@@ -1,4 +1,4 @@
--- Laws, not definitions: a walk over tables that are read one by one, for any number nr of rounds and any byte `reads` that the row shift reads.
+-- Laws, not definitions: a walk over tables that are read one by one, for any number nr of rounds.
 -- Assumes nothing.
 use mathlib.Core.List.{List, [], _∷_, _++_, map}
 use mathlib.Core.Path.{_≡_, refl, sym, ap, _∙_}
@@ -10,6 +10,7 @@ use lib.Seq.{take-append-le}
 use Rattle.answers.specs.declared.Answer.the-variants.{Accepted, Refused}
 use Rattle.answers.specs.declared.Refusal.{Refusal}
 use Rattle.answers.proofs.laws.Tests.{left-old}
+use Rattle.layout.specs.Ciphers.{readsOf}
 use Rattle.layout.specs.Stages.{lookups, tableSize, placeOf}
 use Rattle.layout.specs.declared.stage.Place.{Place}
 use Rattle.layout.proofs.laws.Lookup.{stands}
@@ -33,9 +34,9 @@ size-most nr n {p} e = go (decLt n (lookups nr))
     go (no h) = omega (arith, ap (λ (q : Place). q .size) e, by-stage nr .size-none n (omega arith))
 
 -- The table of the walk's count: `got` bytes at the front of x were read, and y stands behind x in the memory.
-pub next-read : (reads : ℕ → ℕ) (nr : ℕ) {w : Walk} {r : Move} (size got : ℕ) (x y : List ℕ)
-    → size ≡ tableSize nr (w .count) → Front got x → length x ≤ size → Moves reads nr (oneLookup (take got (x ++ y))) w r → Next reads nr w r
-next-read reads nr size got x y e f h m =
+pub next-read : (nr : ℕ) {w : Walk} {r : Move} (size got : ℕ) (x y : List ℕ)
+    → size ≡ tableSize nr (w .count) → Front got x → length x ≤ size → Moves nr (oneLookup (take got (x ++ y))) w r → Next nr w r
+next-read nr size got x y e f h m =
     let part : take got (x ++ y) ≡ take got x = take-append-le got x y (f .counts .0) in
     record { table = take got x; read = f .received; most = omega (arith, f .counts, length-take got x); moves = rw part at m }
 
@@ -44,63 +45,63 @@ pub received-more : (parts : List (List ℕ)) (last : List ℕ) → AllReceived 
 received-more [] last r s = (s, tt)
 received-more (part ∷ parts) last r s = (r .0, received-more parts last (r .1) s)
 
-module _ (reads : ℕ → ℕ) (nr : ℕ) where
+module _ (nr : ℕ) where
   -- ---- one lookup that is accepted
   pub record Made (t : List ℕ) (w : Held) : Type 0 where
     pub inside : w .state .count < lookups nr
     pub long : length t ≡ tableSize nr (w .state .count)
-    pub count : handed reads nr (oneLookup t) w .state .count ≡ suc (w .state .count)
+    pub count : handed nr (oneLookup t) w .state .count ≡ suc (w .state .count)
 
-  pub made : (t : List ℕ) (w : Held) → answer reads nr (oneLookup t) w ≡ Accepted → Made t w
+  pub made : (t : List ℕ) (w : Held) → answer nr (oneLookup t) w ≡ Accepted → Made t w
   unfolding answer
   made t w e =
       let right = accepted-was nr (length t) (w .state .count) e in
       record {
         inside = right .inside;
         long = right .long;
-        count = ap (λ (v : Held). v .state .count) (one-handed reads nr t w e) ∙ step-count reads nr t (w .state) (right .inside);
+        count = ap (λ (v : Held). v .state .count) (one-handed nr t w e) ∙ step-count (readsOf (w .cipher)) nr t (w .state) (right .inside);
       }
 
   -- ---- one table more
   all-more : (w : Held) (ts : List (List ℕ)) (t : List ℕ)
-      → AllAccepted reads nr w ts → answer reads nr (oneLookup t) (lastWalk reads nr w (map oneLookup ts)) ≡ Accepted
-      → AllAccepted reads nr w (ts ++ (t ∷ []))
+      → AllAccepted nr w ts → answer nr (oneLookup t) (lastWalk nr w (map oneLookup ts)) ≡ Accepted
+      → AllAccepted nr w (ts ++ (t ∷ []))
   unfolding lastWalk
   all-more w [] t h e = (e, tt)
-  all-more w (u ∷ ts) t h e = (h .0, all-more (handed reads nr (oneLookup u) w) ts t (h .1) e)
+  all-more w (u ∷ ts) t h e = (h .0, all-more (handed nr (oneLookup u) w) ts t (h .1) e)
 
   last-more : (w : Held) (ts : List (List ℕ)) (t : List ℕ)
-      → handed reads nr (oneLookup t) (lastWalk reads nr w (map oneLookup ts)) ≡ lastWalk reads nr w (map oneLookup (ts ++ (t ∷ [])))
+      → handed nr (oneLookup t) (lastWalk nr w (map oneLookup ts)) ≡ lastWalk nr w (map oneLookup (ts ++ (t ∷ [])))
   unfolding lastWalk
   last-more w [] t = refl
-  last-more w (u ∷ ts) t = last-more (handed reads nr (oneLookup u) w) ts t
+  last-more w (u ∷ ts) t = last-more (handed nr (oneLookup u) w) ts t
 
-  over-none : (w : Held) → OverTables reads nr w w
+  over-none : (w : Held) → OverTables nr w w
   unfolding lastWalk
   over-none w = record { tables = []; read = tt; accepted = tt; walk = refl }
 
-  over-more : (w v : Held) (t : List ℕ) → OverTables reads nr w v → Received t → answer reads nr (oneLookup t) v ≡ Accepted
-      → OverTables reads nr w (handed reads nr (oneLookup t) v)
+  over-more : (w v : Held) (t : List ℕ) → OverTables nr w v → Received t → answer nr (oneLookup t) v ≡ Accepted
+      → OverTables nr w (handed nr (oneLookup t) v)
   over-more w v t o s e =
       record {
         tables = o .tables ++ (t ∷ []);
         read = received-more (o .tables) t (o .read) s;
-        accepted = all-more w (o .tables) t (o .accepted) (ap (answer reads nr (oneLookup t)) (sym (o .walk)) ∙ e);
-        walk = ap (handed reads nr (oneLookup t)) (o .walk) ∙ last-more w (o .tables) t;
+        accepted = all-more w (o .tables) t (o .accepted) (ap (answer nr (oneLookup t)) (sym (o .walk)) ∙ e);
+        walk = ap (handed nr (oneLookup t)) (o .walk) ∙ last-more w (o .tables) t;
       }
 
   -- ---- the loop over the input. `count` is the number of lookups as the code has it, and the memory for a table keeps its length.
   -- Its invariant: tables that were read took the walk w₀ to w, which has not passed the last lookup.
   pub record Going (room : ℕ) (w₀ w : Walk) (memory : List ℕ) : Type 0 where
-    pub over : OverTables reads nr (held w₀) (held w)
+    pub over : OverTables nr (held w₀) (held w)
     pub most : w₀ .count ≤ lookups nr → w .count ≤ lookups nr
     pub long : length memory ≡ room
 
   pub going-none : {room : ℕ} {w₀ : Walk} {memory : List ℕ} → length memory ≡ room → Going room w₀ w₀ memory
   going-none {w₀ = w₀} l = record { over = over-none (held w₀); most = λ h. h; long = l }
 
-  module _ {room : ℕ} {w₀ w : Walk} {memory : List ℕ} {r : Move} (I : Going room w₀ w memory) (n : Next reads nr w r) where
-    accepted-here : r .answer ≡ Accepted → answer reads nr (oneLookup (n .table)) (held w) ≡ Accepted
+  module _ {room : ℕ} {w₀ w : Walk} {memory : List ℕ} {r : Move} (I : Going room w₀ w memory) (n : Next nr w r) where
+    accepted-here : r .answer ≡ Accepted → answer nr (oneLookup (n .table)) (held w) ≡ Accepted
     accepted-here e = sym (n .moves .answer) ∙ e
 
     next-count : r .answer ≡ Accepted → r .walk .count ≡ suc (w .count)
@@ -118,14 +119,14 @@ module _ (reads : ℕ → ℕ) (nr : ℕ) where
     pub going-on : r .answer ≡ Accepted → w .count < r .walk .count
     going-on e = omega (arith, next-count e)
 
-    too-short : {q : Refusal} → w .count < lookups nr → answer reads nr (oneLookup (n .table)) (held w) ≡ Refused q → Short reads nr (held w) q
+    too-short : {q : Refusal} → w .count < lookups nr → answer nr (oneLookup (n .table)) (held w) ≡ Refused q → Short nr (held w) q
     unfolding answer
     too-short h e =
         let wrong = refused-was nr (length (n .table)) (w .count) h e in
         record { table = n .table; read = n .read; less = omega (arith, n .most, wrong .long); answer = e; cause = wrong .cause }
 
     -- A turn whose move is refused: it has left the walk.
-    pub gone-short : {q : Refusal} → w .count < lookups nr → r .answer ≡ Refused q → OverInput reads nr (held w₀) (r .answer) (held (r .walk))
+    pub gone-short : {q : Refusal} → w .count < lookups nr → r .answer ≡ Refused q → OverInput nr (held w₀) (r .answer) (held (r .walk))
     unfolding answer handed
     gone-short {q} h e =
         let refused : judgeOne nr (length (n .table)) (w .count) ≡ Refused q = sym (n .moves .answer) ∙ e in
@@ -138,6 +139,6 @@ module _ (reads : ℕ → ℕ) (nr : ℕ) where
 
   -- Behind the last lookup.
   pub gone-whole : {room : ℕ} {w₀ w : Walk} {memory : List ℕ} → Going room w₀ w memory → lookups nr ≤ w .count
-      → OverInput reads nr (held w₀) Accepted (held w)
+      → OverInput nr (held w₀) Accepted (held w)
   gone-whole {w₀ = w₀} {w = w} I h =
       record { over = I .over; whole = λ a b. let at-most = I .most b in omega arith; short = λ r d. differ d }

@@ -8,7 +8,6 @@ use Rattle.answers.specs.declared.Answer.{Answer}
 use Rattle.answers.specs.declared.Answer.the-variants.{Accepted, Refused}
 use Rattle.answers.specs.declared.Refusal.{Refusal}
 use Rattle.answers.specs.declared.Refusal.the-variants.{SetLength}
-use Rattle.layout.specs.Stages.{shifted}
 use Rattle.whitebox.specs.Calls.{answer}
 use Rattle.evaluate.specs.Held.{held}
 use Rattle.evaluate.specs.Contracts.{Fetches}
@@ -23,7 +22,7 @@ module _ (nr : ℕ) (w : Walk) (rest : ℕ) where
   unfolding lineOf
   line-too-long h p = rw (lt-ltb 0 rest h) p
 
-  module _ (h : rest ≤ 0) {a : Answer} {block : List ℕ} (f : Fetches shifted nr blank w a block) where
+  module _ (h : rest ≤ 0) {a : Answer} {block : List ℕ} (f : Fetches nr blank w a block) where
     by-fetch : orLine a causeLine (answerLine block) ≡ lineOf nr (held w) rest
     unfolding lineOf
     by-fetch = rw (le-ltb 0 rest h, f .answer, f .block)

@@ -20,5 +20,5 @@ zero-line = refl
 pub prints-zeros : PrintsZeros
 prints-zeros =
     set-right 10 blank (sym (presented-right 16 refl)) (replicate (setBytes 10) 0) (length-replicate (setBytes 10) 0)
-    ∙ ap answerLine (zeros-walked blank refl)
+    ∙ ap answerLine (zeros-walked 0 blank refl)
     ∙ zero-line

@@ -5,7 +5,7 @@
 use mathlib.Core.Path.{sym, _∙_}
 use Prim.Native.Nat.{_-_}
 use native.Mathlib.Omega.{arith}
-use Rattle.layout.specs.Stages.{shifted, tenLookups}
+use Rattle.layout.specs.Stages.{tenLookups}
 use Rattle.layout.proofs.laws.Ten.{ten, in-set}
 use Rattle.walker.specs.Tables.{tableRoom}
 use Rattle.walker.proofs.laws.Tables.{Going, going-none, going-more, going-on, gone-short, gone-whole}
@@ -14,7 +14,7 @@ use Rattle.walker.proofs.over_input.Statement.{statement}
 use Rattle.walker.proofs.over_input.Tie as tie
 
 abbrev Inv-loop : tie.InvT-loop
-Inv-loop table₀ w₀ table w = Going shifted 10 tableRoom w₀ w table
+Inv-loop table₀ w₀ table w = Going 10 tableRoom w₀ w table
 
 abbrev μ-loop : tie.MeasureT-loop
 μ-loop table₀ w₀ table w = tenLookups - w .count
@@ -22,7 +22,7 @@ abbrev μ-loop : tie.MeasureT-loop
 loop-holds : tie.Need-loop-holds Inv-loop μ-loop
 loop-holds c =
     let entry : tie.Start Inv-loop μ-loop = search in
-    going-none shifted 10 (entry .pre)
+    going-none 10 (entry .pre)
 
 over-next-requires : tie.Need-over-next-requires Inv-loop μ-loop
 over-next-requires c κs =
@@ -33,13 +33,13 @@ loop-less : tie.Need-loop-less Inv-loop μ-loop
 loop-less c =
     let turn : tie.At-loop Inv-loop μ-loop = search in
     let next : tie.After-over-next Inv-loop μ-loop = search in
-    omega (arith, going-on shifted 10 (turn .loop .inv) (next .over-next .ensures) (search))
+    omega (arith, going-on 10 (turn .loop .inv) (next .over-next .ensures) (search))
 
 loop-again : tie.Need-loop-again Inv-loop μ-loop
 loop-again c =
     let turn : tie.At-loop Inv-loop μ-loop = search in
     let next : tie.After-over-next Inv-loop μ-loop = search in
-    going-more shifted 10 (turn .loop .inv) (next .over-next .ensures) (in-set _ (search)) (search)
+    going-more 10 (turn .loop .inv) (next .over-next .ensures) (in-set _ (search)) (search)
     (next .over-next .kept .1 .0 ∙ turn .loop .inv .long)
 
 returns : tie.Need-returns Inv-loop μ-loop
@@ -47,12 +47,12 @@ returns c =
     let turn : tie.At-loop Inv-loop μ-loop = search in
     let next : tie.After-over-next Inv-loop μ-loop = search in
     let refused : tie.After-enum-told2 Inv-loop μ-loop = search in
-    gone-short shifted 10 (turn .loop .inv) (next .over-next .ensures) (in-set _ (search)) (refused .enum-told2 .given .1)
+    gone-short 10 (turn .loop .inv) (next .over-next .ensures) (in-set _ (search)) (refused .enum-told2 .given .1)
 
 returns-2 : tie.Need-returns-2 Inv-loop μ-loop
 returns-2 c =
     let turn : tie.At-loop Inv-loop μ-loop = search in
-    gone-whole shifted 10 (turn .loop .inv) (omega (arith, ten .all-lookups))
+    gone-whole 10 (turn .loop .inv) (omega (arith, ten .all-lookups))
 
 same-length : tie.Need-same-length Inv-loop μ-loop
 same-length c =

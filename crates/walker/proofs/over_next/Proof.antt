@@ -5,7 +5,6 @@ use mathlib.Core.Path.{ap}
 use Prim.Native.Nat.{_≤_}
 use native.Mathlib.Omega.{arith}
 use lib.ListN.{length-take, length-append}
-use Rattle.layout.specs.Stages.{shifted}
 use Rattle.layout.specs.declared.stage.Place.{Place}
 use Rattle.walker.specs.Tables.{tableRoom}
 use Rattle.walker.proofs.laws.Tables.{size-most, next-read}
@@ -37,7 +36,7 @@ returns c =
     let place : tie.After-place-of = search in
     let read : tie.After-receive = search in
     let moved : tie.After-move-one = search in
-    next-read shifted 10 (place .place-of .result .size) (read .receive .result) (read .receive .last .0) _ (ap (λ (p : Place). p .size) (place .place-of .ensures))
+    next-read 10 (place .place-of .result .size) (read .receive .result) (read .receive .last .0) _ (ap (λ (p : Place). p .size) (place .place-of .ensures))
     (read .receive .ensures) (omega (arith, simp length-take at (read .receive .kept .0))) (moved .move-one .ensures)
 
 -- ---- the needs that the search closes

@@ -8,7 +8,7 @@ use Prim.Native.Nat.{ℕ, zero, suc, _+_, _-_, _≤_, _<_}
 use native.Mathlib.Decide.{ℕ-discrete, decLt}
 use native.Mathlib.Omega.{arith}
 use borrow.Author.Tests.{lt-ltb, le-ltb, eq-eqb, ne-eqb}
-use lib.ListN.{length, take, drop, replicate}
+use lib.ListN.{length, replicate}
 use Rattle.answers.specs.Answers.{Reply, accepted, refused, replyOf, ifAccepted}
 use Rattle.answers.specs.declared.Answer.{Answer}
 use Rattle.answers.specs.declared.Answer.the-variants.{Accepted, Refused}
@@ -17,7 +17,9 @@ use Rattle.answers.specs.declared.Refusal.the-variants.{SetLength, BlockLength,
 use Rattle.answers.proofs.laws.Tests.{left-new, left-old}
 use Rattle.network.specs.Lookups.{State, stateAt, zeroArea, lookup}
 use Rattle.network.proofs.laws.Walks.{count-in}
-use Rattle.layout.specs.Stages.{lookups, setBytes, tableSize, tableOffset}
+use Rattle.layout.specs.Ciphers.{kept, readsOf}
+use Rattle.layout.specs.Stages.{lookups, setBytes, tableSize}
+use Rattle.layout.proofs.laws.Ciphers.{kept-kept}
 use Rattle.layout.proofs.laws.Ranges.{by-stage}
 use Rattle.whitebox.specs.Calls.{Held, holding, changed, Call, toStop, oneLookup, fetch, step, advance, reply, handed, blockLeft, Served, serve, lastWalk}
 use Rattle.whitebox.specs.Calls.{tablePart, judgeStart, judgeStop, judgeOne, judgeFetch, started, answer}
@@ -134,21 +136,28 @@ module _ (nr : ℕ) where
   count-le (c ∷ cs) n h = count-le cs (plain nr c n .count) (next-le c n h)
 
 -- ---- a start's walk is at count 0, a refused one's too
-pub start-count : (x : List ℕ) → started x .state .count ≡ 0
+pub start-count : (c : ℕ) (x : List ℕ) → started c x .state .count ≡ 0
 unfolding started
-start-count x = either (judgeStart (length x))
+start-count c x = either (judgeStart (length x))
   where
-    either : (a : Answer) → ifAccepted a (holding (stateAt 0 x zeroArea)) (holding (stateAt 0 (replicate 16 0) zeroArea)) .state .count ≡ 0
+    either : (a : Answer) → ifAccepted a (holding (kept c) (stateAt 0 x zeroArea)) (holding 0 (stateAt 0 (replicate 16 0) zeroArea)) .state .count ≡ 0
     either Accepted = refl
+    either (Refused r) = refl
+
+-- ---- and it keeps 0 or 1
+pub start-keeps : (c : ℕ) (x : List ℕ) → kept (started c x .cipher) ≡ started c x .cipher
+unfolding started
+start-keeps c x = either (judgeStart (length x))
+  where
+    begun : Answer → Held
+    begun a = ifAccepted a (holding (kept c) (stateAt 0 x zeroArea)) (holding 0 (stateAt 0 (replicate 16 0) zeroArea))
+
+    either : (a : Answer) → kept (begun a .cipher) ≡ begun a .cipher
+    either Accepted = kept-kept c
     either (Refused r) = refl
 
 -- ---- from any walk and over any memory, the count of the walk handed back or left is the plain count's
 module _ (reads : ℕ → ℕ) (nr : ℕ) where
-  -- The walk that an accepted move of one lookup hands back.
-  pub one-handed : (t : List ℕ) (w : Held) → answer reads nr (oneLookup t) w ≡ Accepted → handed reads nr (oneLookup t) w ≡ changed (step reads nr t) w
-  unfolding answer handed
-  one-handed t w e = sym (left-new _ (changed (step reads nr t) w) w e)
-
   pub step-count : (t : List ℕ) (s : State) → s .count < lookups nr → step reads nr t s .count ≡ suc (s .count)
   unfolding lookup
   step-count t s h = ap (λ (s : State). s .count) (by-stage nr .lookup-is reads (s .count) h t s) ∙ count-in _ _ t s
@@ -162,14 +171,21 @@ module _ (reads : ℕ → ℕ) (nr : ℕ) where
       let rest : advance reads nr mem n (step reads nr t s) .count ≡ step reads nr t s .count + n = advance-count mem n (step reads nr t s) (omega arith) in
       omega arith
 
-  pub counted : (c : Call) (w : Held) → w .state .count ≤ lookups nr → handed reads nr c w .state .count ≡ plain nr (argsOf c) (w .state .count) .count
+module _ (nr : ℕ) where
+  -- The walk that an accepted move of one lookup hands back.
+  pub one-handed : (t : List ℕ) (w : Held) → answer nr (oneLookup t) w ≡ Accepted → handed nr (oneLookup t) w ≡ changed (step (readsOf (w .cipher)) nr t) w
+  unfolding answer handed
+  one-handed t w e = sym (left-new _ (changed (step (readsOf (w .cipher)) nr t) w) w e)
+
+  pub counted : (c : Call) (w : Held) → w .state .count ≤ lookups nr → handed nr c w .state .count ≡ plain nr (argsOf c) (w .state .count) .count
   unfolding answer handed
   counted (toStop mem stop) w h =
       let n : ℕ = w .state .count in
+      let reads = readsOf (w .cipher) in
       ⊎-elim
       (λ o.
       ap (λ (v : Held). v .state .count) (sym (left-new _ (changed (advance reads nr mem (stop - n)) w) w (o .call)))
-      ∙ advance-count mem (stop - n) (w .state) (let a : stop ≤ lookups nr = o .most in let b : n ≤ stop = o .least in omega arith)
+      ∙ advance-count reads nr mem (stop - n) (w .state) (let a : stop ≤ lookups nr = o .most in let b : n ≤ stop = o .least in omega arith)
       ∙ (let b : n ≤ stop = o .least in let e : n + (stop - n) ≡ stop = omega arith in e)
       ∙ ap (λ (p : Counted). p .count) (sym (o .counted)))
       (λ t.
@@ -177,81 +193,88 @@ module _ (reads : ℕ → ℕ) (nr : ℕ) where
       ∙ ap (λ (p : Counted). p .count) (sym (t .counted)))
       (stop-view nr (length mem) stop n)
   counted (oneLookup mem) w h =
+      let reads = readsOf (w .cipher) in
       ⊎-elim
       (λ o.
       ap (λ (v : Held). v .state .count) (one-handed mem w (o .call))
-      ∙ step-count mem (w .state) (o .inside)
+      ∙ step-count reads nr mem (w .state) (o .inside)
       ∙ ap (λ (p : Counted). p .count) (sym (o .counted)))
       (λ t. ap (λ (v : Held). v .state .count) (sym (left-old _ _ (changed (step reads nr mem) w) w (t .call))) ∙ ap (λ (p : Counted). p .count) (sym (t .counted)))
       (one-view nr (length mem) (w .state .count) h)
   counted (fetch block) w h = sym (fetch-count nr (length block) (w .state .count))
 
--- ---- walks whose states S are known at each count
-module _ (reads : ℕ → ℕ) (nr : ℕ) (tables : ℕ → List ℕ) (set : List ℕ) (S : ℕ → State) (end : List ℕ)
-    (counts : (n : ℕ) → S n .count ≡ n)
-    (steps : (n : ℕ) → n < lookups nr → step reads nr (tables n) (S n) ≡ S (suc n))
-    (ends : S (lookups nr) .standing ≡ end)
-    (parts : (n : ℕ) → n < lookups nr → take (tableSize nr n) (drop (tableOffset nr n) set) ≡ tables n)
-    (long : length set ≡ setBytes nr) where
+-- ---- walks whose states S are known at each count, and which keep the cipher k, over a set and its tables; `end` is the block that they end with
+pub record Known (k nr : ℕ) (tables : ℕ → List ℕ) (set : List ℕ) (S : ℕ → State) (end : List ℕ) : Type 0 where
+  pub keeps : kept k ≡ k
+  pub counts : (n : ℕ) → S n .count ≡ n
+  pub steps : (n : ℕ) → n < lookups nr → step (readsOf k) nr (tables n) (S n) ≡ S (suc n)
+  pub ends : S (lookups nr) .standing ≡ end
+  pub parts : (n : ℕ) → n < lookups nr → tablePart nr set n ≡ tables n
+  pub long : length set ≡ setBytes nr
+
+module _ {k nr : ℕ} {tables : ℕ → List ℕ} {set : List ℕ} {S : ℕ → State} {end : List ℕ} (K : Known k nr tables set S end) where
   abbrev W : ℕ → Held
-  W n = holding (S n)
+  W n = holding k (S n)
+
+  abbrev reads : ℕ → ℕ
+  reads = readsOf k
 
   pub advance-is : (n j : ℕ) → j + n ≤ lookups nr → advance reads nr set n (S j) ≡ S (j + n)
   unfolding advance
   advance-is zero j h = ap S (let e : j ≡ j + 0 = omega arith in e)
   advance-is (suc n) j h =
-      ap (λ (c : ℕ). advance reads nr set n (step reads nr (take (tableSize nr c) (drop (tableOffset nr c) set)) (S j))) (counts j)
-      ∙ ap (λ (t : List ℕ). advance reads nr set n (step reads nr t (S j))) (parts j (omega arith))
-      ∙ ap (advance reads nr set n) (steps j (omega arith))
+      ap (λ (c : ℕ). advance reads nr set n (step reads nr (tablePart nr set c) (S j))) (K .counts j)
+      ∙ ap (λ (t : List ℕ). advance reads nr set n (step reads nr t (S j))) (K .parts j (omega arith))
+      ∙ ap (advance reads nr set n) (K .steps j (omega arith))
       ∙ advance-is n (suc j) (omega arith)
       ∙ ap S (let e : suc j + n ≡ j + suc n = omega arith in e)
 
-  reply-is : (c : Call) (n : ℕ) → n ≤ lookups nr → reply reads nr c (W n) ≡ plain nr (argsOf c) n .reply
+  reply-is : (c : Call) (n : ℕ) → n ≤ lookups nr → reply nr c (W n) ≡ plain nr (argsOf c) n .reply
   unfolding answer
   reply-is (toStop mem stop) n h =
-      ap (λ (k : ℕ). replyOf (judgeStop nr (length mem) stop k)) (counts n)
+      ap (λ (m : ℕ). replyOf (judgeStop nr (length mem) stop m)) (K .counts n)
       ∙ ⊎-elim (λ o. replied (o .call) (o .counted)) (λ t. replied (t .call) (t .counted)) (stop-view nr (length mem) stop n)
   reply-is (oneLookup mem) n h =
-      ap (λ (k : ℕ). replyOf (judgeOne nr (length mem) k)) (counts n)
+      ap (λ (m : ℕ). replyOf (judgeOne nr (length mem) m)) (K .counts n)
       ∙ ⊎-elim (λ o. replied (o .call) (o .counted)) (λ t. replied (t .call) (t .counted)) (one-view nr (length mem) n h)
   reply-is (fetch block) n h =
-      ap (λ (k : ℕ). replyOf (judgeFetch nr (length block) k)) (counts n)
+      ap (λ (m : ℕ). replyOf (judgeFetch nr (length block) m)) (K .counts n)
       ∙ ⊎-elim (λ o. replied (o .call) (o .counted)) (λ t. replied (t .call) (t .counted)) (fetch-view nr (length block) n)
 
-  pub block-is : (c : Call) (n : ℕ) → blockLeft reads nr c (W n) ≡ blockDue nr W end c n
+  pub block-is : (c : Call) (n : ℕ) → blockLeft nr c (W n) ≡ blockDue nr W end c n
   unfolding blockLeft
   block-is (toStop mem stop) n = refl
   block-is (oneLookup mem) n = refl
   block-is (fetch block) n =
-      ap (λ (k : ℕ). ifAccepted (judgeFetch nr (length block) k) (S n .standing) block) (counts n)
+      ap (λ (m : ℕ). ifAccepted (judgeFetch nr (length block) m) (S n .standing) block) (K .counts n)
       ∙ ⊎-elim
       (λ o.
-      sym (left-new _ (S n .standing) block (o .call)) ∙ ap (λ (k : ℕ). S k .standing) (o .ended) ∙ ends
+      sym (left-new _ (S n .standing) block (o .call)) ∙ ap (λ (m : ℕ). S m .standing) (o .ended) ∙ K .ends
       ∙ ap (λ (p : Counted). blockFor nr W end (p .reply) block) (sym (o .counted)))
       (λ t. sym (left-old _ _ (S n .standing) block (t .call)) ∙ ap (λ (p : Counted). blockFor nr W end (p .reply) block) (sym (t .counted)))
       (fetch-view nr (length block) n)
 
-  handed-is : (c : Call) (n : ℕ) → n ≤ lookups nr → LentCall nr tables set c n → handed reads nr c (W n) ≡ W (plain nr (argsOf c) n .count)
+  handed-is : (c : Call) (n : ℕ) → n ≤ lookups nr → LentCall nr tables set c n → handed nr c (W n) ≡ W (plain nr (argsOf c) n .count)
   unfolding handed
   handed-is (toStop mem stop) n h lent =
-      ap (λ (k : ℕ). ifAccepted (judgeStop nr (length mem) stop k) (changed (advance reads nr mem (stop - k)) (W n)) (W n)) (counts n)
+      ap (λ (m : ℕ). ifAccepted (judgeStop nr (length mem) stop m) (changed (advance reads nr mem (stop - m)) (W n)) (W n)) (K .counts n)
       ∙ ⊎-elim
       (λ o.
       sym (left-new _ (changed (advance reads nr mem (stop - n)) (W n)) (W n) (o .call))
       ∙ ap (λ (m : List ℕ). changed (advance reads nr m (stop - n)) (W n)) (⊎-elim (λ e. e) (λ ne. absurd (ne (o .long))) lent)
-      ∙ ap holding (advance-is (stop - n) n (let a : stop ≤ lookups nr = o .most in let b : n ≤ stop = o .least in omega arith))
+      ∙ ap₂ holding (K .keeps) (advance-is (stop - n) n (let a : stop ≤ lookups nr = o .most in let b : n ≤ stop = o .least in omega arith))
       ∙ ap W (let b : n ≤ stop = o .least in let e : n + (stop - n) ≡ stop = omega arith in e)
       ∙ ap (λ (p : Counted). W (p .count)) (sym (o .counted)))
       (λ t. sym (left-old _ _ (changed (advance reads nr mem (stop - n)) (W n)) (W n) (t .call)) ∙ ap (λ (p : Counted). W (p .count)) (sym (t .counted)))
       (stop-view nr (length mem) stop n)
   handed-is (oneLookup mem) n h lent =
-      ap (λ (k : ℕ). ifAccepted (judgeOne nr (length mem) k) (changed (step reads nr mem) (W n)) (W n)) (counts n)
+      ap (λ (m : ℕ). ifAccepted (judgeOne nr (length mem) m) (changed (step reads nr mem) (W n)) (W n)) (K .counts n)
       ∙ ⊎-elim
       (λ o.
       sym (left-new _ (changed (step reads nr mem) (W n)) (W n) (o .call))
       ∙ ap (λ (m : List ℕ). changed (step reads nr m) (W n))
       (⊎-elim (λ e. absurd (let b : n < lookups nr = o .inside in omega arith)) (λ x. ⊎-elim (λ e. e) (λ ne. absurd (ne (o .long))) x) lent)
-      ∙ ap holding (steps n (o .inside))
+      ∙ ap₂ holding (K .keeps) (K .steps n (o .inside))
       ∙ ap (λ (p : Counted). W (p .count)) (sym (o .counted)))
       (λ t. sym (left-old _ _ (changed (step reads nr mem) (W n)) (W n) (t .call)) ∙ ap (λ (p : Counted). W (p .count)) (sym (t .counted)))
       (one-view nr (length mem) n h)
@@ -260,30 +283,30 @@ module _ (reads : ℕ → ℕ) (nr : ℕ) (tables : ℕ → List ℕ) (set : Lis
   served : {a b : Served} → a .reply ≡ b .reply → a .walk ≡ b .walk → a .block ≡ b .block → a ≡ b
   served p q r = λ i. record { reply = p i; walk = q i; block = r i }
 
-  pub serve-is : (cs : List Call) (n : ℕ) → n ≤ lookups nr → Lent nr tables set n cs → serve reads nr (W n) cs ≡ dueServed nr W end n cs
+  pub serve-is : (cs : List Call) (n : ℕ) → n ≤ lookups nr → Lent nr tables set n cs → serve nr (W n) cs ≡ dueServed nr W end n cs
   unfolding serve dueServed
   serve-is [] n h lent = refl
   serve-is (c ∷ cs) n h lent =
       ap₂ (λ (x : Served) (xs : List Served). x ∷ xs)
       (served (reply-is c n h) (handed-is c n h (lent .0)) (block-is c n))
-      (ap (λ (w : Held). serve reads nr w cs) (handed-is c n h (lent .0)) ∙ serve-is cs (plain nr (argsOf c) n .count) (next-le nr (argsOf c) n h) (lent .1))
+      (ap (λ (w : Held). serve nr w cs) (handed-is c n h (lent .0)) ∙ serve-is cs (plain nr (argsOf c) n .count) (next-le nr (argsOf c) n h) (lent .1))
 
-  pub last-is : (cs : List Call) (n : ℕ) → n ≤ lookups nr → Lent nr tables set n cs → lastWalk reads nr (W n) cs ≡ W (plainCount nr n (map argsOf cs))
+  pub last-is : (cs : List Call) (n : ℕ) → n ≤ lookups nr → Lent nr tables set n cs → lastWalk nr (W n) cs ≡ W (plainCount nr n (map argsOf cs))
   unfolding lastWalk plainCount
   last-is [] n h lent = refl
   last-is (c ∷ cs) n h lent =
-      ap (λ (w : Held). lastWalk reads nr w cs) (handed-is c n h (lent .0))
+      ap (λ (w : Held). lastWalk nr w cs) (handed-is c n h (lent .0))
       ∙ last-is cs (plain nr (argsOf c) n .count) (next-le nr (argsOf c) n h) (lent .1)
 
   -- One move from the start, straight to a count.
   straight-plain : (n : ℕ) → n ≤ lookups nr → plain nr (stopArgs (length set) n) 0 ≡ record { reply = accepted; count = n }
   unfolding plain
-  straight-plain n h = rw (eq-eqb (length set) (setBytes nr) long, le-ltb (lookups nr) n h, le-ltb n 0 (omega arith))
+  straight-plain n h = rw (eq-eqb (length set) (setBytes nr) (K .long), le-ltb (lookups nr) n h, le-ltb n 0 (omega arith))
 
-  pub straight-reply : (n : ℕ) → n ≤ lookups nr → reply reads nr (toStop set n) (W 0) ≡ accepted
+  pub straight-reply : (n : ℕ) → n ≤ lookups nr → reply nr (toStop set n) (W 0) ≡ accepted
   straight-reply n h = reply-is (toStop set n) 0 (omega arith) ∙ ap (λ (p : Counted). p .reply) (straight-plain n h)
 
-  pub straight : (n : ℕ) → n ≤ lookups nr → handed reads nr (toStop set n) (W 0) ≡ W n
+  pub straight : (n : ℕ) → n ≤ lookups nr → handed nr (toStop set n) (W 0) ≡ W n
   straight n h = handed-is (toStop set n) 0 (omega arith) (inl refl) ∙ ap (λ (p : Counted). W (p .count)) (straight-plain n h)
 
 -- ---- two lists of calls that are alike

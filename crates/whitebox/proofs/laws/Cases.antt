@@ -68,12 +68,12 @@ codings-plain l p = λ i. record {
   outputMatrix = p .output i;
 }
 
-made : (key l : List ℕ) → PlainBundle l → (k : ℕ) → k < lookups 10
-    → madeTable 4 key l k ≡ tableIn (λ n. plainEncoding) (layerOf (partsOf 4 key) plain 10 (stageOf 10 k)) (numbersOf 10 (stageOf 10 k)) (indexOf 10 k)
+made : (c : ℕ) (key l : List ℕ) → PlainBundle l → (k : ℕ) → k < lookups 10
+    → madeTable c 4 key l k ≡ tableIn (λ n. plainEncoding) (layerOf (partsOf c 4 key) plain 10 (stageOf 10 k)) (numbersOf 10 (stageOf 10 k)) (indexOf 10 k)
 unfolding madeTable tableOf layers plain
-made key l p k h =
-    ap (λ (C : Codings). tableOf (partsOf 4 key) C 10 k) (codings-plain l p)
-    ∙ by-stage 10 .table-is (λ n. plainEncoding) (layerOf (partsOf 4 key) plain 10) (λ s. refl) k h
+made c key l p k h =
+    ap (λ (C : Codings). tableOf (partsOf c 4 key) C 10 k) (codings-plain l p)
+    ∙ by-stage 10 .table-is (λ n. plainEncoding) (layerOf (partsOf c 4 key) plain 10) (λ s. refl) k h
 
 -- ---- XOR tables
 -- Entry k of such a table, and byte i of it, which has the entries 2i and 2i + 1.
@@ -93,13 +93,13 @@ last-entry : pack (xorAt 254) (xorAt 255) ≡ 0x10
 unfolding plainEncoding tabulate decode
 last-entry = refl
 
-xor-table : (key l : List ℕ) → PlainBundle l → (k : ℕ) → k < lookups 10 → 16 ≤ indexOf 10 k
-    → (at (madeTable 4 key l k) 0 ≡ 0x01) × (at (madeTable 4 key l k) 127 ≡ 0x10)
-xor-table key l p k h x =
+xor-table : (c : ℕ) (key l : List ℕ) → PlainBundle l → (k : ℕ) → k < lookups 10 → 16 ≤ indexOf 10 k
+    → (at (madeTable c 4 key l k) 0 ≡ 0x01) × (at (madeTable c 4 key l k) 127 ≡ 0x10)
+xor-table c key l p k h x =
     let s = stageOf 10 k in
-    let L = layerOf (partsOf 4 key) plain 10 s in
+    let L = layerOf (partsOf c 4 key) plain 10 s in
     let N = numbersOf 10 s in
-    let t : madeTable 4 key l k ≡ xorTable (λ n. plainEncoding) (L .width) (N .first) (indexOf 10 k - 16) = made key l p k h ∙ behind L N (indexOf 10 k) x in (
+    let t : madeTable c 4 key l k ≡ xorTable (λ n. plainEncoding) (L .width) (N .first) (indexOf 10 k - 16) = made c key l p k h ∙ behind L N (indexOf 10 k) x in (
       ap (λ (u : List ℕ). at u 0) t ∙ xor-byte (L .width) (N .first) (indexOf 10 k - 16) 0 1 (lit< tt) first-entry,
       ap (λ (u : List ℕ). at u 127) t ∙ xor-byte (L .width) (N .first) (indexOf 10 k - 16) 127 16 (lit< tt) last-entry,
     )
@@ -125,32 +125,32 @@ key-first nk key (suc n) i h =
       List·getD-append (expand nk key n) (nextWord nk (nk + n) (expand nk key n)) 0 i (r .0) ∙ r .1,
     )
 
-before-is : partsOf 4 zeroKey .before 1 (partsOf 4 zeroKey .reads 0) ≡ 0
+before-is : partsOf 0 4 zeroKey .before 1 (partsOf 0 4 zeroKey .reads 0) ≡ 0
 unfolding forward shifted KeyExpansion zeroKey
 before-is = key-at (KeyExpansion 4 zeroKey) 0 0 (lit< tt) ∙ key-first 4 zeroKey 40 0 (lit< tt) .1
 
-behind-is : partsOf 4 zeroKey .behind 1 0 ≡ 0
+behind-is : partsOf 0 4 zeroKey .behind 1 0 ≡ 0
 unfolding forward
 behind-is = refl
 
-substituted-is : substituted (partsOf 4 zeroKey) plain 1 0 0 ≡ 0x63
+substituted-is : substituted (partsOf 0 4 zeroKey) plain 1 0 0 ≡ 0x63
 unfolding substituted
 substituted-is =
-    ap₂ (λ (x y : ℕ). bitXor (partsOf 4 zeroKey .substitute (bitXor x y)) (partsOf 4 zeroKey .behind 1 0)) (product-zero 8 _) before-is
-    ∙ ap (λ (z : ℕ). bitXor (partsOf 4 zeroKey .substitute 0) z) behind-is
+    ap₂ (λ (x y : ℕ). bitXor (partsOf 0 4 zeroKey .substitute (bitXor x y)) (partsOf 0 4 zeroKey .behind 1 0)) (product-zero 8 _) before-is
+    ∙ ap (λ (z : ℕ). bitXor (partsOf 0 4 zeroKey .substitute 0) z) behind-is
     ∙ (unfold forward in xor-zero-r (sboxOf 0) ∙ field.cases .s-00)
 
 -- The width 32 is not computed: a product by the identity is known by its law.
-word-is : firstWord (partsOf 4 zeroKey) plain 1 0 0 ≡ word
-word-is = ap (mixedWord (partsOf 4 zeroKey) plain 1 0) substituted-is ∙ mixed-is
+word-is : firstWord (partsOf 0 4 zeroKey) plain 1 0 0 ≡ word
+word-is = ap (mixedWord (partsOf 0 4 zeroKey) plain 1 0) substituted-is ∙ mixed-is
   where
-    mixed-is : mixedWord (partsOf 4 zeroKey) plain 1 0 0x63 ≡ word
+    mixed-is : mixedWord (partsOf 0 4 zeroKey) plain 1 0 0x63 ≡ word
     mixed-is = unfold mixedWord forward plain bytesOf tabulate joined group mul times xtime mixRows in ap (bytesOf 4) (product-identity 32 0xc66363a5 (lit< tt)) ∙ refl
 
 -- Byte i of the first word.
 entry-byte : (i v : ℕ) → i < 4
     → pack (encode plainEncoding (nibble word (2 * i % 8))) (encode plainEncoding (nibble word ((2 * i + 1) % 8))) ≡ v
-    → (N : Numbers) → at (spreadTable (λ n. plainEncoding) (layerOf (partsOf 4 zeroKey) plain 10 (First 1)) N 0) i ≡ v
+    → (N : Numbers) → at (spreadTable (λ n. plainEncoding) (layerOf (partsOf 0 4 zeroKey) plain 10 (First 1)) N 0) i ≡ v
 unfolding spreadTable
 entry-byte i v h e N =
     let x : 2 * i / 8 ≡ 0 = omega arith in
@@ -158,20 +158,20 @@ entry-byte i v h e N =
     at-packed 1024 _ i (omega arith)
     ∙ rw (x, y) (ap₂ pack (half N (2 * i % 8)) (half N ((2 * i + 1) % 8)) ∙ e)
   where
-    half : (N : Numbers) (h : ℕ) → spreadEntry (λ n. plainEncoding) (layerOf (partsOf 4 zeroKey) plain 10 (First 1)) N 0 0 h ≡ encode plainEncoding (nibble word h)
+    half : (N : Numbers) (h : ℕ) → spreadEntry (λ n. plainEncoding) (layerOf (partsOf 0 4 zeroKey) plain 10 (First 1)) N 0 0 h ≡ encode plainEncoding (nibble word h)
     half N h =
         unfold spreadEntry plainEncoding tabulate decode in
         ap (λ (l : List ℕ). encode plainEncoding (nibble l h)) word-is
 
 entry-0 : (l : List ℕ) → PlainBundle l
-    → let t : List ℕ = madeTable 4 (replicate 16 0) l 496 in
+    → let t : List ℕ = madeTable 0 4 (replicate 16 0) l 496 in
     (at t 0 ≡ 0xc6) × (at t 1 ≡ 0x63) × (at t 2 ≡ 0x63) × (at t 3 ≡ 0xa5)
 unfolding zeroKey
 entry-0 l p =
     let N = numbersOf 10 (First 1) in
-    let e : madeTable 4 (replicate 16 0) l 496 ≡ spreadTable (λ n. plainEncoding) (layerOf (partsOf 4 zeroKey) plain 10 (First 1)) N 0 =
-    made (replicate 16 0) l p 496 (omega (arith, network.starred .all-lookups)) ∙ table-here in
-    let byte : (i : ℕ) → at (madeTable 4 (replicate 16 0) l 496) i ≡ at (spreadTable (λ n. plainEncoding) (layerOf (partsOf 4 zeroKey) plain 10 (First 1)) N 0) i =
+    let e : madeTable 0 4 (replicate 16 0) l 496 ≡ spreadTable (λ n. plainEncoding) (layerOf (partsOf 0 4 zeroKey) plain 10 (First 1)) N 0 =
+    made 0 (replicate 16 0) l p 496 (omega (arith, network.starred .all-lookups)) ∙ table-here in
+    let byte : (i : ℕ) → at (madeTable 0 4 (replicate 16 0) l 496) i ≡ at (spreadTable (λ n. plainEncoding) (layerOf (partsOf 0 4 zeroKey) plain 10 (First 1)) N 0) i =
     λ i. ap (λ (u : List ℕ). at u i) e in (
       byte 0 ∙ entry-byte 0 0xc6 (lit< tt) shown-0 N,
       byte 1 ∙ entry-byte 1 0x63 (lit< tt) shown-1 N,
@@ -179,8 +179,8 @@ entry-0 l p =
       byte 3 ∙ entry-byte 3 0xa5 (lit< tt) shown-3 N,
     )
   where
-    table-here : tableIn (λ n. plainEncoding) (layerOf (partsOf 4 zeroKey) plain 10 (stageOf 10 496)) (numbersOf 10 (stageOf 10 496)) (indexOf 10 496)
-        ≡ spreadTable (λ n. plainEncoding) (layerOf (partsOf 4 zeroKey) plain 10 (First 1)) (numbersOf 10 (First 1)) 0
+    table-here : tableIn (λ n. plainEncoding) (layerOf (partsOf 0 4 zeroKey) plain 10 (stageOf 10 496)) (numbersOf 10 (stageOf 10 496)) (indexOf 10 496)
+        ≡ spreadTable (λ n. plainEncoding) (layerOf (partsOf 0 4 zeroKey) plain 10 (First 1)) (numbersOf 10 (First 1)) 0
     table-here = unfold stageOf indexOf tableIn in refl
 
     shown-0 : pack (encode plainEncoding (nibble word 0)) (encode plainEncoding (nibble word 1)) ≡ 0xc6

@@ -15,8 +15,6 @@ use Rattle.bits.proofs.laws.Nibbles.{packed-ext}
 use Rattle.inversion.specs.Elimination.{inverseOf}
 use Rattle.round.specs.Key.{KeyExpansion, roundsOf}
 use Rattle.round.proofs.laws.Key.{round-key-bytes}
-use Rattle.aes.specs.Cipher.{encipherOf, decipherOf}
-use Rattle.aes.proofs.laws.Cipher.{encipher-block, decipher-encipher}
 use Rattle.bundle.specs.Format.{encodings, encodingOf, inputMatrix, outputMatrix}
 use Rattle.external.specs.Coding.{encodeNibbles, decodeNibbles, multiply, encodeBy, decodeBy, encodeInput, decodeInput, outputFirst, encodeOutput, decodeOutput}
 use Rattle.external.specs.Undoing.{Undone}
@@ -33,22 +31,24 @@ use Rattle.network.proofs.laws.Places.{place-by-place}
 use Rattle.network.proofs.laws.Rule.{good-widths, rule-labels}
 use Rattle.network.proofs.laws.Values.{follows-standing, follows-area}
 use Rattle.layout.specs.Stages as stages
-use Rattle.layout.specs.Stages.{shifted, widths, lookups, setBytes}
-use Rattle.whitebox.specs.Bundles.{codingsOf, partsOf, madeSet, madeTable, dueAt, dueHeld}
-use Rattle.whitebox.specs.Calls.{Held, holding, started, tablePart, Call, toStop, fetch, step, reply, handed, blockLeft, serve, lastWalk}
+use Rattle.layout.specs.Ciphers.{kept, other, readsOf}
+use Rattle.layout.specs.Stages.{widths, lookups}
+use Rattle.layout.proofs.laws.Ciphers.{kept-names, kept-kept}
+use Rattle.whitebox.specs.Bundles.{codingsOf, partsOf, cipherBlock, madeSet, madeTable, dueAt, dueHeld}
+use Rattle.whitebox.specs.Calls.{Held, holding, started, Call, toStop, fetch, step, reply, handed, blockLeft, serve, lastWalk}
 use Rattle.whitebox.specs.Codings.{Codings, Sound}
 use Rattle.whitebox.specs.Demand2.{walkedOver, Demand2For, Demand2}
+use Rattle.whitebox.specs.Joined.{InSet}
 use Rattle.whitebox.specs.Demand3.{Given, Presented, Answered, Places, TwoSets, Demand3For, Demand3}
-use Rattle.whitebox.specs.Parts.{Parts, Fine, forward}
+use Rattle.whitebox.specs.Parts.{Parts, Fine}
 use Rattle.whitebox.specs.PlainCount.{argsOf, plain, plainCount, Lent, dueServed, seen}
-use Rattle.whitebox.specs.States.{result}
 use Rattle.whitebox.specs.Values.{valuesAt, values, ended, dueStanding, dueArea, stateDue}
 use Rattle.whitebox.proofs.laws.Bundles.{codings-sound, encodings-agree, encoding-is}
-use Rattle.whitebox.proofs.laws.Calls.{count-le, block-is, serve-is, last-is, straight-reply, straight, alike-seen}
+use Rattle.whitebox.proofs.laws.Calls.{Known, count-le, block-is, serve-is, last-is, straight-reply, straight, alike-seen}
 use Rattle.whitebox.proofs.laws.Joined.{made-in-set}
 use Rattle.whitebox.proofs.laws.Judged.{presented-right, presented-was}
 use Rattle.whitebox.proofs.laws.Set.{widths-are, due-count, due-step, due-end}
-use Rattle.whitebox.proofs.laws.States.{forward-fine, forward-cipher}
+use Rattle.whitebox.proofs.laws.Ciphers.{parts-fine, parts-read, result-is, cipher-block, other-undoes}
 use Rattle.whitebox.specs.Tables.{layers}
 use Rattle.whitebox.proofs.laws.Values.{layers-good, follows, closed-is-due}
 
@@ -59,8 +59,8 @@ long-presented x h = record { bytes = h .bytes; started = sym (presented-right (
 some : (nk : ℕ) → 1 ≤ roundsOf nk
 some nk = omega arith
 
--- ---- a key and an accepted bundle
-module _ (nk : ℕ) (key l : List ℕ) (given : Given nk key l) where
+-- ---- a cipher, a key and an accepted bundle
+module _ (c nk : ℕ) (key l : List ℕ) (given : Given nk key l) where
   abbrev nr : ℕ
   nr = roundsOf nk
 
@@ -68,13 +68,13 @@ module _ (nk : ℕ) (key l : List ℕ) (given : Given nk key l) where
   C = codingsOf nr l
 
   abbrev P : Parts
-  P = partsOf nk key
+  P = partsOf c nk key
 
   sound : Sound C
   sound = codings-sound nr l (given .bundle-bytes) (given .judged)
 
   fine : Fine P
-  fine = forward-fine nr (KeyExpansion nk key) (round-key-bytes nk key (given .key-bytes))
+  fine = parts-fine c nr (KeyExpansion nk key) (round-key-bytes nk key (given .key-bytes))
 
   -- The encodings of the first and of the last 32 numbers are the bundle's.
   first-encoding : (q : ℕ) → q < 32 → C .encoding q ≡ encodingOf nr l (0 + q)
@@ -87,39 +87,34 @@ module _ (nk : ℕ) (key l : List ℕ) (given : Given nk key l) where
       ∙ encoding-is nr l (encodings nr - 32 + q) (omega (arith, input-room nr))
 
   module _ (b : List ℕ) (block : Block b) where
-    counts : (n : ℕ) → dueAt nk key l b n .count ≡ n
+    counts : (n : ℕ) → dueAt c nk key l b n .count ≡ n
     unfolding dueAt
     counts n = due-count P fine C sound nr (some nk) b block n
 
-    steps : (n : ℕ) → n < lookups nr → step shifted nr (madeTable nk key l n) (dueAt nk key l b n) ≡ dueAt nk key l b (suc n)
-    unfolding dueAt madeTable forward
-    steps n h = due-step P fine C sound nr (some nk) b block n h
+    -- The walk keeps 0 or 1, and its lookups read as the parts do.
+    reads-same : readsOf (kept c) ≡ P .reads
+    reads-same = kept-names c _ _ ∙ sym (parts-read nr (KeyExpansion nk key) c)
 
-    result-is : result P nr b ≡ encipherOf nk key b
-    unfolding encipherOf
-    result-is = forward-cipher nr (KeyExpansion nk key) b (some nk)
+    steps : (n : ℕ) → n < lookups nr → step (readsOf (kept c)) nr (madeTable c nk key l n) (dueAt c nk key l b n) ≡ dueAt c nk key l b (suc n)
+    unfolding dueAt madeTable
+    steps n h =
+        ap (λ (reads : ℕ → ℕ). step reads nr (madeTable c nk key l n) (dueAt c nk key l b n)) reads-same ∙ due-step P fine C sound nr (some nk) b block n h
 
-    ends : dueAt nk key l b (lookups nr) .standing ≡ encodeOutput nr l (encipherOf nk key b)
+    ends : dueAt c nk key l b (lookups nr) .standing ≡ encodeOutput nr l (cipherBlock c nk key b)
     unfolding dueAt encodeOutput encodeBy encodeNibbles encoded ended codingsOf
     ends =
         due-end P fine C sound nr (some nk) b block
-        ∙ ap (λ (y : List ℕ). encoded (C .encoding) (λ q. stages.encodings nr - 32 + q) (multiply (outputMatrix nr l) y)) result-is
-        ∙ packed-ext 16 _ _ (λ q h. ap (λ (e : List ℕ). encode e (nibble (multiply (outputMatrix nr l) (encipherOf nk key b)) q)) (last-encoding q h))
-
-  parts : (n : ℕ) → n < lookups nr → tablePart nr (madeSet nk key l) n ≡ madeTable nk key l n
-  parts = made-in-set nk key l .part
-
-  long : length (madeSet nk key l) ≡ setBytes nr
-  long = made-in-set nk key l .long
+        ∙ ap (λ (y : List ℕ). encoded (C .encoding) (λ q. stages.encodings nr - 32 + q) (multiply (outputMatrix nr l) y)) (result-is c nk key b (some nk))
+        ∙ packed-ext 16 _ _ (λ q h. ap (λ (e : List ℕ). encode e (nibble (multiply (outputMatrix nr l) (cipherBlock c nk key b)) q)) (last-encoding q h))
 
   module _ (x : List ℕ) (presented : Presented x) where
-    block-x : Block x
+    pub block-x : Block x
     block-x = record { long = presented-was (length x) (presented .started); bytes = presented .bytes }
 
     abbrev b : List ℕ
     b = decodeInput nr l x
 
-    block-b : Block b
+    pub block-b : Block b
     block-b = undoing nr l (given .bundle-bytes) (given .judged) x block-x .input-block .1
 
     -- The input matrix times the uncoded block is the presented block with its encodings off.
@@ -131,58 +126,65 @@ module _ (nk : ℕ) (key l : List ℕ) (given : Given nk key l) where
         (decode-nibbles-bytes (encodingOf nr l) 0 (accepted-encodings nr l (given .bundle-bytes) (given .judged) 0 (input-room nr)) x block-x)
         ∙ packed-ext 16 _ _ (λ q h. ap (λ (e : List ℕ). decode e (nibble x q)) (sym (first-encoding q h)))
 
-    begins : started x ≡ dueHeld nk key l b 0
+    begins : started c x ≡ dueHeld c nk key l b 0
     unfolding started dueAt numbersAfter startNumbers lookupsIn stateDue walked
     begins =
-        let at : List ℕ → Held = λ y. holding (stateAt 0 y zeroArea) in
-        sym (left-new _ (at x) (at (replicate 16 0)) (presented .started))
-        ∙ ap holding
+        sym (left-new _ (holding (kept c) (stateAt 0 x zeroArea)) (holding 0 (stateAt 0 (replicate 16 0) zeroArea)) (presented .started))
+        ∙ ap (holding (kept c))
         (from-any-layer (C .encoding) (sound .encodings) [] (layers P C nr) (layers-good P fine C nr) x block-x 0 (omega arith)
         ∙ ap (λ (y : List ℕ). closed (C .encoding) (layers P C nr) startNumbers y 0 0) (sym plain-x)
         ∙ closed-is-due P fine C sound nr b block-b (some nk) 0)
 
     abbrev A : List ℕ
-    A = encodeOutput nr l (encipherOf nk key b)
+    A = encodeOutput nr l (cipherBlock c nk key b)
 
     abbrev S : ℕ → State
-    S = dueAt nk key l b
+    S = dueAt c nk key l b
 
     abbrev W : ℕ → Held
-    W = dueHeld nk key l b
+    W = dueHeld c nk key l b
 
-    served : (cs : List Call) → Lent nr (madeTable nk key l) (madeSet nk key l) 0 cs → serve shifted nr (started x) cs ≡ dueServed nr W A 0 cs
+    -- The walk at every count is the one due.
+    known : Known (kept c) nr (madeTable c nk key l) (madeSet c nk key l) S A
+    known =
+        record { keeps = kept-kept c; counts = counts b block-b; steps = steps b block-b; ends = ends b block-b; parts = made .part; long = made .long }
+      where
+        made : InSet nr (madeSet c nk key l) (madeTable c nk key l)
+        made = made-in-set nk c key l
+
+    served : (cs : List Call) → Lent nr (madeTable c nk key l) (madeSet c nk key l) 0 cs → serve nr (started c x) cs ≡ dueServed nr W A 0 cs
     served cs lent =
-        ap (λ (w : Held). serve shifted nr w cs) begins
-        ∙ serve-is shifted nr (madeTable nk key l) (madeSet nk key l) S A (counts b block-b) (steps b block-b) (ends b block-b) parts long cs 0 (omega arith) lent
+        ap (λ (w : Held). serve nr w cs) begins
+        ∙ serve-is known cs 0 (omega arith) lent
 
-    answered : (cs : List Call) → Lent nr (madeTable nk key l) (madeSet nk key l) 0 cs → Answered nk key l x cs (plainCount nr 0 (map argsOf cs))
+    answered : (cs : List Call) → Lent nr (madeTable c nk key l) (madeSet c nk key l) 0 cs → Answered c nk key l x cs (plainCount nr 0 (map argsOf cs))
     answered cs lent =
         let n = plainCount nr 0 (map argsOf cs) in
         let most : n ≤ lookups nr = count-le nr (map argsOf cs) 0 (omega arith) in
-        let at-end : lastWalk shifted nr (started x) cs ≡ W n =
-        ap (λ (w : Held). lastWalk shifted nr w cs) begins
-        ∙ last-is shifted nr (madeTable nk key l) (madeSet nk key l) S A (counts b block-b) (steps b block-b) (ends b block-b) parts long cs 0 (omega arith) lent in
+        let at-end : lastWalk nr (started c x) cs ≡ W n =
+        ap (λ (w : Held). lastWalk nr w cs) begins
+        ∙ last-is known cs 0 (omega arith) lent in
         record {
           calls = served cs lent;
           last = at-end;
           straight-reply =
-              ap (reply shifted nr (toStop (madeSet nk key l) n)) begins
-              ∙ straight-reply shifted nr (madeTable nk key l) (madeSet nk key l) S A (counts b block-b) (steps b block-b) (ends b block-b) parts long n most;
+              ap (reply nr (toStop (madeSet c nk key l) n)) begins
+              ∙ straight-reply known n most;
           straight =
-              ap (handed shifted nr (toStop (madeSet nk key l) n)) begins
-              ∙ straight shifted nr (madeTable nk key l) (madeSet nk key l) S A (counts b block-b) (steps b block-b) (ends b block-b) parts long n most
+              ap (handed nr (toStop (madeSet c nk key l) n)) begins
+              ∙ straight known n most
               ∙ sym at-end;
         }
 
     -- One move to the end, and a fetch into 16 bytes.
-    fetched : (lent : List ℕ) → length lent ≡ 16 → walkedOver nr (madeSet nk key l) x lent ≡ A
+    pub fetched : (lent : List ℕ) → length lent ≡ 16 → walkedOver c nr (madeSet c nk key l) x lent ≡ A
     unfolding plain
     fetched lent room =
         let n = lookups nr in
-        ap (λ (w : Held). blockLeft shifted nr (fetch lent) (handed shifted nr (toStop (madeSet nk key l) n) w)) begins
-        ∙ ap (blockLeft shifted nr (fetch lent))
-        (straight shifted nr (madeTable nk key l) (madeSet nk key l) S A (counts b block-b) (steps b block-b) (ends b block-b) parts long n (le-refl n))
-        ∙ block-is shifted nr (madeTable nk key l) (madeSet nk key l) S A (counts b block-b) (steps b block-b) (ends b block-b) parts long (fetch lent) n
+        ap (λ (w : Held). blockLeft nr (fetch lent) (handed nr (toStop (madeSet c nk key l) n) w)) begins
+        ∙ ap (blockLeft nr (fetch lent))
+        (straight known n (le-refl n))
+        ∙ block-is known (fetch lent) n
         ∙ rw (eq-eqb (length lent) 16 room, eq-eqb n n refl)
 
     -- ---- place by place
@@ -223,7 +225,7 @@ module _ (nk : ℕ) (key l : List ℕ) (given : Given nk key l) where
           λ q c. R .1 q c ∙ ap (λ (ms : List ℕ). labels ms k .area q) value-widths,
         )
 
-    places : (k : ℕ) → k ≤ lookups nr → Places nk key l b k
+    places : (k : ℕ) → k ≤ lookups nr → Places c nk key l b k
     places k h =
         let R = place-by-place (C .encoding) (sound .encodings) Ls (layers-good P fine C nr) startNumbers plainBytes (multiply-block (C .inputMatrix) b .bytes) 0 k in
         record {
@@ -239,15 +241,16 @@ module _ (nk : ℕ) (key l : List ℕ) (given : Given nk key l) where
         }
 
 pub demand3-for : (nk : ℕ) → Demand3For nk
-demand3-for nk = record { calls = λ key l x g p cs lent. answered nk key l g x p cs lent; places = λ key l x g p k h. places nk key l g x p k h; two = two }
+demand3-for nk =
+    record { calls = λ c key l x g p cs lent. answered c nk key l g x p cs lent; places = λ c key l x g p k h. places c nk key l g x p k h; two = two }
   where
     two : TwoSets nk
-    two key l l′ x g g′ outer p cs cs′ alike lent lent′ =
-        ap (map seen) (served nk key l g x p cs lent)
-        ∙ alike-seen (roundsOf nk) (W nk key l g x p) (W nk key l′ g′ x p) (A nk key l g x p) (A nk key l′ g′ x p)
-        (counts nk key l g (b nk key l g x p) (block-b nk key l g x p)) (counts nk key l′ g′ (b nk key l′ g′ x p) (block-b nk key l′ g′ x p))
+    two c key l l′ x g g′ outer p cs cs′ alike lent lent′ =
+        ap (map seen) (served c nk key l g x p cs lent)
+        ∙ alike-seen (roundsOf nk) (W c nk key l g x p) (W c nk key l′ g′ x p) (A c nk key l g x p) (A c nk key l′ g′ x p)
+        (counts c nk key l g (b c nk key l g x p) (block-b c nk key l g x p)) (counts c nk key l′ g′ (b c nk key l′ g′ x p) (block-b c nk key l′ g′ x p))
         same-answer cs cs′ 0 alike
-        ∙ sym (ap (map seen) (served nk key l′ g′ x p cs′ lent′))
+        ∙ sym (ap (map seen) (served c nk key l′ g′ x p cs′ lent′))
       where
         nr′ : ℕ
         nr′ = roundsOf nk
@@ -255,25 +258,28 @@ demand3-for nk = record { calls = λ key l x g p cs lent. answered nk key l g x 
         -- The uncoded block is one.
         same-block : decodeInput nr′ l x ≡ decodeInput nr′ l′ x
         same-block =
-            let bx : Block x = block-x nk key l g x p in
-            let bb : Block (decodeInput nr′ l x) = block-b nk key l g x p in
+            let bx : Block x = block-x c nk key l g x p in
+            let bb : Block (decodeInput nr′ l x) = block-b c nk key l g x p in
             sym (undoing nr′ l′ (g′ .bundle-bytes) (g′ .judged) (decodeInput nr′ l x) bb .input)
             ∙ ap (decodeInput nr′ l′) (sym (outer .input (decodeInput nr′ l x) bb) ∙ undoing nr′ l (g .bundle-bytes) (g .judged) x bx .input-back)
 
-        same-answer : encodeOutput nr′ l (encipherOf nk key (decodeInput nr′ l x)) ≡ encodeOutput nr′ l′ (encipherOf nk key (decodeInput nr′ l′ x))
+        same-answer : encodeOutput nr′ l (cipherBlock c nk key (decodeInput nr′ l x)) ≡ encodeOutput nr′ l′ (cipherBlock c nk key (decodeInput nr′ l′ x))
         same-answer =
-            outer .output (encipherOf nk key (decodeInput nr′ l x)) (encipher-block nk key (decodeInput nr′ l x) (g .key-bytes) (block-b nk key l g x p))
-            ∙ ap (λ (y : List ℕ). encodeOutput nr′ l′ (encipherOf nk key y)) same-block
+            outer .output (cipherBlock c nk key (decodeInput nr′ l x)) (cipher-block c nk key (decodeInput nr′ l x) (g .key-bytes) (block-b c nk key l g x p))
+            ∙ ap (λ (y : List ℕ). encodeOutput nr′ l′ (cipherBlock c nk key y)) same-block
 
 pub demand3 : Demand3
 demand3 = demand3-for 4
 
 pub demand2-for : (nk : ℕ) → Demand2For nk
-demand2-for nk key l b lent long key-bytes bundle-bytes judged block room =
+demand2-for nk c key l b lent long key-bytes bundle-bytes judged block room =
     record {
       coded = is;
       uncoded = ap (decodeOutput nr′ l) is ∙ off;
-      deciphered = ap (λ (y : List ℕ). decipherOf nk key (decodeOutput nr′ l y)) is ∙ ap (decipherOf nk key) off ∙ decipher-encipher nk key b key-bytes block;
+      undone =
+          ap (λ (y : List ℕ). cipherBlock (other c) nk key (decodeOutput nr′ l y)) is
+          ∙ ap (cipherBlock (other c) nk key) off
+          ∙ other-undoes c nk key b key-bytes block;
     }
   where
     nr′ : ℕ
@@ -285,13 +291,13 @@ demand2-for nk key l b lent long key-bytes bundle-bytes judged block room =
     back : Undone nr′ l b
     back = undoing nr′ l bundle-bytes judged b block
 
-    is : walkedOver nr′ (madeSet nk key l) (encodeInput nr′ l b) lent ≡ encodeOutput nr′ l (encipherOf nk key b)
+    is : walkedOver c nr′ (madeSet c nk key l) (encodeInput nr′ l b) lent ≡ encodeOutput nr′ l (cipherBlock c nk key b)
     is =
-        fetched nk key l g (encodeInput nr′ l b) (long-presented (encodeInput nr′ l b) (back .input-block .0)) lent room
-        ∙ ap (λ (y : List ℕ). encodeOutput nr′ l (encipherOf nk key y)) (back .input)
+        fetched c nk key l g (encodeInput nr′ l b) (long-presented (encodeInput nr′ l b) (back .input-block .0)) lent room
+        ∙ ap (λ (y : List ℕ). encodeOutput nr′ l (cipherBlock c nk key y)) (back .input)
 
-    off : decodeOutput nr′ l (encodeOutput nr′ l (encipherOf nk key b)) ≡ encipherOf nk key b
-    off = undoing nr′ l bundle-bytes judged (encipherOf nk key b) (encipher-block nk key b key-bytes block) .output
+    off : decodeOutput nr′ l (encodeOutput nr′ l (cipherBlock c nk key b)) ≡ cipherBlock c nk key b
+    off = undoing nr′ l bundle-bytes judged (cipherBlock c nk key b) (cipher-block c nk key b key-bytes block) .output
 
 pub demand2 : Demand2
 demand2 = demand2-for 4

@@ -85,8 +85,8 @@ free-bytes-for nk l l′ agree =
     let B = free-bundle nr l l′ agree in
     record {
       bundle = B;
-      set = λ key. ap (λ (C : Codings). setOf (partsOf nk key) C nr) (B .codings);
-      table = λ key k. ap (λ (C : Codings). tableOf (partsOf nk key) C nr k) (B .codings);
+      set = λ c key. ap (λ (C : Codings). setOf (partsOf c nk key) C nr) (B .codings);
+      table = λ c key k. ap (λ (C : Codings). tableOf (partsOf c nk key) C nr k) (B .codings);
     }
 
 pub free-bytes-128 : FreeBytes128

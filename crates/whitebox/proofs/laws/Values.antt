@@ -1,5 +1,5 @@
 -- Laws, not definitions: AES's layers are good, and they follow the values due, from the input matrix times the block to the output matrix
--- times the cipher block. So the network's closed form is the state of values due.
+-- times the cipher's block. So the network's closed form is the state of values due.
 -- Assumes nothing.
 use mathlib.Core.List.{List, [], _∷_, _++_, map}
 use mathlib.Core.Path.{_≡_, refl, sym, ap, ap₂, _∙_, subst}

@@ -156,7 +156,7 @@ module _ (P : Parts) (fine : Fine P) (C : Codings) (sound : Sound C) where
       u : ℕ → ℕ → ℕ → ℕ
       u c t x = product 8 (byteMatrixAt C (suc r) (4 * c + t)) (byte 4 t (product 32 (inverseOf 32 (columnMatrixAt C r c)) x))
 
-  -- ---- 4. the exit puts the output matrix on the cipher block
+  -- ---- 4. the exit puts the output matrix on the cipher's block
   pub exit-next : (l k : List ℕ) → Bytes k → summed (record { width = 16; standing = l; word = λ p. placedWord P C p (at k p) }) ≡ multiply (C .outputMatrix) k
   unfolding summed multiply placedWord bytesOf placed
   exit-next l k h =

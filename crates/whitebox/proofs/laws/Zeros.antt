@@ -20,7 +20,8 @@ use Rattle.network.specs.Lookups.{State, stateAt, zeroArea, Shape, spreadArea, 
 use Rattle.bits.proofs.laws.Multiples.{product-le}
 use Rattle.network.specs.Order.{sumPlace, layerLookups}
 use Rattle.network.specs.Sizes.{sizeOf}
-use Rattle.layout.specs.Stages.{shifted, shapeAt, widthOf, lookups, tablesBytes, setBytes, tableSize, tableOffset, stageOf, indexOf}
+use Rattle.layout.specs.Ciphers.{kept, readsOf}
+use Rattle.layout.specs.Stages.{shapeAt, widthOf, lookups, tablesBytes, setBytes, tableSize, tableOffset, stageOf, indexOf}
 use Rattle.layout.proofs.laws.Instance.{ends-in-tables}
 use Rattle.layout.proofs.laws.Lookup.{widest, tables-in-set}
 use Rattle.layout.proofs.laws.Ranges.{by-stage}
@@ -139,25 +140,32 @@ module _ (reads : ℕ → ℕ) (nr n : ℕ) (room : tablesBytes nr ≤ n) where
       ∙ advance-zero m (suc k) (omega arith)
       ∙ ap zeroState (let e : suc k + m ≡ k + suc m = omega arith in e)
 
-module _ (nr : ℕ) where
+module _ (c nr : ℕ) where
   abbrev memory : List ℕ
   memory = noughts (setBytes nr)
 
-  moved-zero : handed shifted nr (toStop memory (lookups nr)) (started (noughts 16)) ≡ holding (zeroState (lookups nr))
+  -- The number that the start's walk keeps, and the byte that its lookups read.
+  abbrev k : ℕ
+  k = kept c
+
+  abbrev reads : ℕ → ℕ
+  reads = readsOf k
+
+  moved-zero : handed nr (toStop memory (lookups nr)) (started c (noughts 16)) ≡ holding (kept k) (zeroState (lookups nr))
   unfolding handed started judgeStart
   moved-zero =
       let accepted : judgeStop nr (length memory) (lookups nr) 0 ≡ Accepted =
       sym (stop-right nr (length memory) (lookups nr) 0 (length-replicate (setBytes nr) 0) (omega arith) (omega arith))
       in
-      sym (left-new _ (changed (advance shifted nr memory (lookups nr - 0)) (holding (zeroState 0))) (holding (zeroState 0)) accepted)
-      ∙ ap holding (advance-zero shifted nr (setBytes nr) (tables-in-set nr) (lookups nr - 0) 0 (omega arith))
-      ∙ ap (λ (k : ℕ). holding (zeroState k)) (let e : 0 + (lookups nr - 0) ≡ lookups nr = omega arith in e)
+      sym (left-new _ (changed (advance reads nr memory (lookups nr - 0)) (holding k (zeroState 0))) (holding k (zeroState 0)) accepted)
+      ∙ ap (holding (kept k)) (advance-zero reads nr (setBytes nr) (tables-in-set nr) (lookups nr - 0) 0 (omega arith))
+      ∙ ap (λ (n : ℕ). holding (kept k) (zeroState n)) (let e : 0 + (lookups nr - 0) ≡ lookups nr = omega arith in e)
 
-  pub zeros-for : ZerosFor nr
+  pub zeros-for : ZerosFor c nr
   unfolding blockLeft
   zeros-for lent l =
-      ap (blockLeft shifted nr (fetch lent)) moved-zero
+      ap (blockLeft nr (fetch lent)) moved-zero
       ∙ sym (left-new _ (noughts 16) lent (sym (count-right nr (length lent) (lookups nr) l refl)))
 
 pub zeros-walked : Zeros
-zeros-walked = zeros-for 10
+zeros-walked c = zeros-for c 10

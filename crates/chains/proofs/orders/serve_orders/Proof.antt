@@ -5,7 +5,6 @@
 -- Assumes nothing.
 use Prim.Native.Nat.{_-_}
 use lib.ListN.{length}
-use Rattle.layout.specs.Stages.{shifted}
 use Rattle.chains.proofs.laws.Orders.{Serving, serving-none, serving-more, serving-all}
 use native.Mathlib.Omega.{arith}
 use borrow.Author.Needs.{needs}
@@ -13,7 +12,7 @@ use Rattle.chains.proofs.orders.serve_orders.Statement.{statement}
 use Rattle.chains.proofs.orders.serve_orders.Tie as tie
 
 abbrev Inv-loop : tie.InvT-loop
-Inv-loop set orders₀ block₀ w₀ i₀ orders block w i = Serving shifted 10 set w₀ orders₀ block₀ w orders block i
+Inv-loop set orders₀ block₀ w₀ i₀ orders block w i = Serving 10 set w₀ orders₀ block₀ w orders block i
 
 abbrev μ-loop : tie.MeasureT-loop
 μ-loop set orders₀ block₀ w₀ i₀ orders block w i = length orders₀ - i

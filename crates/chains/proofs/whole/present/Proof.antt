@@ -14,7 +14,7 @@ returns-2 : tie.Need-returns-2
 returns-2 c =
     let coded : tie.After-encode-input = search in
     let set : tie.After-make-set = search in
-    presented _ _ _ _ _ (set .make-set .ensures .0) (set .make-set .ensures .1) (search) (coded .encode-input .ensures .0) (coded .encode-input .ensures .1)
+    presented _ _ _ _ _ _ (set .make-set .ensures .0) (set .make-set .ensures .1) (search) (coded .encode-input .ensures .0) (coded .encode-input .ensures .1)
 
 -- ---- the needs that the search closes
 make-set-requires : tie.Need-make-set-requires

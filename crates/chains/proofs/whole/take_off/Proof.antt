@@ -1,8 +1,8 @@
--- `chains::whole::take_off` meets its contract: `decode_output` refuses (`not-uncoded` of `laws.Whole`), or `decipher` decides (`taken-off`). The premises are
--- what the two calls ensure.
+-- `chains::whole::take_off` meets its contract: `decode_output` refuses (`not-uncoded` of `laws.Whole`), or `decipher` decides where the cipher is the
+-- forward one (`by-deciphering`) and `encipher` else (`by-enciphering`). The premises are the test of the cipher and what the two calls ensure.
 -- Assumes nothing.
 use mathlib.Core.Path.{refl}
-use Rattle.chains.proofs.laws.Whole.{not-uncoded, taken-off}
+use Rattle.chains.proofs.laws.Whole.{not-uncoded, by-deciphering, by-enciphering}
 use borrow.Author.Needs.{needs}
 use Rattle.chains.proofs.whole.take_off.Statement.{statement}
 use Rattle.chains.proofs.whole.take_off.Tie as tie
@@ -15,7 +15,15 @@ returns-2 : tie.Need-returns-2
 returns-2 c =
     let block : tie.After-decipher = search in
     let uncoded : tie.After-decode-output = search in
-    taken-off _ _ _ _ refl (uncoded .decode-output .ensures .0) _ (search) (uncoded .decode-output .ensures .1) (block .decipher .ensures .0) (block .decipher .ensures .1)
+    by-deciphering _ _ _ _ _ refl (uncoded .decode-output .ensures .0) _ (search) (uncoded .decode-output .ensures .1) (block .decipher .ensures .0) (search)
+    (block .decipher .ensures .1)
+
+returns-3 : tie.Need-returns-3
+returns-3 c =
+    let block : tie.After-encipher = search in
+    let uncoded : tie.After-decode-output = search in
+    by-enciphering _ _ _ _ _ refl (uncoded .decode-output .ensures .0) _ (search) (uncoded .decode-output .ensures .1) (block .encipher .ensures .0) (search)
+    (block .encipher .ensures .1)
 
 -- ---- the needs that the search closes
 slice-aggregate-decode-output : tie.Need-slice-aggregate-decode-output
@@ -36,8 +44,17 @@ slice-aggregate-decipher c = search needs
 decipher-requires : tie.Need-decipher-requires
 decipher-requires c κs = search needs
 
+slice-aggregate-encipher : tie.Need-slice-aggregate-encipher
+slice-aggregate-encipher c = search needs
+
+encipher-requires : tie.Need-encipher-requires
+encipher-requires c κs = search needs
+
 same-length : tie.Need-same-length
 same-length c = search needs
+
+same-length-2 : tie.Need-same-length-2
+same-length-2 c = search needs
 
 pub take-off-spec : {M : Type 1} → statement M
 take-off-spec =
@@ -50,5 +67,9 @@ take-off-spec =
     returns
     slice-aggregate-decipher
     decipher-requires
+    slice-aggregate-encipher
+    encipher-requires
     same-length
-    returns-2)
+    returns-2
+    same-length-2
+    returns-3)

@@ -16,7 +16,7 @@ returns-2 c =
     let walked : tie.After-walk-over = search in
     let accepted : tie.After-enum-told = search in
     let presented : tie.After-present = search in
-    back-not _ _ _ _ _ _ _ refl (presented .present .ensures) (accepted .enum-told .given .1) (walked .walk-over .ensures) (c .enum-told4 .given .1)
+    back-not _ _ _ _ _ _ _ _ refl (presented .present .ensures) (accepted .enum-told .given .1) (walked .walk-over .ensures) (c .enum-told4 .given .1)
 
 returns-3 : tie.Need-returns-3
 returns-3 c =
@@ -28,7 +28,7 @@ returns-3 c =
     let block : tie.After-shared-slice-known3 = search in
     let bundle : tie.After-shared-slice-known2 = search in
     let key : tie.After-shared-slice-known = search in
-    back-done _ _ _ _ _ _ _ refl (presented .present .ensures) (accepted .enum-told .given .1) (walked .walk-over .ensures) (fetched .enum-told3 .given .1)
+    back-done _ _ _ _ _ _ _ _ refl (presented .present .ensures) (accepted .enum-told .given .1) (walked .walk-over .ensures) (fetched .enum-told3 .given .1)
     (λ i. key .shared-slice-known .given i .fits) (λ i. bundle .shared-slice-known2 .given i .fits) (λ i. block .shared-slice-known3 .given i .fits)
     (off .take-off .ensures)
 

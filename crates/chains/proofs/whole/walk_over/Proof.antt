@@ -19,7 +19,7 @@ returns-3 c =
     let fetched : tie.After-fetch = search in
     let end : tie.After-move-to = search in
     let opening : tie.After-start = search in
-    walked _ _ _ (opening .start .ensures) (search) (end .move-to .ensures) (search) (fetched .fetch .ensures)
+    walked _ _ _ _ (opening .start .ensures) (search) (end .move-to .ensures) (search) (fetched .fetch .ensures)
 
 -- ---- the needs that the search closes
 start-requires : tie.Need-start-requires

@@ -1,8 +1,8 @@
--- `evaluate::walk::move_one` meets its contract. Each way out has a law of `laws.Calls`, whose premises are the tests on the way: no lookup is left
+-- `evaluate::walk::move_one` meets its contract. Each way out has a law of `laws.Calls`, whose premises are the tests on the way and what `refused` ensures: no lookup is left
 -- (`no-lookup`), the table lent has another length than the lookup's (`wrong-table`); and behind `lookup_in`, which the table fits (`table-fits`),
--- the lookup is made (`one-done`). They are over the byte that the row shift reads and the sizes of a set.
+-- the lookup is made, and the walk keeps the cipher, as `walk_for` ensures (`one-done`). They are over the sizes of a set.
 -- Assumes nothing.
-use Rattle.layout.specs.Stages.{shifted}
+use mathlib.Core.Path.{refl}
 use Rattle.layout.proofs.laws.Ten.{ten}
 use Rattle.evaluate.proofs.laws.Calls.{table-fits, no-lookup, wrong-table, one-done}
 use native.Mathlib.Omega.{arith}
@@ -11,12 +11,15 @@ use Rattle.evaluate.proofs.walk.move_one.Statement.{statement}
 use Rattle.evaluate.proofs.walk.move_one.Tie as tie
 
 returns : tie.Need-returns
-returns c = no-lookup shifted ten _ _ (search)
+returns c =
+    let down : tie.After-refused = search in
+    no-lookup ten _ _ _ (down .refused .ensures .0) (down .refused .ensures .1) (search)
 
 returns-2 : tie.Need-returns-2
 returns-2 c =
+    let down : tie.After-refused2 = search in
     let place : tie.After-place-of = search in
-    wrong-table shifted ten _ _ _ (search) (place .place-of .ensures) (search)
+    wrong-table ten _ _ _ _ (search) (place .place-of .ensures) (down .refused2 .ensures .0) (down .refused2 .ensures .1) (search)
 
 lookup-in-requires : tie.Need-lookup-in-requires
 lookup-in-requires c κs =
@@ -25,16 +28,38 @@ lookup-in-requires c κs =
 
 returns-3 : tie.Need-returns-3
 returns-3 c =
+    let walk : tie.After-walk-for = search in
+    let looked : tie.After-lookup-in = search in
+    let fits : tie.Else2 = search in
     let place : tie.After-place-of = search in
-    one-done shifted ten _ _ _ (search) (place .place-of .ensures) _ _ (search) (search)
+    one-done ten _ _ _ _ (search) (place .place-of .ensures) _ _ refl (fits .if2 .left) (looked .lookup-in .ensures) (walk .walk-for .ensures)
 
 -- ---- the needs that the search closes
+refused-requires : tie.Need-refused-requires
+refused-requires c κs = search needs
+
 place-of-requires : tie.Need-place-of-requires
 place-of-requires c κs = search needs
 
-add-t12 : tie.Need-add-t12
-add-t12 c = search needs
+refused-requires-2 : tie.Need-refused-requires-2
+refused-requires-2 c κs = search needs
+
+add-walk-for : tie.Need-add-walk-for
+add-walk-for c = search needs
+
+walk-for-requires : tie.Need-walk-for-requires
+walk-for-requires c κs = search needs
 
 pub move-one-spec : {M : Type 1} → statement M
 move-one-spec =
-    tie.close (tie.spec returns place-of-requires returns-2 lookup-in-requires add-t12 returns-3)
+    tie.close
+    (tie.spec
+    refused-requires
+    returns
+    place-of-requires
+    refused-requires-2
+    returns-2
+    lookup-in-requires
+    add-walk-for
+    walk-for-requires
+    returns-3)

@@ -1,7 +1,7 @@
 -- `evaluate::walk::step` meets its contract. `place_of` ensures the stage or half and the table of lookup n. Where n is the first lookup and the last
 -- is not behind the stop, `layer_in` makes them all (`all-advanced` of `laws.Calls`); else `lookup_in` makes one over its table, a part of the
 -- set (`one-advanced`). What the two ask is laws of the place: its width, and that its tables lie within the set. They are over the sizes of a
--- set; `ten` are those of the code.
+-- set, `ten` are those of the code, and over the byte that the row shift reads, which is the cipher's.
 -- Assumes nothing.
 use mathlib.Core.Path.{refl}
 use Prim.Native.Nat.{_+_, _≤_}

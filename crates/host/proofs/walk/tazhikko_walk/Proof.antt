@@ -1,5 +1,5 @@
 -- `host::walk::tazhikko_walk`: where `judged` finds something against the lengths, its answer's number is returned and the lent answer is left as it
--- was (`walk-refused` of `laws.Walks`); else the walk starts at the block, one move over the set goes to the last count, and the block there is
+-- was (`walk-refused` of `laws.Walks`); else the walk for the cipher starts at the block, one move over the set goes to the last count, and the block there is
 -- fetched (`walk-done`, whose premises are what the three calls ensure).
 -- Assumes nothing.
 use mathlib.Core.Path.{ap, _∙_}
@@ -20,7 +20,7 @@ returns-2 c =
     let moved : tie.After-move-to = search in
     let opening : tie.After-start = search in
     let answer : tie.After-judged = search in
-    let left = walk-done _ _ _ (answer .judged .ensures) (search) (opening .start .ensures) (moved .move-to .ensures) (fetched .fetch .ensures) in
+    let left = walk-done _ _ _ _ (answer .judged .ensures) (search) (opening .start .ensures) (moved .move-to .ensures) (fetched .fetch .ensures) in
     (c .number2 .ensures ∙ ap numberOf (answer .judged .ensures), left)
 
 -- ---- the needs that the search closes

@@ -1,11 +1,13 @@
--- `layers::values::behind_sbox` inverts the byte matrix of round r at the position that p reads, takes the key bytes before and behind the
--- S-box, and lets `substitute` fill the list; `behind-is` of `laws.Values` says that these are the bytes that the rule asks for, of FIPS 197's cipher.
--- Its premises are what the calls ensure. Since the bundle is accepted, its byte matrix k has 8 bytes (`byte-part-room`) and an inverse (`byte-part-invertible`).
+-- `layers::values::behind_sbox` inverts the byte matrix of round r at the byte that p reads, takes the key bytes before and behind the S-box, and lets
+-- `substitute` fill the list; `behind-is` of `laws.Values` says that these are the bytes that the rule asks for, of the cipher's parts. Its premises are what the
+-- calls ensure, and whitebox's laws of what the parts of a cipher are (`parts-substitute`, `parts-read`). Since the bundle is accepted, its byte matrix has 8 bytes
+-- (`byte-part-room`) and an inverse (`byte-part-invertible`).
 -- Assumes nothing.
-use mathlib.Core.Path.{sym}
+use mathlib.Core.Path.{sym, ap, _∙_}
+use Prim.Native.Nat.{ℕ}
 use Rattle.bits.specs.Bytes.{Bytes}
-use Rattle.round.proofs.laws.Key.{key-at}
-use Rattle.whitebox.specs.Parts.{forward}
+use Rattle.whitebox.specs.Parts.{partsFor}
+use Rattle.whitebox.proofs.laws.Ciphers.{parts-substitute, parts-read}
 use Rattle.layers.proofs.laws.Values.{byte-part-room, byte-part-invertible, behind-is}
 use borrow.Author.Needs.{needs}
 use Rattle.layers.proofs.values.behind_sbox.Statement.{statement}
@@ -19,31 +21,33 @@ read-requires c κs =
     search (needs, byte-part-room, byte-part-invertible)
 
 returns : tie.Need-returns
-unfolding forward
 returns c =
     let filled : tie.After-substitute = search in
-    let key : tie.After-key-behind = search in
+    let behind : tie.After-key-behind = search in
+    let before : tie.After-key-before = search in
     let inverse : tie.After-read = search in
     let part : tie.After-byte-matrix-part = search in
-    let position : tie.After-shifted = search in
+    let position : tie.After-reads-of = search in
     let entry : tie.Start = search in
-    let small = position .shifted .ensures .1 in
-    behind-is 10 _ _ _ _ (entry .pre .2) (entry .pre .3) small (part .byte-matrix-part .ensures)
-    (forward 10 (entry .args .keys .now)) (entry .args .read .now) _ _ _ _ _ _ (position .shifted .ensures .0) (inverse .read .ensures)
-    (sym (key-at _ _ _ small)) (key .key-behind .ensures) (filled .substitute .ensures)
+    let keys = entry .args .keys .now in
+    let cipher = entry .args .cipher in
+    behind-is 10 _ _ _ _ (entry .pre .2) (entry .pre .3) (position .reads-of .ensures .1) (part .byte-matrix-part .ensures)
+    (partsFor cipher 10 keys) _ (entry .args .read .now) _ _ _ _ _ _ (parts-substitute 10 keys cipher)
+    (position .reads-of .ensures .0 ∙ ap (λ (reads : ℕ → ℕ). reads (entry .args .p)) (sym (parts-read 10 keys cipher)))
+    (inverse .read .ensures) (before .key-before .ensures) (behind .key-behind .ensures) (filled .substitute .ensures)
 
 -- ---- the needs that the search closes
-sub-k : tie.Need-sub-k
-sub-k c = search needs
+reads-of-requires : tie.Need-reads-of-requires
+reads-of-requires c κs = search needs
 
-mul-k : tie.Need-mul-k
-mul-k c = search needs
+sub-byte-matrix-part : tie.Need-sub-byte-matrix-part
+sub-byte-matrix-part c = search needs
 
-shifted-requires : tie.Need-shifted-requires
-shifted-requires c κs = search needs
+mul-byte-matrix-part : tie.Need-mul-byte-matrix-part
+mul-byte-matrix-part c = search needs
 
-add-k : tie.Need-add-k
-add-k c = search needs
+add-byte-matrix-part : tie.Need-add-byte-matrix-part
+add-byte-matrix-part c = search needs
 
 byte-matrix-part-requires : tie.Need-byte-matrix-part-requires
 byte-matrix-part-requires c κs = search needs
@@ -51,8 +55,8 @@ byte-matrix-part-requires c κs = search needs
 slice-aggregate-read : tie.Need-slice-aggregate-read
 slice-aggregate-read c = search needs
 
-shared-slice-read-before : tie.Need-shared-slice-read-before
-shared-slice-read-before c = search needs
+key-before-requires : tie.Need-key-before-requires
+key-before-requires c κs = search needs
 
 key-behind-requires : tie.Need-key-behind-requires
 key-behind-requires c κs = search needs
@@ -70,14 +74,14 @@ pub behind-sbox-spec : {M : Type 1} → statement M
 behind-sbox-spec =
     tie.close
     (tie.spec
-    sub-k
-    mul-k
-    shifted-requires
-    add-k
+    reads-of-requires
+    sub-byte-matrix-part
+    mul-byte-matrix-part
+    add-byte-matrix-part
     byte-matrix-part-requires
     slice-aggregate-read
     read-requires
-    shared-slice-read-before
+    key-before-requires
     key-behind-requires
     slice-aggregate-substitute
     substitute-requires

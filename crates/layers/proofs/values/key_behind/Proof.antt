@@ -1,23 +1,31 @@
--- `layers::values::key_behind` has one way out for round 10, byte p of round key 10, and one for the others, 0; `behind-last` and `behind-none`
--- of `laws.Values` say that this is what the contract chooses. Round key 10 is the last 16 bytes of the 176.
+-- `layers::values::key_behind` has three ways out: for the inverse cipher round key 10−r (`behind-inverse` of `laws.Keys`); for the forward cipher round key 10 in
+-- round 10 (`behind-last`), and nothing in the others (`behind-none`).
 -- Assumes nothing.
-use Rattle.layers.proofs.laws.Values.{behind-last, behind-none}
+use Rattle.layers.proofs.laws.Keys.{behind-inverse, behind-last, behind-none}
 use borrow.Author.Needs.{needs}
 use Rattle.layers.proofs.values.key_behind.Statement.{statement}
 use Rattle.layers.proofs.values.key_behind.Tie as tie
 
 returns : tie.Need-returns
-returns c = search (behind-last 10)
+returns c = search (behind-inverse 10)
 
 returns-2 : tie.Need-returns-2
-returns-2 c = search (behind-none 10)
+returns-2 c = search (behind-last 10)
+
+returns-3 : tie.Need-returns-3
+returns-3 c = search (behind-none 10)
 
 -- ---- the needs that the search closes
-add-result : tie.Need-add-result
-add-result c = search needs
+sub-key-byte : tie.Need-sub-key-byte
+sub-key-byte c = search needs
 
-shared-slice-read-result : tie.Need-shared-slice-read-result
-shared-slice-read-result c = search needs
+key-byte-requires : tie.Need-key-byte-requires
+key-byte-requires c κs = search needs
+
+key-byte-requires-2 : tie.Need-key-byte-requires-2
+key-byte-requires-2 c κs = search needs
 
 pub key-behind-spec : {M : Type 1} → statement M
-key-behind-spec = tie.close (tie.spec add-result shared-slice-read-result returns returns-2)
+key-behind-spec =
+    tie.close
+    (tie.spec sub-key-byte key-byte-requires returns key-byte-requires-2 returns-2 returns-3)

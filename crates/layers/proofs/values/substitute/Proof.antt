@@ -1,21 +1,22 @@
--- `layers::values::substitute` fills the 256 places. The loop's invariant is `Filled` of `bits`: place k has byte k of `read` behind the S-box
+-- `layers::values::substitute` fills the 256 places. The loop's invariant is `Filled` of `bits`: place k has byte k of `read` behind the cipher's S-box
 -- (`behindAt` of `laws.Values`). A turn puts one more byte through the products of its nibbles and the S-box as a table, which
--- `nibble_products` and `sbox_table` have made (`substituted-more`); behind the last the list is whole (`filled-all`). The sum that is looked up
+-- `nibble_products` and `sbox_of` have made (`substituted-more`); behind the last the list is whole (`filled-all`). The sum that is looked up
 -- is a byte since `before` is one.
 -- Assumes nothing.
 use Prim.Native.Nat.{_-_, _<_}
 use Rattle.bits.proofs.laws.Filled.{Filled, filled-none, filled-all}
-use Rattle.field.specs.Sbox.{sboxOf}
+use Rattle.field.specs.Sbox.{sboxOf, invSboxOf}
+use Rattle.layout.specs.Ciphers.{forCipher}
 use Rattle.layers.proofs.laws.Values.{behindAt, substituted-more}
 use native.Mathlib.Omega.{arith}
 use Rattle.layers.proofs.values.substitute.Statement.{statement}
 use Rattle.layers.proofs.values.substitute.Tie as tie
 
 abbrev Inv-loop : tie.InvT-loop
-Inv-loop inverse before behind read dst₀ products sbox x₀ dst x = Filled 256 (behindAt sboxOf inverse before behind read) dst x
+Inv-loop cipher inverse before behind read dst₀ products sbox x₀ dst x = Filled 256 (behindAt (forCipher cipher sboxOf invSboxOf) inverse before behind read) dst x
 
 abbrev μ-loop : tie.MeasureT-loop
-μ-loop inverse before behind read dst₀ products sbox x₀ dst x = 256 - x
+μ-loop cipher inverse before behind read dst₀ products sbox x₀ dst x = 256 - x
 
 loop-holds : tie.Need-loop-holds Inv-loop μ-loop
 loop-holds c = search filled-none
@@ -24,7 +25,7 @@ loop-again : tie.Need-loop-again Inv-loop μ-loop
 loop-again c =
     let entry : tie.Start Inv-loop μ-loop = search in
     let byte : entry .args .before < 256 = omega (arith, entry .fits) in
-    search (substituted-more sboxOf)
+    search (substituted-more (forCipher (entry .args .cipher) sboxOf invSboxOf))
 
 returns : tie.Need-returns Inv-loop μ-loop
 returns c = search filled-all
@@ -36,8 +37,8 @@ slice-aggregate-nibble-products c = omega arith
 nibble-products-requires : tie.Need-nibble-products-requires Inv-loop μ-loop
 nibble-products-requires c κs = omega arith
 
-sbox-table-requires : tie.Need-sbox-table-requires Inv-loop μ-loop
-sbox-table-requires c κs = omega arith
+sbox-of-requires : tie.Need-sbox-of-requires Inv-loop μ-loop
+sbox-of-requires c κs = omega arith
 
 shared-slice-read-widened : tie.Need-shared-slice-read-widened Inv-loop μ-loop
 shared-slice-read-widened c = omega arith
@@ -74,7 +75,7 @@ substitute-spec =
     μ-loop
     slice-aggregate-nibble-products
     nibble-products-requires
-    sbox-table-requires
+    sbox-of-requires
     loop-holds
     shared-slice-read-widened
     widened-requires

@@ -1,10 +1,11 @@
 -- `layers::words::mixed_basis` writes eight rows, for the bytes 2^0 to 2^7. The loop's invariant, `Stored` of matrices: the rows below k
--- are the words of their bytes (`readWord`). A turn multiplies 2^k by column q of MixColumns and that by the matrix that was
+-- are the words of their bytes (`readWord`). A turn multiplies 2^k by column q of the cipher's column mixing and that by the matrix that was
 -- read, which makes the word (`read-row`), and stores it as row k (`stored-more`); behind row 7 the basis is whole (`stored-all`).
 -- Assumes nothing.
 use Prim.Native.Nat.{_-_, _^_}
 use Rattle.matrices.proofs.laws.Rows.{Stored, stored-none, stored-more, stored-all}
-use Rattle.round.specs.State.{mixRows, entry}
+use Rattle.round.specs.State.{mixRows, invMixRows, entry}
+use Rattle.layout.specs.Ciphers.{forCipher}
 use Rattle.layers.proofs.laws.Bases.{readWord, read-row}
 use Rattle.layers.proofs.laws.Words.{mixedColumn}
 use native.Mathlib.Omega.{arith}
@@ -13,10 +14,10 @@ use Rattle.layers.proofs.words.mixed_basis.Statement.{statement}
 use Rattle.layers.proofs.words.mixed_basis.Tie as tie
 
 abbrev Inv-loop : tie.InvT-loop
-Inv-loop p q basis₀ m k₀ basis k = Stored 8 (λ j. readWord 4 p (mixedColumn (entry mixRows) q) (2 ^ j)) basis₀ basis k
+Inv-loop cipher p q basis₀ m k₀ basis k = Stored 8 (λ j. readWord 4 p (mixedColumn (entry (forCipher cipher mixRows invMixRows)) q) (2 ^ j)) basis₀ basis k
 
 abbrev μ-loop : tie.MeasureT-loop
-μ-loop p q basis₀ m k₀ basis k = 8 - k
+μ-loop cipher p q basis₀ m k₀ basis k = 8 - k
 
 loop-holds : tie.Need-loop-holds Inv-loop μ-loop
 loop-holds c = stored-none

@@ -1,4 +1,4 @@
--- `layout::stage::source_of` meets its contract, by the stage. In a first half and in the exit it reads through the row shift, as `shifted` ensures
+-- `layout::stage::source_of` meets its contract, by the stage. In a first half and in the exit it reads through the row shift, as `reads_of` ensures
 -- (`reads-first`, `reads-exit` of `laws.Place`); in the others it reads its own position.
 -- Assumes nothing.
 use Rattle.layout.proofs.laws.Place.{reads-first, reads-exit}
@@ -19,8 +19,8 @@ enum-told c = search needs
 enum-told-2 : tie.Need-enum-told-2
 enum-told-2 c = search needs
 
-shifted-requires : tie.Need-shifted-requires
-shifted-requires c κs = search needs
+reads-of-requires : tie.Need-reads-of-requires
+reads-of-requires c κs = search needs
 
 enum-told-3 : tie.Need-enum-told-3
 enum-told-3 c = search needs
@@ -28,8 +28,8 @@ enum-told-3 c = search needs
 enum-told-4 : tie.Need-enum-told-4
 enum-told-4 c = search needs
 
-shifted-requires-2 : tie.Need-shifted-requires-2
-shifted-requires-2 c κs = search needs
+reads-of-requires-2 : tie.Need-reads-of-requires-2
+reads-of-requires-2 c κs = search needs
 
 enum-told-5 : tie.Need-enum-told-5
 enum-told-5 c = search needs
@@ -49,10 +49,10 @@ source-of-spec =
     (tie.spec
     enum-told
     enum-told-2
-    shifted-requires
+    reads-of-requires
     enum-told-3
     enum-told-4
-    shifted-requires-2
+    reads-of-requires-2
     enum-told-5
     returns
     returns-2

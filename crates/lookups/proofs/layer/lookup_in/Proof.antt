@@ -1,7 +1,8 @@
 -- `lookups::layer::lookup_in` meets its contract. Lookup j is of one of three kinds, each with a way out and a law of `laws.Layers`: below 16 a
--- spread lookup (`by-spread`); from 16 on an XOR lookup, which is all unless it is the last (`by-xor`); and the last, behind which the sums are
--- copied to the standing bytes and the area is cleared (`by-last`). The laws' premises are the tests on the way and what the calls ensure.
--- What the calls ask is the width and the length of the table that a lookup of that kind has, by the `requires`.
+-- spread lookup, at the standing byte that `source_of` ensures for the cipher (`by-spread`); from 16 on an XOR lookup, which is all unless it is
+-- the last (`by-xor`); and the last, behind which the sums are copied to the standing bytes and the area is cleared (`by-last`). The laws' premises
+-- are the tests on the way and what the calls ensure. What the calls ask is the width and the length of the table that a lookup of that kind has,
+-- by the `requires`.
 -- Assumes nothing.
 use Rattle.lookups.proofs.laws.Layers.{spread-sized, xor-sized, xor-within, xor-width, xor-below, length-after-xor}
 use Rattle.lookups.proofs.laws.Layers.{by-spread, by-xor, by-last}

@@ -1,10 +1,12 @@
 -- `lookups::layer::spread_all` meets its contract. The loop's invariant, `Spreads` of `laws.Whole`: p spread lookups are made, the area has kept
--- its length, and the 16 tables lie within the set. A turn makes lookup p over its table, a part of the set (`spreads-more`); behind lookup 15
--- all are made (`spreads-all`). No sum wraps: the table of a turn ends within the set (`table-ends`).
+-- its length, and the 16 tables lie within the set. A turn makes lookup p over its table, a part of the set, at the standing byte that `source_of`
+-- ensures for the cipher (`spreads-more`); behind lookup 15 all are made (`spreads-all`). No sum wraps: the table of a turn ends within the set
+-- (`table-ends`).
 -- Assumes nothing.
 use Prim.Native.Nat.{_+_, _-_, _*_, _≤_}
 use lib.ListN.{length}
-use Rattle.layout.specs.Stages.{shapeAt, shifted}
+use Rattle.layout.specs.Ciphers.{readsOf}
+use Rattle.layout.specs.Stages.{shapeAt}
 use Rattle.lookups.proofs.laws.Whole.{Spreads, spreads-none, table-ends, table-long, spreads-more, spreads-all}
 use native.Mathlib.Omega.{arith}
 use borrow.Author.Needs.{needs}
@@ -12,10 +14,10 @@ use Rattle.lookups.proofs.layer.spread_all.Statement.{statement}
 use Rattle.lookups.proofs.layer.spread_all.Tie as tie
 
 abbrev Inv-loop : tie.InvT-loop
-Inv-loop standing area₀ set from stage width size p₀ area p = Spreads (shapeAt shifted stage) set from width standing area₀ area p
+Inv-loop cipher standing area₀ set from stage width size p₀ area p = Spreads (shapeAt (readsOf cipher) stage) set from width standing area₀ area p
 
 abbrev μ-loop : tie.MeasureT-loop
-μ-loop standing area₀ set from stage width size p₀ area p = 16 - p
+μ-loop cipher standing area₀ set from stage width size p₀ area p = 16 - p
 
 -- the table of the turn ends within the set
 ends : (c : tie.In-loop Inv-loop μ-loop)

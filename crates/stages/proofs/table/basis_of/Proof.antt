@@ -1,10 +1,11 @@
 -- `stages::table::basis_of` goes by the kind of the stage. The call of each branch stores the basis from the matrix that such a stage has, and a
--- law of `laws.Words` says that its words are the stage's: `based-entry`, `based-first`, `based-second`, `based-exit`. The inverse is long enough
+-- law of `laws.Words` says that its words are the stage's, for the cipher's parts: `based-entry`, `based-first`, `based-second`, `based-exit`. The inverse is long enough
 -- by `begins-entry` and `begins-second` of layers, a matrix because its part of the bundle is. Behind the last stage there is none, since it is no
 -- stage of the rounds (`never-beyond`). In a half the round is r, so the numbers of its matrices neither wrap nor are out of range.
 -- Assumes nothing.
 use Rattle.bundle.specs.Format.{columnMatrices}
-use Rattle.whitebox.specs.Parts.{forward}
+use Rattle.whitebox.specs.Parts.{partsFor}
+use Rattle.whitebox.proofs.laws.Ciphers.{parts-mix}
 use Rattle.layers.proofs.laws.Code.{frame-of, column-part-long, output-part-long}
 use Rattle.layers.proofs.laws.Inverses.{begins-entry, begins-second}
 use Rattle.layers.proofs.laws.Numbers.{round-first, round-second, never-beyond}
@@ -26,7 +27,7 @@ returns c =
     let stage : tie.After-enum-told = search in
     let start : tie.Start = search in
     let p = start .pre in
-    λ w. based-entry (forward 10 w) 10 _ _ _ _ _ _ (stage .enum-told .given .1) (p .2) (p .3) (p .1) (search)
+    λ w. based-entry (partsFor (start .args .cipher) 10 w) 10 _ _ _ _ _ _ (stage .enum-told .given .1) (p .2) (p .3) (p .1) (search)
 
 column-number-requires : tie.Need-column-number-requires
 column-number-requires c κs =
@@ -45,13 +46,16 @@ mixed-basis-requires c κs =
     (omega arith, omega arith, start .pre .4)
 
 returns-2 : tie.Need-returns-2
-unfolding forward columnMatrices
+unfolding columnMatrices
 returns-2 c =
     let stage : tie.After-s = search in
     let number : tie.After-column-number = search in
     let part : tie.After-column-matrix-part = search in
+    let start : tie.Start = search in
     let n = number .column-number .ensures in
-    λ w. based-first (forward 10 w) 10 _ _ _ _ _ _ _ _ (stage .s .given .1) (n .0) (n .1) (part .column-matrix-part .ensures) (search)
+    let cipher = start .args .cipher in
+    λ w. based-first (partsFor cipher 10 w) 10 _ _ _ _ _ _ _ _ _ (parts-mix 10 w cipher) (stage .s .given .1) (n .0) (n .1)
+    (part .column-matrix-part .ensures) (search)
 
 mul-spread-basis : tie.Need-mul-spread-basis
 mul-spread-basis c =
@@ -78,7 +82,7 @@ returns-3 c =
     let stage : tie.After-s2 = search in
     let start : tie.Start = search in
     let p = start .pre in
-    λ w. based-second (forward 10 w) 10 _ _ _ _ _ _ _ (stage .s2 .given .1) (p .2) (p .3) (p .1) (search)
+    λ w. based-second (partsFor (start .args .cipher) 10 w) 10 _ _ _ _ _ _ _ (stage .s2 .given .1) (p .2) (p .3) (p .1) (search)
 
 placed-basis-requires : tie.Need-placed-basis-requires
 placed-basis-requires c κs =
@@ -91,7 +95,8 @@ returns-4 : tie.Need-returns-4
 returns-4 c =
     let stage : tie.After-enum-told2 = search in
     let part : tie.After-output-matrix-part = search in
-    λ w. based-exit (forward 10 w) 10 _ _ _ _ _ _ (stage .enum-told2 .given .1) (part .output-matrix-part .ensures) (search)
+    let start : tie.Start = search in
+    λ w. based-exit (partsFor (start .args .cipher) 10 w) 10 _ _ _ _ _ _ (stage .enum-told2 .given .1) (part .output-matrix-part .ensures) (search)
 
 returns-5 : tie.Need-returns-5
 returns-5 c =

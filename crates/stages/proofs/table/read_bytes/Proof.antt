@@ -4,7 +4,7 @@
 -- Assumes nothing.
 use Prim.Native.Nat.{_<_}
 use Rattle.bundle.specs.Format.{encodings}
-use Rattle.layout.specs.Stages.{shifted}
+use Rattle.layout.specs.Ciphers.{readsOf}
 use Rattle.stages.proofs.laws.Encodings.{encodings-permute, read-made}
 use borrow.Author.Needs.{needs}
 use Rattle.stages.proofs.table.read_bytes.Statement.{statement}
@@ -35,7 +35,8 @@ returns c =
     let low : tie.After-standing-number2 = search in
     let high : tie.After-standing-number = search in
     let source : tie.After-source-of = search in
-    read-made 10 shifted _ _ _ _ _ _ _ _ (section .section .ensures) (source .source-of .ensures .0)
+    let start : tie.Start = search in
+    read-made 10 (readsOf (start .args .cipher)) _ _ _ _ _ _ _ _ (section .section .ensures) (source .source-of .ensures .0)
     (high .standing-number .ensures .0) (low .standing-number2 .ensures .0) (decoded .decoded-bytes .ensures)
 
 -- ---- the needs that the search closes

@@ -1,11 +1,11 @@
 -- `stages::table::spread_table`: each call fills one list, the values, the basis of words, the images of the word's encodings; `write` makes
--- the table of them, and `spread-made` of `laws.Spread` says that it is the spread table of FIPS 197's cipher. Its premises are what the calls ensure. No sum wraps:
+-- the table of them, and `spread-made` of `laws.Spread` says that it is the spread table of the cipher. Its premises are what the calls ensure. No sum wraps:
 -- p words of 2 m nibbles are at most 15 times 32 of them.
 -- Assumes nothing.
 use Prim.Native.Nat.{_*_, _≤_}
 use Rattle.bits.proofs.laws.Multiples.{product-le}
-use Rattle.whitebox.specs.Parts.{forward}
-use Rattle.whitebox.proofs.laws.States.{forward-fine}
+use Rattle.whitebox.specs.Parts.{partsFor}
+use Rattle.whitebox.proofs.laws.Ciphers.{parts-fine, parts-read}
 use Rattle.stages.proofs.laws.Spread.{spread-made}
 use Rattle.stages.proofs.laws.Words.{images-lt}
 use native.Mathlib.Omega.{arith}
@@ -38,7 +38,7 @@ write-requires c κs =
     let bytes : tie.After-shared-slice-known = search in
     let start : tie.Start = search in
     let nibbles = images-lt 10 _ _ _ _ _ _ (λ i. bytes .shared-slice-known .given i .fits) (section .section .ensures) (images .all-images .ensures) in (
-      values .values-of .kept .1 .1 .1 .1 .0,
+      omega (arith, values .values-of),
       omega (arith, basis .basis-of),
       width .width-of .ensures .1,
       omega (arith, images .all-images),
@@ -47,7 +47,6 @@ write-requires c κs =
     )
 
 returns : tie.Need-returns
-unfolding forward
 returns c =
     let write : tie.After-write = search in
     let images : tie.After-all-images = search in
@@ -60,9 +59,10 @@ returns c =
     let bytes : tie.After-shared-slice-known = search in
     let start : tie.Start = search in
     let p = start .pre in
-    let fine = forward-fine 10 _ (λ i. keys .shared-slice-known2 .given i .fits) in
-    spread-made (forward 10 (start .args .keys .now)) fine 10 _ (λ i. bytes .shared-slice-known .given i .fits)
-    (p .0) _ (p .3) _ (p .4) _ _ _ _ _ _ _ _ _ (width .width-of .ensures .0) (first .first-number .ensures .0)
+    let cipher = start .args .cipher in
+    let fine = parts-fine cipher 10 _ (λ i. keys .shared-slice-known2 .given i .fits) in
+    spread-made (partsFor cipher 10 (start .args .keys .now)) fine 10 _ (λ i. bytes .shared-slice-known .given i .fits)
+    (p .0) _ (p .3) _ (p .4) _ _ _ _ _ _ _ _ _ _ (parts-read 10 (start .args .keys .now) cipher) (width .width-of .ensures .0) (first .first-number .ensures .0)
     (section .section .ensures) (omega arith)
     (values .values-of .ensures) (basis .basis-of .ensures _) (images .all-images .ensures) (write .write .ensures)
 

@@ -4,7 +4,7 @@
 -- Assumes nothing.
 use mathlib.Core.Path.{subst}
 use Prim.Native.Nat.{ℕ}
-use Rattle.layout.specs.Stages.{shifted}
+use Rattle.layout.specs.Ciphers.{readsOf}
 use Rattle.layout.specs.declared.stage.Stage.{Stage}
 use Rattle.layers.specs.Layers.{InRounds}
 use Rattle.layers.proofs.laws.Numbers.{round-first, never-beyond}
@@ -16,7 +16,7 @@ use Rattle.stages.proofs.table.values_of.Tie as tie
 
 -- what the bytes that position p reads decode to, by the stage
 abbrev read-at : tie.Start → Stage → ℕ → ℕ
-read-at start t = readByte 10 shifted (start .args .bundle .now) t (start .args .p)
+read-at start t = readByte 10 (readsOf (start .args .cipher)) (start .args .bundle .now) t (start .args .p)
 
 read-bytes-requires : tie.Need-read-bytes-requires
 read-bytes-requires c κs =

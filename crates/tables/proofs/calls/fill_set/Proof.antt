@@ -12,7 +12,7 @@ returns c =
     let written : tie.After-write-all = search in
     let expanded : tie.After-expand-key = search in
     let loaded : tie.After-load = search in
-    set-made 4 _ _ _ _ _ (loaded .load .ensures) (expanded .expand-key .ensures) _ (starred .all-lookups) (written .write-all .ensures)
+    set-made _ 4 _ _ _ _ _ (loaded .load .ensures) (expanded .expand-key .ensures) _ (starred .all-lookups) (written .write-all .ensures)
 
 -- ---- the needs that the search closes
 load-requires : tie.Need-load-requires

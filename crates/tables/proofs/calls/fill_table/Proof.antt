@@ -29,7 +29,7 @@ returns c =
     let written : tie.After-write-one = search in
     let expanded : tie.After-expand-key = search in
     let loaded : tie.After-load = search in
-    one-made 4 _ _ _ _ _ (loaded .load .ensures) (expanded .expand-key .ensures) _ (written .write-one .ensures)
+    one-made _ 4 _ _ _ _ _ (loaded .load .ensures) (expanded .expand-key .ensures) _ (written .write-one .ensures)
 
 -- ---- the needs that the search closes
 load-requires : tie.Need-load-requires

@@ -17,17 +17,18 @@ use Rattle.layout.proofs.laws.Lookup.{Stands}
 use Rattle.layout.proofs.laws.Ten.{in-set, placed}
 use Rattle.tables.proofs.laws.Set.{round-at, inverse-chosen, columns-lent, table-room, table-next, tables-all}
 use Rattle.whitebox.specs.Bundles.{codingsOf}
-use Rattle.whitebox.specs.Parts.{forward}
+use Rattle.whitebox.specs.Parts.{partsFor}
 use Rattle.whitebox.specs.Tables.{tableOf}
 use native.Mathlib.Omega.{arith}
 use Rattle.tables.proofs.set.write_all.Statement.{statement}
 use Rattle.tables.proofs.set.write_all.Tie as tie
 
 abbrev Inv-loop : tie.InvT-loop
-Inv-loop bundle keys columns input memory₀ n₀ memory n = PartsAt tenLookups (tableOffset 10) (tableOf (forward 10 keys) (codingsOf 10 bundle) 10) memory₀ memory n
+Inv-loop cipher bundle keys columns input memory₀ n₀ memory n =
+    PartsAt tenLookups (tableOffset 10) (tableOf (partsFor cipher 10 keys) (codingsOf 10 bundle) 10) memory₀ memory n
 
 abbrev μ-loop : tie.MeasureT-loop
-μ-loop bundle keys columns input memory₀ n₀ memory n = tenLookups - n
+μ-loop cipher bundle keys columns input memory₀ n₀ memory n = tenLookups - n
 
 loop-holds : tie.Need-loop-holds Inv-loop μ-loop
 loop-holds c = parts-at-none (first-offset 10)
@@ -76,7 +77,7 @@ loop-again c =
     let turn : tie.In-loop Inv-loop μ-loop = search in
     let start : tie.Start Inv-loop μ-loop = search in
     table-next 10 (starred .all-lookups) (starred .table-bytes) (start .pre .4) (turn .before .loop .inv) (turn .loop-test .taken) _ (place .place-of .ensures) _
-    (written .write-one .kept .1 .1 .1 .1 .0) (written .write-one .ensures)
+    (omega (arith, written .write-one)) (written .write-one .ensures)
 
 returns : tie.Need-returns Inv-loop μ-loop
 returns c =

@@ -1,11 +1,11 @@
--- `layout::stage::shifted` meets its contract. The result is the definition's expression, and a column below 4 times 4 plus a row below 4 is below 16.
+-- `layout::cipher::shifted` meets its contract. The result is the definition's expression, and a column below 4 times 4 plus a row below 4 is below 16.
 -- Assumes nothing.
 use mathlib.Core.Path.{refl}
 use Rattle.layout.specs.Stages.{shifted}
 use native.Mathlib.Omega.{arith}
 use borrow.Author.Needs.{needs}
-use Rattle.layout.proofs.stage.shifted.Statement.{statement}
-use Rattle.layout.proofs.stage.shifted.Tie as tie
+use Rattle.layout.proofs.cipher.shifted.Statement.{statement}
+use Rattle.layout.proofs.cipher.shifted.Tie as tie
 
 returns : tie.Need-returns
 unfolding shifted
