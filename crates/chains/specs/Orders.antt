@@ -50,7 +50,8 @@ module _ (nr : ℕ) (set : List ℕ) where
       let c = callFor nr set o (w .state .count) block in c ∷ callsOf (handed nr c w) (blockBehind c (blockLeft nr c w) block) os
 
   -- ---- the contracts
-  -- One order is served: the call that it is, as `move_to` and `move_one` answer or with the answer of `fetch` and the walk left, and the block.
+  -- One order is served: the call that it is, as `move_to` and `move_one` answer, or with the answer of `fetch`, the walk left and the offset
+  -- of no lookup, and the block.
   pub record OneServed (order : ℕ) (w : Walk) (lent : List ℕ) (r : Move) (left : List ℕ) : Type 0 where
     pub moves : Moves nr (callFor nr set order (w .count) lent) w r
     pub block :

@@ -8,6 +8,7 @@ use evaluate::walk::Walk;
 use evaluate::walk::fetch;
 use evaluate::walk::move_one;
 use evaluate::walk::move_to;
+use layout::stage::NOWHERE;
 use layout::stage::place_of;
 
 // The orders that are no stop: a move of one lookup, and a fetch.
@@ -44,6 +45,7 @@ fn serve_one(walk: Walk, set: &[u8], order: u64, block: &mut [u8]) -> Move
         return Move {
             answer: answer,
             walk: walk,
+            offset: NOWHERE,
         };
     }
     move_to(walk, set, order as usize)

@@ -6,6 +6,7 @@ use mathlib.Core.Path.{_≡_}
 use Prim.Native.Nat.{ℕ}
 use Rattle.answers.specs.Answers.{replyOf}
 use Rattle.answers.specs.declared.Answer.{Answer}
+use Rattle.layout.specs.Stages.{nowhere}
 use Rattle.whitebox.specs.Calls.{Call, toStop, oneLookup, fetch, Served, serve, lastWalk}
 use Rattle.evaluate.specs.Held.{held}
 use Rattle.evaluate.specs.Contracts.{Moves, Fetches}
@@ -33,22 +34,24 @@ walkAfter w (moveTo set stop r) = r .walk
 walkAfter w (moveOne table r) = r .walk
 walkAfter w (fetched lent r left) = w
 
--- What it answered: the reply in document 01's numbers, the walk held afterwards, the lent block afterwards. A move is lent none.
-abbrev pub servedBy : Walk → CallMade → Served
-servedBy w (moveTo set stop r) = record { reply = replyOf (r .answer); walk = held (r .walk); block = [] }
-servedBy w (moveOne table r) = record { reply = replyOf (r .answer); walk = held (r .walk); block = [] }
-servedBy w (fetched lent r left) = record { reply = replyOf r; walk = held w; block = left }
-
--- The same of calls one after the other, from the walk w on: what each answered, and the last walk.
-abbrev pub servedIn : Walk → List CallMade → List Served
-servedIn w [] = []
-servedIn w (m ∷ ms) = servedBy w m ∷ servedIn (walkAfter w m) ms
-
+-- The last walk behind calls one after the other, from the walk w on.
 abbrev pub lastIn : Walk → List CallMade → Walk
 lastIn w [] = w
 lastIn w (m ∷ ms) = lastIn (walkAfter w m) ms
 
 module _ (nr : ℕ) where
+  -- What it answered: the reply in document 01's numbers, the walk held afterwards, the offset passed on, the lent block afterwards. A move is lent no
+  -- block; a fetch hands back no offset, and `nowhere` stands in its place.
+  abbrev pub servedBy : Walk → CallMade → Served
+  servedBy w (moveTo set stop r) = record { reply = replyOf (r .answer); walk = held (r .walk); offset = r .offset; block = [] }
+  servedBy w (moveOne table r) = record { reply = replyOf (r .answer); walk = held (r .walk); offset = r .offset; block = [] }
+  servedBy w (fetched lent r left) = record { reply = replyOf r; walk = held w; offset = nowhere nr; block = left }
+
+  -- The same of calls one after the other, from the walk w on.
+  abbrev pub servedIn : Walk → List CallMade → List Served
+  servedIn w [] = []
+  servedIn w (m ∷ ms) = servedBy w m ∷ servedIn (walkAfter w m) ms
+
   -- The call meets its contract.
   abbrev pub Meets : Walk → CallMade → Type 0
   Meets w (moveTo set stop r) = Moves nr (toStop set stop) w r

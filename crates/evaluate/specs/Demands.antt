@@ -61,9 +61,8 @@ pub record Straight (o : Opening) (ms : List CallMade) (r : Move) : Type 0 where
 
 -- The chain ms over the set of the cipher c, from the opening o for that cipher over the block x, where the plain count ends at n.
 pub record ChainAnswered (c nk : ℕ) (key l x : List ℕ) (o : Opening) (ms : List CallMade) (n : ℕ) : Type 0 where
-  -- Call by call: the reply is the plain count's; the walk handed back or left is the one due at the plain count; an accepted fetch leaves
-  -- the cipher's block under the output coding, a refused one the bytes that the lent block held.
-  pub calls : servedIn (o .walk) ms ≡ dueFor c nk key l x (map callOf ms)
+  -- Call by call, what demand 3 has the list of these calls answer (`Answered` of whitebox/specs/Demand3.antt).
+  pub calls : servedIn (roundsOf nk) (o .walk) ms ≡ dueFor c nk key l x (map callOf ms)
   -- At the end: the walk due at the plain count n, which is, byte for byte, what one move straight to that count hands back.
   pub last : held (lastIn (o .walk) ms) ≡ dueHeld c nk key l (decodeInput (roundsOf nk) l x) n
   pub straight : (r : Move) → Moves (roundsOf nk) (toStop (madeSet c nk key l) n) (o .walk) r → Straight o ms r
@@ -83,7 +82,7 @@ TwoChains nk =
     → Alike (map callOf ms) (map callOf ms′)
     → Lent (roundsOf nk) (madeTable c nk key l) (madeSet c nk key l) 0 (map callOf ms)
     → Lent (roundsOf nk) (madeTable c nk key l′) (madeSet c nk key l′) 0 (map callOf ms′)
-    → map seen (servedIn (o .walk) ms) ≡ map seen (servedIn (o′ .walk) ms′)
+    → map seen (servedIn (roundsOf nk) (o .walk) ms) ≡ map seen (servedIn (roundsOf nk) (o′ .walk) ms′)
 
 pub record CallsFor (nk : ℕ) : Type 0 where
   pub whole-walk : WholeWalk (roundsOf nk)

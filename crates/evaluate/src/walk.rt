@@ -1,14 +1,13 @@
 // The held walk and its calls, over any walk, any lent memory and any number.
 ghost use mathlib.Core.Path.{_≡_};
-ghost use Prim.Native.Nat.{_-_, _<_, _≤_};
+ghost use Prim.Native.Nat.{_<_, _≤_};
 ghost use lib.ListN.{length};
-ghost use Rattle.answers.specs.declared.Answer.the-variants.{Refused};
 ghost use Rattle.network.specs.Lookups.{stateAt};
 ghost use Rattle.layout.specs.Ciphers.{kept, readsOf};
 ghost use Rattle.layout.specs.Stages.{tenLookups, tenSetBytes};
 ghost use Rattle.whitebox.specs.Calls as calls;
 ghost use Rattle.evaluate.specs.Held.{held};
-ghost use Rattle.evaluate.specs.Advanced.{Advanced};
+ghost use Rattle.evaluate.specs.Advanced.{Refuses, Advanced, Advances};
 ghost use Rattle.evaluate.specs.Contracts.{Opens, Moves, Fetches};
 use answers::Answer;
 use answers::Refusal;
@@ -16,6 +15,7 @@ use bits::block::load;
 use bits::block::store;
 use layout::cipher::kept;
 use layout::stage::LOOKUPS;
+use layout::stage::NOWHERE;
 use layout::stage::SET_BYTES;
 use layout::stage::place_of;
 use layout::stage::width_of;
@@ -36,10 +36,18 @@ pub struct Opening {
     pub walk: Walk,
 }
 
-// What a move hands back.
+// What a move hands back: its answer, the walk, and the byte offset within the set of the entry that its last lookup read, `NOWHERE` if it made none
+// (document 02, Ticket 2).
 pub struct Move {
     pub answer: Answer,
     pub walk: Walk,
+    pub offset: usize,
+}
+
+// What a part of a move reached: a count, and the offset of the last lookup up to it.
+struct Reached {
+    count: usize,
+    offset: usize,
 }
 
 // The walk of a cipher at a count, with these standing bytes and this area: it keeps 0 or 1.
@@ -55,13 +63,14 @@ fn walk_for(cipher: u64, count: usize, standing: [u8; 16], area: [u8; 256]) -> W
     }
 }
 
-// A refused move hands the walk back as it was given.
+// A refused move hands the walk back as it was given, and has made no lookup.
 fn refused(walk: Walk, refusal: Refusal) -> Move
-    ensures { λ r. ⌜ (r .answer ≡ Refused refusal) × (r .walk ≡ walk) ⌝ }
+    ensures { λ r. ⌜ Refuses 10 refusal walk r ⌝ }
 {
     Move {
         answer: Answer::Refused(refusal),
         walk: walk,
+        offset: NOWHERE,
     }
 }
 
@@ -87,7 +96,7 @@ pub fn start(cipher: u64, block: &[u8]) -> Opening
     }
 }
 
-// At count n, all lookups of a stage or half where it begins here and ends by the stop, else one. The count reached.
+// At count n, all lookups of a stage or half where it begins here and ends by the stop, else one.
 fn step(
     cipher: u64,
     standing: &mut [u8; 16],
@@ -95,9 +104,9 @@ fn step(
     set: &[u8],
     n: usize,
     stop: usize,
-) -> usize
+) -> Reached
     requires { ⌜ (length (now set) ≡ tenSetBytes) × (n < stop) × (stop ≤ tenLookups) × (length (now standing) ≡ 16) × (length (now area) ≡ 256) ⌝ }
-    ensures { λ r. ⌜ Advanced (readsOf cipher) 10 (now (set .entry)) n stop r (now (standing .entry)) (now (area .entry)) (now (standing .exit)) (now (area .exit)) ⌝ }
+    ensures { λ r. ⌜ Advanced (readsOf cipher) 10 (now (set .entry)) n stop (r .count) (r .offset) (now (standing .entry)) (now (area .entry)) (now (standing .exit)) (now (area .exit)) ⌝ }
 {
     let p = place_of(n);
     let from = p.offset;
@@ -106,28 +115,43 @@ fn step(
     let all = layer::lookups_of(width_of(stage));
     if index == 0 {
         if all <= stop - n {
-            layer::layer_in(cipher, standing, area, set, from, stage);
-            return n + all;
+            let last = layer::layer_in(cipher, standing, area, set, from, stage);
+            let end = n + all;
+            return Reached {
+                count: end,
+                offset: last.offset,
+            };
         }
     }
     let to = from + p.size;
-    layer::lookup_in(cipher, standing, area, &set[from..to], stage, index);
-    n + 1
+    let read = layer::lookup_in(cipher, standing, area, &set[from..to], from, stage, index);
+    let next = n + 1;
+    Reached {
+        count: next,
+        offset: read.offset,
+    }
 }
 
-// The lookups from the count up to the stop.
-fn advance(walk: Walk, set: &[u8], stop: usize) -> Walk
+// The lookups from the count up to the stop: an accepted move.
+fn advance(walk: Walk, set: &[u8], stop: usize) -> Move
     requires { ⌜ (length (now set) ≡ tenSetBytes) × (stop ≤ tenLookups) × (walk .count ≤ stop) ⌝ }
-    ensures { λ r. ⌜ held r ≡ calls.changed (calls.advance (readsOf (walk .cipher)) 10 (now (set .entry)) (stop - walk .count)) (held walk) ⌝ }
+    ensures { λ r. ⌜ Advances 10 (now (set .entry)) stop walk r ⌝ }
 {
     let cipher = walk.cipher;
     let mut standing = walk.standing;
     let mut area = walk.area;
     let mut n = walk.count;
+    let mut offset = NOWHERE;
     while n < stop {
-        n = step(cipher, &mut standing, &mut area, set, n, stop);
+        let r = step(cipher, &mut standing, &mut area, set, n, stop);
+        n = r.count;
+        offset = r.offset;
     }
-    walk_for(cipher, n, standing, area)
+    Move {
+        answer: Answer::Accepted,
+        walk: walk_for(cipher, n, standing, area),
+        offset: offset,
+    }
 }
 
 // A move to a stop.
@@ -143,11 +167,7 @@ pub fn move_to(walk: Walk, set: &[u8], stop: usize) -> Move
     if stop < walk.count {
         return refused(walk, Refusal::Stop);
     }
-    let w = advance(walk, set, stop);
-    Move {
-        answer: Answer::Accepted,
-        walk: w,
-    }
+    advance(walk, set, stop)
 }
 
 // A move of one lookup, with only that table lent.
@@ -167,10 +187,12 @@ pub fn move_one(walk: Walk, table: &[u8]) -> Move
     let mut area = walk.area;
     let stage = p.stage;
     let index = p.index;
-    layer::lookup_in(cipher, &mut standing, &mut area, table, stage, index);
+    let from = p.offset;
+    let read = layer::lookup_in(cipher, &mut standing, &mut area, table, from, stage, index);
     Move {
         answer: Answer::Accepted,
         walk: walk_for(cipher, n + 1, standing, area),
+        offset: read.offset,
     }
 }
 

@@ -1,6 +1,6 @@
--- The starred cases of document 01 that are about the layout of a set. They are proved in proofs/laws/Cases.antt.
+-- The starred cases of document 01 that are about the layout of a set, and one number of document 02. They are proved in proofs/laws/Cases.antt.
 use mathlib.Core.Path.{_≡_}
-use Rattle.layout.specs.Stages.{shifted, lookups, tablesBytes, setBytes, encodings, tableOffset}
+use Rattle.layout.specs.Stages.{shifted, lookups, tablesBytes, setBytes, nowhere, encodings, tableOffset}
 
 pub record Starred : Type 0 where
   -- "Position 1 reads byte 5, position 13 reads byte 1."
@@ -15,3 +15,5 @@ pub record Starred : Type 0 where
   pub table-bytes : tablesBytes 10 ≡ 770048
   pub all-bytes : setBytes 10 ≡ 770048
   pub all-encodings : encodings 10 ≡ 6048
+  -- "770,048 when it has made none in that call" (document 02, Ticket 2).
+  pub no-lookup : nowhere 10 ≡ 770048

@@ -62,6 +62,11 @@ tablesBytes nr = bytesIn (widths nr)
 unfoldable pub setBytes : ℕ → ℕ
 setBytes nr = tablesBytes nr
 
+-- The offset that a call passes on if it made no lookup: "770,048 when it has made none in that call" (document 02, Ticket 2). It is behind all
+-- tables, where no entry stands.
+abbrev pub nowhere : ℕ → ℕ
+nowhere nr = tablesBytes nr
+
 unfoldable pub encodings : ℕ → ℕ
 encodings nr = 32 + resultsIn (widths nr)
 

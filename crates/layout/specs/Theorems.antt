@@ -5,6 +5,7 @@ use mathlib.Core.Path.{_≡_}
 use Prim.Native.Nat.{ℕ, _+_, _-_, _*_, _≤_, _<_}
 use Rattle.network.specs.Lookups.{State, lookupIn, lookupAt}
 use Rattle.network.specs.Numbers.{startNumbers, numbersAfter}
+use Rattle.network.specs.Read.{readIn, readAt}
 use Rattle.network.specs.Rule.{labels, firstResult, ruleIn}
 use Rattle.network.specs.Sizes.{sizeOf, offsetOf}
 use Rattle.network.specs.Tables.{Layer, AllGood, tableIn, tableAt}
@@ -24,6 +25,9 @@ pub record ByStage (nr : ℕ) : Type 0 where
   -- Lookup k is lookup `indexOf nr k` of its stage or half.
   pub lookup-is : (reads : ℕ → ℕ) (k : ℕ) → k < lookups nr → (t : List ℕ) (w : State)
       → lookupAt (shapes reads nr) k t w ≡ lookupIn (shapeAt reads (stageOf nr k)) (indexOf nr k) t w
+  -- The place that it reads is that lookup's too, where its table begins at byte `from`.
+  pub read-is : (reads : ℕ → ℕ) (k : ℕ) → k < lookups nr → (from : ℕ) (standing area : List ℕ)
+      → readAt (shapes reads nr) k from standing area ≡ readIn (shapeAt reads (stageOf nr k)) (indexOf nr k) from standing area
   -- Its table is made there, from the numbers that start the stage or half, in any network with a layer of the right width for each.
   pub table-is : (E : ℕ → List ℕ) (F : Stage → Layer) → ((s : Stage) → F s .width ≡ widthOf s) → (k : ℕ) → k < lookups nr
       → tableAt E (map F (stages nr)) startNumbers k ≡ tableIn E (F (stageOf nr k)) (numbersOf nr (stageOf nr k)) (indexOf nr k)

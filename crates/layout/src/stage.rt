@@ -24,6 +24,9 @@ const TABLES_BYTES: usize = 770048;
 
 pub const SET_BYTES: usize = TABLES_BYTES;
 
+// The offset that is passed on where no lookup was made: behind all tables.
+pub const NOWHERE: usize = TABLES_BYTES;
+
 // The lookups of the entry, which are as many as those of the exit, of a half and of a round.
 pub const ENTRY_LOOKUPS: usize = 496;
 

@@ -4,37 +4,85 @@ use mathlib.Core.Bool.{cond}
 use mathlib.Core.List.{List}
 use mathlib.Core.Logic.{_⊎_}
 use mathlib.Core.Path.{_≡_}
-use Prim.Native.Nat.{ℕ, zero, suc, _+_, _/_, _%_, _<_}
+use Prim.Native.Nat.{ℕ, zero, suc, _+_, _-_, _*_, _/_, _%_, _≤_, _<_}
 use lib.Dec.{eqb}
 use lib.ListN.{length, set, take, drop}
+use lib.Seq.{paste}
 use Rattle.bits.specs.Lists.{at}
-use Rattle.bits.specs.Nibbles.{pack, nibble}
-use Rattle.network.specs.Lookups.{stateAt, Shape, spreadArea, xorArea, sums, lookupIn}
+use Rattle.bits.specs.Nibbles.{pack, nibble, setNibble}
+use Rattle.network.specs.Lookups.{stateAt, Shape, zeroArea, spreadArea, xorIndex, xorArea, sums, lookupIn}
 use Rattle.network.specs.Order.{xors, layerLookups}
-use Rattle.network.specs.Sizes.{sizeOf, offsetOf}
+use Rattle.network.specs.Read.{readIn}
+use Rattle.network.specs.Sizes.{sizeOf, offsetOf, layerBytes}
+use Rattle.network.specs.Theorems.{WithinTable}
+use Rattle.network.specs.declared.EntryPlace.{EntryPlace}
 use Rattle.layout.specs.Stages.{widthOf}
 use Rattle.layout.specs.declared.stage.Stage.{Stage}
+
+-- What the code asks of offsets in a set, so that no sum of them wraps; no set is as long.
+abbrev pub offsetLimit : ℕ
+offsetLimit = 4294967296
 
 -- The byte x with the half replaced that is nibble q of a list.
 abbrev pub withHalf : ℕ → ℕ → ℕ → ℕ
 withHalf x q v = cond (eqb (q % 2) 0) (pack v (x % 16)) (pack (x / 16) v)
+
+-- A spread lookup over the table t, of words of m bytes, reads the word of the byte x, which begins at byte r of the table, and turns the area a into a′.
+pub record SpreadRead (t : List ℕ) (m p x : ℕ) (a : List ℕ) (r : ℕ) (a′ : List ℕ) : Type 0 where
+  pub word : r ≡ x * m
+  pub ends : r + m ≤ 256 * m
+  pub area : a′ ≡ paste a (p * m) (drop (x * m) t) m
+  pub long : length a′ ≡ length a
+
+-- An XOR lookup over the table t at two nibbles of an area a reads entry e and leaves the area a′.
+pub record XorRead (t : List ℕ) (sum added : ℕ) (a : List ℕ) (e : ℕ) (a′ : List ℕ) : Type 0 where
+  pub entry : e ≡ pack (nibble a sum) (nibble a added)
+  pub below : e < 256
+  pub area : a′ ≡ setNibble a sum (nibble t e)
 
 -- The area whose byte `sum` has both nibbles replaced, each by the entry that it and the nibble of byte `added` pick.
 unfoldable pub xorByte : List ℕ → List ℕ → ℕ → ℕ → List ℕ → List ℕ
 xorByte high low sum added a =
     set a sum (pack (nibble high (pack (at a sum / 16) (at a added / 16))) (nibble low (pack (at a sum % 16) (at a added % 16))))
 
+-- Two XOR lookups in a row, over the tables `high` and `low`, at the nibbles of two bytes of an area a: the second reads entry e, and they leave a′.
+pub record PairRead (high low : List ℕ) (sum added : ℕ) (a : List ℕ) (e : ℕ) (a′ : List ℕ) : Type 0 where
+  pub entry : e ≡ pack (at a sum % 16) (at a added % 16)
+  pub below : e < 256
+  pub area : a′ ≡ xorByte high low sum added a
+
 -- Lookup j is one of the stage or half, and its table has the given length.
 pub record Fits (s : Stage) (j long : ℕ) : Type 0 where
   pub within : j < layerLookups (widthOf s)
   pub sized : long ≡ sizeOf (widthOf s) j
 
+-- The tables of a stage or half, from byte `from` on, lie in memory of the given length.
+pub record Holds (s : Stage) (from long : ℕ) : Type 0 where
+  pub width : (widthOf s ≡ 4) ⊎ (widthOf s ≡ 16)
+  pub room : from + layerBytes (widthOf s) ≤ long
+  pub short : long ≤ offsetLimit
+
 -- XOR lookup x is one of a stage or half of that width.
 abbrev pub XorIn : ℕ → ℕ → Type 0
 XorIn m x = ((m ≡ 16) × (x < 480)) ⊎ ((m ≡ 4) × (x < 96))
 
--- Lookup j over the table t turns standing bytes s and area a into s′ and a′ of the same lengths, at any count.
-pub record LookedUp (S : Shape) (j : ℕ) (t s a s′ a′ : List ℕ) : Type 0 where
+-- XOR lookup x of a stage or half of width m, over the table t, reads entry e and turns the area a into a′.
+pub record XorMade (m x : ℕ) (t a : List ℕ) (e : ℕ) (a′ : List ℕ) : Type 0 where
+  pub entry : e ≡ xorIndex m x a
+  pub below : e < 256
+  pub area : a′ ≡ xorArea m x t a
+
+-- XOR lookups 2y and 2y + 1 over the tables `high` and `low`: the second reads entry e, and they turn the area a into a′.
+pub record PairMade (m y : ℕ) (high low a : List ℕ) (e : ℕ) (a′ : List ℕ) : Type 0 where
+  pub entry : e ≡ xorIndex m (2 * y + 1) (xorArea m (2 * y) high a)
+  pub below : e < 256
+  pub area : a′ ≡ xorArea m (2 * y + 1) low (xorArea m (2 * y) high a)
+
+-- Lookup j over the table t, which begins at byte `from` of the set, reads the place r and turns standing bytes s and area a into s′ and a′ of the same
+-- lengths, at any count.
+pub record LookedUp (S : Shape) (j : ℕ) (t : List ℕ) (from : ℕ) (s a : List ℕ) (r : EntryPlace) (s′ a′ : List ℕ) : Type 0 where
+  pub read : r ≡ readIn S j from s a
+  pub table : WithinTable (S .width) j from r
   pub walk : (n : ℕ) → lookupIn S j t (stateAt n s a) ≡ stateAt (suc n) s′ a′
   pub kept : length s′ ≡ length s
   pub long : length a′ ≡ length a
@@ -53,6 +101,27 @@ unfoldable pub xorsIn : ℕ → List ℕ → ℕ → ℕ → List ℕ → List �
 xorsIn m set from zero a = a
 xorsIn m set from (suc k) a = xorArea m k (tableFrom m set from (16 + k)) (xorsIn m set from k a)
 
+-- All of them turn the area a into a′, and the last reads entry e.
+pub record XorsMade (m : ℕ) (set : List ℕ) (from : ℕ) (a : List ℕ) (e : ℕ) (a′ : List ℕ) : Type 0 where
+  pub entry : e ≡ xorIndex m (xors m - 1) (xorsIn m set from (xors m - 1) a)
+  pub below : e < 256
+  pub area : a′ ≡ xorsIn m set from (xors m) a
+  pub long : length a′ ≡ 256
+
+-- The place that the last lookup of the layer reads, where all but it are made.
+unfoldable pub placeOfLast : Shape → List ℕ → ℕ → List ℕ → List ℕ → EntryPlace
+placeOfLast S set from s a =
+    let m = S .width in
+    let last = layerLookups m - 1 in
+    readIn S last (from + offsetOf m last) s (xorsIn m set from (xors m - 1) (spreadsIn S set from s 16 a))
+
 -- The sums after all of them.
 unfoldable pub sumsIn : Shape → List ℕ → ℕ → List ℕ → List ℕ → List ℕ
 sumsIn S set from s a = let m = S .width in sums m (xorsIn m set from (xors m) (spreadsIn S set from s 16 a))
+
+-- All lookups of a layer turn standing bytes s and area a into s′ and a′, and the last reads the place r.
+pub record LayerMade (S : Shape) (set : List ℕ) (from : ℕ) (s a : List ℕ) (r : EntryPlace) (s′ a′ : List ℕ) : Type 0 where
+  pub read : r ≡ placeOfLast S set from s a
+  pub table : WithinTable (S .width) (layerLookups (S .width) - 1) (from + offsetOf (S .width) (layerLookups (S .width) - 1)) r
+  pub standing : s′ ≡ sumsIn S set from s a
+  pub area : a′ ≡ zeroArea

@@ -2,11 +2,10 @@
 ghost use mathlib.Core.Logic.{_⊎_};
 ghost use mathlib.Core.Path.{_≡_};
 ghost use Prim.Native.Nat.{_+_, _*_, _/_, _%_, _<_, _≤_};
-ghost use lib.ListN.{length, drop};
-ghost use lib.Seq.{paste};
-ghost use Rattle.bits.specs.Nibbles.{half, nibble, setNibble, pack};
+ghost use lib.ListN.{length};
+ghost use Rattle.bits.specs.Nibbles.{half, nibble, pack};
 ghost use Rattle.network.specs.Lookups.{sums, zeroArea};
-ghost use Rattle.lookups.specs.InPlace.{withHalf, xorByte};
+ghost use Rattle.lookups.specs.InPlace.{withHalf, SpreadRead, XorRead, PairRead};
 use bits::encoding;
 
 // The half of the byte x that is nibble q of a list.
@@ -28,47 +27,59 @@ fn with_half(x: u8, q: usize, v: u8) -> u8
     }
 }
 
-// Entry 16a+b of an XOR table: "entry e stands in byte e/2, even e in the high half".
-fn xor_entry(table: &[u8], a: u8, b: u8) -> u8
-    requires { ⌜ (a < 16) × (b < 16) × (length (now table) ≡ 128) ⌝ }
-    ensures { λ r. ⌜ (r ≡ nibble (now (table .entry)) (pack a b)) × (r < 16) ⌝ }
+// The entry that two nibbles pick: "index 16a+b".
+fn index_of(a: u8, b: u8) -> usize
+    requires { ⌜ (a < 16) × (b < 16) ⌝ }
+    ensures { λ r. ⌜ (r ≡ pack a b) × (r < 256) ⌝ }
 {
-    let e = encoding::widened(a) * 16 + encoding::widened(b);
+    encoding::widened(a) * 16 + encoding::widened(b)
+}
+
+// Entry e of an XOR table: "entry e stands in byte e/2, even e in the high half".
+fn xor_entry(table: &[u8], e: usize) -> u8
+    requires { ⌜ (e < 256) × (length (now table) ≡ 128) ⌝ }
+    ensures { λ r. ⌜ (r ≡ nibble (now (table .entry)) e) × (r < 16) ⌝ }
+{
     let k = e / 2;
     half_of(table[k], e)
 }
 
-// An XOR lookup: the nibbles at `sum` and `added` pick the nibble of the table that replaces the first.
-pub fn xor(area: &mut [u8; 256], table: &[u8], sum: usize, added: usize)
+// An XOR lookup: the nibbles at `sum` and `added` pick the nibble of the table that replaces the first. Hands
+// back the entry that was read.
+pub fn xor(area: &mut [u8; 256], table: &[u8], sum: usize, added: usize) -> usize
     requires { ⌜ (sum < 512) × (added < 512) × (length (now table) ≡ 128) ⌝ }
-    ensures { λ _. ⌜ now (area .exit) ≡ setNibble (now (area .entry)) sum (nibble (now (table .entry)) (pack (nibble (now (area .entry)) sum) (nibble (now (area .entry)) added))) ⌝ }
+    ensures { λ r. ⌜ XorRead (now (table .entry)) sum added (now (area .entry)) r (now (area .exit)) ⌝ }
 {
     let i = sum / 2;
     let j = added / 2;
     let a = half_of(area[i], sum);
     let b = half_of(area[j], added);
-    let v = xor_entry(table, a, b);
+    let e = index_of(a, b);
+    let v = xor_entry(table, e);
     area[i] = with_half(area[i], sum, v);
+    e
 }
 
 // Two XOR lookups in a row, those of the two nibbles of a byte: the high nibble over one table, then the low nibble over the next. The byte
-// is read and written once, which halves the time of a walk.
-pub fn xor_byte(area: &mut [u8; 256], high: &[u8], low: &[u8], sum: usize, added: usize)
+// is read and written once, which halves the time of a walk. Hands back the entry that the second read.
+pub fn xor_byte(area: &mut [u8; 256], high: &[u8], low: &[u8], sum: usize, added: usize) -> usize
     requires { ⌜ (sum < 256) × (added < 256) × (length (now high) ≡ 128) × (length (now low) ≡ 128) ⌝ }
-    ensures { λ _. ⌜ now (area .exit) ≡ xorByte (now (high .entry)) (now (low .entry)) sum added (now (area .entry)) ⌝ }
+    ensures { λ r. ⌜ PairRead (now (high .entry)) (now (low .entry)) sum added (now (area .entry)) r (now (area .exit)) ⌝ }
 {
     let a = area[sum];
     let b = area[added];
-    let h = xor_entry(high, half_of(a, 0), half_of(b, 0));
-    let l = xor_entry(low, half_of(a, 1), half_of(b, 1));
+    let h = xor_entry(high, index_of(half_of(a, 0), half_of(b, 0)));
+    let e = index_of(half_of(a, 1), half_of(b, 1));
+    let l = xor_entry(low, e);
     area[sum] = h * 16 + l;
+    e
 }
 
-// A spread lookup: the byte s picks a word of the table, which becomes word p of the area.
-pub fn spread(area: &mut [u8; 256], table: &[u8], width: usize, p: usize, s: u8)
+// A spread lookup: the byte s picks a word of the table, which becomes word p of the area. Hands back the byte
+// of the table where it begins.
+pub fn spread(area: &mut [u8; 256], table: &[u8], width: usize, p: usize, s: u8) -> usize
     requires { ⌜ (length (now area) ≡ 256) × (width ≤ 16) × (p < 16) × (length (now table) ≡ 256 * width) ⌝ }
-    ensures { λ _. ⌜ now (area .exit) ≡ paste (now (area .entry)) (p * width) (drop (s * width) (now (table .entry))) width ⌝ }
-    ensures { λ _. ⌜ length (now (area .exit)) ≡ length (now (area .entry)) ⌝ }
+    ensures { λ r. ⌜ SpreadRead (now (table .entry)) width p s (now (area .entry)) r (now (area .exit)) ⌝ }
 {
     let to = p * width;
     let from = encoding::widened(s) * width;
@@ -77,6 +88,7 @@ pub fn spread(area: &mut [u8; 256], table: &[u8], width: usize, p: usize, s: u8)
         area[to + b] = table[from + b];
         b += 1;
     }
+    from
 }
 
 // Where byte q of the sums stands: in word 0 of its group.

@@ -1,20 +1,22 @@
 // The lookups of a stage or half, one or all, in place: the standing bytes and the area are lent.
 ghost use mathlib.Core.Logic.{_⊎_};
 ghost use mathlib.Core.Path.{_≡_};
-ghost use Prim.Native.Nat.{_+_, _*_, _≤_, _<_};
+ghost use Prim.Native.Nat.{_+_, _-_, _*_, _≤_, _<_};
 ghost use lib.ListN.{length};
-ghost use Rattle.network.specs.Lookups.{xorArea, zeroArea};
-ghost use Rattle.network.specs.Order.{xors, layerLookups};
+ghost use Rattle.network.specs.Lookups.{xorArea};
+ghost use Rattle.network.specs.Order.{layerLookups};
+ghost use Rattle.network.specs.Read.{nibblePlace};
 ghost use Rattle.network.specs.Sizes.{layerBytes};
 ghost use Rattle.layout.specs.Ciphers.{readsOf};
 ghost use Rattle.layout.specs.Stages.{widthOf, shapeAt};
-ghost use Rattle.lookups.specs.InPlace.{Fits, XorIn, LookedUp, spreadsIn, xorsIn, sumsIn};
+ghost use Rattle.lookups.specs.InPlace.{offsetLimit, Fits, Holds, XorIn, XorMade, PairMade, LookedUp, XorsMade, LayerMade, spreadsIn};
 use crate::area;
 use layout::stage::ENTRY_LOOKUPS;
 use layout::stage::HALF_LOOKUPS;
 use layout::stage::Stage;
 use layout::stage::source_of;
 use layout::stage::width_of;
+use network::EntryPlace;
 
 // All lookups of a stage or half.
 pub fn lookups_of(width: usize) -> usize
@@ -28,55 +30,75 @@ pub fn lookups_of(width: usize) -> usize
     }
 }
 
-// XOR lookup x of a stage or half. Entry and exit have one group of 16 words, a half has four of 4 words.
-fn xor_in(area: &mut [u8; 256], table: &[u8], width: usize, x: usize)
+// XOR lookup x of a stage or half. Entry and exit have one group of 16 words, a half has four of 4 words. Hands back the entry that was read.
+fn xor_in(area: &mut [u8; 256], table: &[u8], width: usize, x: usize) -> usize
     requires { ⌜ XorIn width x × (length (now table) ≡ 128) ⌝ }
-    ensures { λ _. ⌜ now (area .exit) ≡ xorArea width x (now (table .entry)) (now (area .entry)) ⌝ }
+    ensures { λ r. ⌜ XorMade width x (now (table .entry)) (now (area .entry)) r (now (area .exit)) ⌝ }
 {
     if width == 16 {
-        area::xor(area, table, x % 32, x + 32);
+        area::xor(area, table, x % 32, x + 32)
     } else {
         let group = x / 24 * 32;
-        area::xor(area, table, group + x % 8, group + 8 + x % 24);
+        area::xor(area, table, group + x % 8, group + 8 + x % 24)
     }
 }
 
-// Lookup j of a stage or half, of a walk for a cipher. "The last XOR of a stage or half copies the sums to the standing bytes and zeroes the area."
+// The place of entry e of an XOR table that begins at byte `from` of the set.
+fn xor_place(from: usize, e: usize) -> EntryPlace
+    requires { ⌜ (from ≤ offsetLimit) × (e < 256) ⌝ }
+    ensures { λ r. ⌜ r ≡ nibblePlace from e ⌝ }
+{
+    let at = from + e / 2;
+    EntryPlace {
+        offset: at,
+        half: e % 2,
+    }
+}
+
+// Lookup j of a stage or half, of a walk for a cipher, over its table, which begins at byte `from` of the set. "The last XOR of a stage or half copies the
+// sums to the standing bytes and zeroes the area." Hands back the place of the entry that was read (document 02, Ticket 2).
 pub fn lookup_in(
     cipher: u64,
     standing: &mut [u8; 16],
     area: &mut [u8; 256],
     table: &[u8],
+    from: usize,
     stage: Stage,
     j: usize,
-)
-    requires { ⌜ Fits stage j (length (now table)) × (length (now area) ≡ 256) × (length (now standing) ≡ 16) ⌝ }
-    ensures { λ _. ⌜ LookedUp (shapeAt (readsOf cipher) stage) j (now (table .entry)) (now (standing .entry)) (now (area .entry)) (now (standing .exit)) (now (area .exit)) ⌝ }
+) -> EntryPlace
+    requires { ⌜ Fits stage j (length (now table)) × (from ≤ offsetLimit) × (length (now area) ≡ 256) × (length (now standing) ≡ 16) ⌝ }
+    ensures { λ r. ⌜ LookedUp (shapeAt (readsOf cipher) stage) j (now (table .entry)) from (now (standing .entry)) (now (area .entry)) r (now (standing .exit)) (now (area .exit)) ⌝ }
 {
     let width = width_of(stage);
     if j < 16 {
         let i = source_of(cipher, stage, j);
-        area::spread(area, table, width, j, standing[i]);
-        return;
+        let word = area::spread(area, table, width, j, standing[i]);
+        let at = from + word;
+        return EntryPlace {
+            offset: at,
+            half: 0,
+        };
     }
-    xor_in(area, table, width, j - 16);
+    let e = xor_in(area, table, width, j - 16);
+    let read = xor_place(from, e);
     if j + 1 != lookups_of(width) {
-        return;
+        return read;
     }
     area::take_sums(standing, area, width);
     area::clear(area);
+    read
 }
 
-// XOR lookups 2y and 2y + 1 of a stage or half, those of one byte.
-fn xor_pair_in(area: &mut [u8; 256], high: &[u8], low: &[u8], width: usize, y: usize)
+// XOR lookups 2y and 2y + 1 of a stage or half, those of one byte. Hands back the entry that the second read.
+fn xor_pair_in(area: &mut [u8; 256], high: &[u8], low: &[u8], width: usize, y: usize) -> usize
     requires { ⌜ XorIn width (2 * y + 1) × (length (now high) ≡ 128) × (length (now low) ≡ 128) × (length (now area) ≡ 256) ⌝ }
-    ensures { λ _. ⌜ now (area .exit) ≡ xorArea width (2 * y + 1) (now (low .entry)) (xorArea width (2 * y) (now (high .entry)) (now (area .entry))) ⌝ }
+    ensures { λ r. ⌜ PairMade width y (now (high .entry)) (now (low .entry)) (now (area .entry)) r (now (area .exit)) ⌝ }
 {
     if width == 16 {
-        area::xor_byte(area, high, low, y % 16, y + 16);
+        area::xor_byte(area, high, low, y % 16, y + 16)
     } else {
         let group = y / 12 * 16;
-        area::xor_byte(area, high, low, group + y % 4, group + 4 + y % 12);
+        area::xor_byte(area, high, low, group + y % 4, group + 4 + y % 12)
     }
 }
 
@@ -105,25 +127,27 @@ fn spread_all(
     }
 }
 
-// All XOR lookups of a stage or half, whose tables begin at byte `from` of the set, behind those of the spread lookups.
-fn xor_all(area: &mut [u8; 256], set: &[u8], from: usize, width: usize)
+// All XOR lookups of a stage or half, whose tables begin at byte `from` of the set, behind those of the spread lookups. Hands back the
+// entry that the last read.
+fn xor_all(area: &mut [u8; 256], set: &[u8], from: usize, width: usize) -> usize
     requires { ⌜ (from + layerBytes width ≤ length (now set)) × (length (now area) ≡ 256) × ((width ≡ 4) ⊎ (width ≡ 16)) ⌝ }
-    ensures { λ _. ⌜ now (area .exit) ≡ xorsIn width (now (set .entry)) from (xors width) (now (area .entry)) ⌝ }
-    ensures { λ _. ⌜ length (now (area .exit)) ≡ 256 ⌝ }
+    ensures { λ r. ⌜ XorsMade width (now (set .entry)) from (now (area .entry)) r (now (area .exit)) ⌝ }
 {
     let start = from + 4096 * width;
     let bytes = (lookups_of(width) - 16) / 2;
+    let mut last = 0;
     let mut y = 0;
     while y < bytes {
         let high = start + y * 256;
         let low = high + 128;
         let end = low + 128;
-        xor_pair_in(area, &set[high..low], &set[low..end], width, y);
+        last = xor_pair_in(area, &set[high..low], &set[low..end], width, y);
         y += 1;
     }
+    last
 }
 
-// All lookups of a stage or half, whose tables begin at byte `from` of the set.
+// All lookups of a stage or half, whose tables begin at byte `from` of the set. Hands back the place that the last one read.
 pub fn layer_in(
     cipher: u64,
     standing: &mut [u8; 16],
@@ -131,14 +155,16 @@ pub fn layer_in(
     set: &[u8],
     from: usize,
     stage: Stage,
-)
-    requires { ⌜ (from + layerBytes (widthOf stage) ≤ length (now set)) × ((widthOf stage ≡ 4) ⊎ (widthOf stage ≡ 16)) × (length (now area) ≡ 256) × (length (now standing) ≡ 16) ⌝ }
-    ensures { λ _. ⌜ now (standing .exit) ≡ sumsIn (shapeAt (readsOf cipher) stage) (now (set .entry)) from (now (standing .entry)) (now (area .entry)) ⌝ }
-    ensures { λ _. ⌜ now (area .exit) ≡ zeroArea ⌝ }
+) -> EntryPlace
+    requires { ⌜ Holds stage from (length (now set)) × (length (now area) ≡ 256) × (length (now standing) ≡ 16) ⌝ }
+    ensures { λ r. ⌜ LayerMade (shapeAt (readsOf cipher) stage) (now (set .entry)) from (now (standing .entry)) (now (area .entry)) r (now (standing .exit)) (now (area .exit)) ⌝ }
 {
     let width = width_of(stage);
+    // The last table: behind those of 16 spread lookups and of all XOR lookups but one.
+    let table = from + 4096 * width + (lookups_of(width) - 17) * 128;
     spread_all(cipher, standing, area, set, from, stage);
-    xor_all(area, set, from, width);
+    let e = xor_all(area, set, from, width);
     area::take_sums(standing, area, width);
     area::clear(area);
+    xor_place(table, e)
 }

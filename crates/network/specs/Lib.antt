@@ -1,5 +1,6 @@
 pub mod Order
 pub mod Lookups
+pub mod Read
 pub mod Numbers
 pub mod Tables
 pub mod Due

@@ -37,22 +37,32 @@ module _ (m : ℕ) where
 
   -- XOR lookup x: "index 16a+b, a the sum so far and b the next word's half-byte, both encoded; entry e stands in byte e/2, even e in the
   -- high half". "An XOR result replaces word 0's half-byte (of its column, in a round)."
+  abbrev pub xorIndex : ℕ → List ℕ → ℕ
+  xorIndex x area = pack (nibble area (sumPlace m x)) (nibble area (addedPlace m x))
+
   unfoldable pub xorArea : ℕ → List ℕ → List ℕ → List ℕ
-  xorArea x t area = setNibble area (sumPlace m x) (nibble t (pack (nibble area (sumPlace m x)) (nibble area (addedPlace m x))))
+  xorArea x t area = setNibble area (sumPlace m x) (nibble t (xorIndex x area))
 
   -- The sums: word 0 of each group, 16 bytes in all.
   unfoldable pub sums : List ℕ → List ℕ
   sums area = tabulate 16 (λ q. at area (q / m * m * m + q % m))
 
--- Lookup j of a layer. "The last XOR of a stage or half copies the sums to the standing bytes and zeroes the area."
+-- The area that lookup j of a layer makes over its table t.
+abbrev pub areaIn : Shape → ℕ → List ℕ → State → List ℕ
+areaIn S j t w = cond (ltb j 16) (spreadArea (S .width) (S .source j) j t (w .standing) (w .area)) (xorArea (S .width) (j - 16) t (w .area))
+
+-- What lookup j of a layer leaves, where it made the area a. "The last XOR of a stage or half copies the sums to the standing bytes and zeroes
+-- the area."
+abbrev pub leaving : Shape → ℕ → List ℕ → State → State
+leaving S j a w =
+    cond (ltb j 16) (stateAt (suc (w .count)) (w .standing) a)
+    (cond (eqb (suc j) (layerLookups (S .width)))
+    (stateAt (suc (w .count)) (sums (S .width) a) zeroArea)
+    (stateAt (suc (w .count)) (w .standing) a))
+
+-- Lookup j of a layer.
 unfoldable pub lookupIn : Shape → ℕ → List ℕ → State → State
-lookupIn S j t w =
-    let m = S .width in
-    let xored = xorArea m (j - 16) t (w .area) in
-    cond (ltb j 16) (stateAt (suc (w .count)) (w .standing) (spreadArea m (S .source j) j t (w .standing) (w .area)))
-    (cond (eqb (suc j) (layerLookups m))
-    (stateAt (suc (w .count)) (sums m xored) zeroArea)
-    (stateAt (suc (w .count)) (w .standing) xored))
+lookupIn S j t w = leaving S j (areaIn S j t w) w
 
 -- Lookup k of a network of layers. Past the last there is none, and the state stays as it was.
 unfoldable pub lookupAt : List Shape → ℕ → List ℕ → State → State

@@ -9,12 +9,14 @@ use Rattle.bits.specs.Encodings.{decode, Permutation}
 use Rattle.bits.specs.Lists.{concat}
 use Rattle.bits.specs.Nibbles.{nibble}
 use Rattle.network.specs.Due.{Values, Due, held, blank, valuesOf, leftBy, standingDue, areaDue, closed, encoded, decoded}
-use Rattle.network.specs.Lookups.{stateAt, zeroArea, lookupAt, walked}
+use Rattle.network.specs.Lookups.{State, Shape, stateAt, zeroArea, lookupIn, lookupAt, walked}
 use Rattle.network.specs.Numbers.{Numbers, startNumbers, numbersAfter}
 use Rattle.network.specs.Order.{GoodWidth}
+use Rattle.network.specs.Read.{readIn, lookupFrom, entryBytes}
 use Rattle.network.specs.Rule.{under, labelOf, labels, firstResult, ruleAt}
-use Rattle.network.specs.Sizes.{lookupsIn, bytesIn, resultsIn, sizeIn, offsetIn}
+use Rattle.network.specs.Sizes.{sizeOf, lookupsIn, bytesIn, resultsIn, sizeIn, offsetIn}
 use Rattle.network.specs.Tables.{Layer, widthsOf, shapesOf, AllGood, tableAt}
+use Rattle.network.specs.declared.EntryPlace.{EntryPlace}
 
 -- E gives a permutation for every number.
 abbrev pub Permutations : (ℕ → List ℕ) → Type 0
@@ -94,6 +96,26 @@ TableParts =
     × ((k : ℕ) → length (tableAt E Ls N k) ≡ sizeIn ms k)
     × ((k : ℕ) → k < lookupsIn ms → take (sizeIn ms k) (drop (offsetIn ms k) set) ≡ tableAt E Ls N k)
 
+-- ---- THE PLACE READ (document 02, Ticket 2)
+-- The entry at the place r lies within the table of lookup j, which begins at byte `from`. A spread entry has half 0.
+pub record WithinTable (m j from : ℕ) (r : EntryPlace) : Type 0 where
+  pub least : from ≤ r .offset
+  pub most : r .offset + entryBytes m j ≤ from + sizeOf m j
+  pub half : r .half ≤ 1
+  pub spread : j < 16 → r .half ≡ 0
+
+-- Of bytes every lookup reads such an entry.
+abbrev pub ReadsItsTable : Type 0
+ReadsItsTable =
+    (S : Shape) (j from : ℕ) (standing area : List ℕ) → Bytes standing → Bytes area → WithinTable (S .width) j from (readIn S j from standing area)
+
+-- What a lookup over its table, which begins at byte `from` of a memory, puts into the area is then what stands at the place that it reads there. The memory
+-- may have any length and content.
+abbrev pub PutsWhatItReads : Type 0
+PutsWhatItReads =
+    (S : Shape) (j from : ℕ) (mem : List ℕ) (w : State) → WithinTable (S .width) j from (readIn S j from (w .standing) (w .area))
+    → lookupIn S j (take (sizeOf (S .width) j) (drop from mem)) w ≡ lookupFrom S j mem (readIn S j from (w .standing) (w .area)) w
+
 -- ---- All of them, proved in proofs/laws/Proved.antt.
 pub record Network : Type 0 where
   pub one-lookup : OneLookup
@@ -104,3 +126,5 @@ pub record Network : Type 0 where
   pub rule-tables : RuleTables
   pub in-range : InRange
   pub table-parts : TableParts
+  pub reads-its-table : ReadsItsTable
+  pub puts-what-it-reads : PutsWhatItReads

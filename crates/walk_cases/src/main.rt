@@ -1,10 +1,12 @@
-// Reads orders from standard input, and writes what the calls of a walk answer over memory that a formula fills. An order is 8 bytes: its
-// kind, a small number k and a number n of six bytes; behind a start and a given walk stand 8 bytes of a cipher's number and the content. The
-// expected output is made by a program of other authorship (tests/walk_cases.py).
+// Reads orders from standard input, and writes what the calls of a walk, and single lookups, hand back over memory that a formula fills or the
+// input gives. An order is 8 bytes: its kind, a small number k and a number n of six bytes. The kinds: 0 a start and 1 a given walk, behind which stand 8 bytes
+// of a cipher's number and the content; 2 and 3 a move to a stop, near or far; 4 a move of one lookup; 5 a fetch; 6 moves to every stop; 7 a lookup alone;
+// 8 a memory, behind which stand its n bytes. The expected output is made by a program of other authorship (tests/walk_cases.py).
 ghost use Prim.Native.Nat.{_<_};
 use answers::Answer;
 use answers::cause;
 use bits::encoding;
+use evaluate::walk::Move;
 use evaluate::walk::Walk;
 use evaluate::walk::fetch;
 use evaluate::walk::move_one;
@@ -15,8 +17,10 @@ use layout::stage::SET_BYTES;
 use layout::stage::place_of;
 use libc::STDIN_FILENO;
 use libc::STDOUT_FILENO;
+use lookups::layer::lookup_in;
+use network::EntryPlace;
 
-// The memory: a linear congruence, its upper bits a byte each.
+// The memory, unless the input gives another: a linear congruence, its upper bits a byte each.
 fn next(x: u64) -> u64 {
     (x % 2147483648 * 1103515245 + 12345) % 2147483648
 }
@@ -55,13 +59,17 @@ fn changes(old: &[u8], new: &[u8]) {
     }
 }
 
-// The cause, the cipher, the count and all that a call changed in the walk.
-fn report(answer: Answer, old: Walk, new: Walk) {
+// The beginning of a call's line: the cause, the cipher and the count.
+fn report_head(answer: Answer, walk: Walk) {
     io::print_decimal(STDOUT_FILENO, cause(answer) as u64);
     io::write_all(STDOUT_FILENO, b" ");
-    io::print_decimal(STDOUT_FILENO, new.cipher);
+    io::print_decimal(STDOUT_FILENO, walk.cipher);
     io::write_all(STDOUT_FILENO, b" ");
-    io::print_decimal(STDOUT_FILENO, new.count as u64);
+    io::print_decimal(STDOUT_FILENO, walk.count as u64);
+}
+
+// Its end: all that the call changed in the walk.
+fn report_changes(old: Walk, new: Walk) {
     let s = old.standing;
     let t = new.standing;
     changes(&s, &t);
@@ -70,6 +78,23 @@ fn report(answer: Answer, old: Walk, new: Walk) {
     let b = new.area;
     changes(&a, &b);
     io::write_all(STDOUT_FILENO, b"\n");
+}
+
+// The line of a start or of a given walk.
+fn report(answer: Answer, old: Walk, new: Walk) {
+    report_head(answer, new);
+    report_changes(old, new);
+}
+
+// The line of a move, which has the offset too, behind the count. The walk that it hands back.
+fn report_move(old: Walk, m: Move) -> Walk {
+    let answer = m.answer;
+    let new = m.walk;
+    report_head(answer, new);
+    io::write_all(STDOUT_FILENO, b" ");
+    io::print_decimal(STDOUT_FILENO, m.offset as u64);
+    report_changes(old, new);
+    new
 }
 
 // The next n bytes of the input.
@@ -145,14 +170,6 @@ fn far(k: usize, n: usize) -> usize {
     n
 }
 
-fn moved_to(walk: Walk, set: &[u8], stop: usize) -> Walk {
-    let m = move_to(walk, set, stop);
-    let answer = m.answer;
-    let w = m.walk;
-    report(answer, walk, w);
-    w
-}
-
 // A move over memory of a set's length and k - 2 more bytes.
 fn long_move(walk: Walk, mem: &[u8], k: usize, stop: usize) -> Walk {
     if 3 < k {
@@ -162,7 +179,7 @@ fn long_move(walk: Walk, mem: &[u8], k: usize, stop: usize) -> Walk {
     if mem.len() < n {
         return walk;
     }
-    moved_to(walk, &mem[0..n], stop)
+    report_move(walk, move_to(walk, &mem[0..n], stop))
 }
 
 // A move of one lookup with a table of its length and k - 2 more bytes.
@@ -186,11 +203,51 @@ fn one(walk: Walk, mem: &[u8], k: usize) -> Walk {
         return walk;
     }
     let to = from + (n - 2);
-    let m = move_one(walk, &mem[from..to]);
-    let answer = m.answer;
-    let w = m.walk;
-    report(answer, walk, w);
-    w
+    report_move(walk, move_one(walk, &mem[from..to]))
+}
+
+// The line of a lookup alone: the offset and the half of the entry that it read.
+fn report_place(read: EntryPlace) {
+    io::print_decimal(STDOUT_FILENO, read.offset as u64);
+    io::write_all(STDOUT_FILENO, b" ");
+    io::print_decimal(STDOUT_FILENO, read.half as u64);
+    io::write_all(STDOUT_FILENO, b"\n");
+}
+
+// One lookup alone, over the table of the walk's count: a move passes on the offset only, and hides the half. Past the last lookup nothing is done.
+fn looked_up(walk: Walk, mem: &[u8]) -> Walk {
+    let n = walk.count;
+    if n >= LOOKUPS {
+        return walk;
+    }
+    if mem.len() < SET_BYTES {
+        return walk;
+    }
+    let p = place_of(n);
+    let from = p.offset;
+    let stage = p.stage;
+    let index = p.index;
+    let to = from + p.size;
+    let cipher = walk.cipher;
+    let mut standing = walk.standing;
+    let mut area = walk.area;
+    let read = lookup_in(
+        cipher,
+        &mut standing,
+        &mut area,
+        &mem[from..to],
+        from,
+        stage,
+        index,
+    );
+    report_place(read);
+    let count = n + 1;
+    Walk {
+        cipher: cipher,
+        count: count,
+        standing: standing,
+        area: area,
+    }
 }
 
 // Fetches into the first k bytes.
@@ -222,7 +279,7 @@ fn every(walk: Walk, mem: &[u8]) -> Walk {
     w
 }
 
-fn order(walk: Walk, mem: &[u8], kind: u8, k: usize, n: usize) -> Walk {
+fn order(walk: Walk, mem: &mut [u8], kind: u8, k: usize, n: usize) -> Walk {
     match kind {
         0 => started(walk, k),
         1 => given(walk, k, n),
@@ -233,12 +290,21 @@ fn order(walk: Walk, mem: &[u8], kind: u8, k: usize, n: usize) -> Walk {
             fetched(walk, k);
             walk
         }
-        _ => every(walk, mem),
+        6 => every(walk, mem),
+        7 => looked_up(walk, mem),
+        8 => {
+            take(mem, n);
+            walk
+        }
+        _ => walk,
     }
 }
 
+// More orders than any input has: so the loop ends, whatever is read.
+const MOST_ORDERS: usize = 100000;
+
 // Order after order, to the end of the input.
-fn run(mem: &[u8]) {
+fn run(mem: &mut [u8]) {
     let mut walk = Walk {
         cipher: 0,
         count: 0,
@@ -246,7 +312,7 @@ fn run(mem: &[u8]) {
         area: [0u8; 256],
     };
     let mut h = [0u8; 8];
-    let mut left: usize = 10000;
+    let mut left = MOST_ORDERS;
     while 0 < left {
         if io::read_full(STDIN_FILENO, &mut h) != 8 {
             return;

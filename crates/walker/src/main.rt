@@ -38,8 +38,14 @@ fn over_next(walk: Walk, table: &mut [u8]) -> Move
     move_one(walk, &table[..got])
 }
 
+// A walk over the input: the answer of the last move, and the walk that it reached.
+struct Walked {
+    answer: Answer,
+    walk: Walk,
+}
+
 // Makes the lookups over the tables as they are read, up to the last or to the first refusal.
-fn over_input(walk: Walk, table: &mut [u8]) -> Move
+fn over_input(walk: Walk, table: &mut [u8]) -> Walked
     requires { ⌜ length (now table) ≡ tableRoom ⌝ }
     ensures { λ r. ⌜ OverInput 10 (held walk) (r .answer) (held (r .walk)) ⌝ }
 {
@@ -49,13 +55,13 @@ fn over_input(walk: Walk, table: &mut [u8]) -> Move
         let answer = m.answer;
         w = m.walk;
         let Answer::Accepted = answer else {
-            return Move {
+            return Walked {
                 answer: answer,
                 walk: w,
             };
         };
     }
-    Move {
+    Walked {
         answer: Answer::Accepted,
         walk: w,
     }

@@ -7,12 +7,15 @@ pub mod Words
 pub mod Values
 pub mod Judged
 pub mod Calls
+pub mod Served
 pub mod Set
 pub mod InRange
 pub mod Bundles
 pub mod FreeBytes
 pub mod Named
 pub mod Joined
+pub mod KeepsBytes
+pub mod PlaceRead
 pub mod Demands
 pub mod RoundTrip
 pub mod Cases

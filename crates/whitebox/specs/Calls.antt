@@ -11,8 +11,10 @@ use Rattle.answers.specs.declared.Answer.{Answer}
 use Rattle.answers.specs.declared.Answer.the-variants.{Refused}
 use Rattle.answers.specs.declared.Refusal.the-variants.{SetLength, BlockLength, Stop, Unfinished}
 use Rattle.network.specs.Lookups.{State, stateAt, zeroArea, lookup}
+use Rattle.network.specs.Read.{readAt}
+use Rattle.network.specs.declared.EntryPlace.{EntryPlace}
 use Rattle.layout.specs.Ciphers.{kept, readsOf}
-use Rattle.layout.specs.Stages.{shapes, lookups, setBytes, tableSize, tableOffset}
+use Rattle.layout.specs.Stages.{shapes, lookups, setBytes, nowhere, tableSize, tableOffset}
 
 -- ---- the held walk
 -- What lookups change of it is its state. Beside it stands the number of its cipher, which no lookup changes; an accepted move hands it back as 0 or 1 (`changed`).
@@ -78,6 +80,15 @@ module _ (reads : ℕ → ℕ) (nr : ℕ) where
   advance mem zero s = s
   advance mem (suc n) s = advance mem n (step (tablePart nr mem (s .count)) s)
 
+  -- The place in a set that the lookup of the state's count reads.
+  abbrev pub readNext : State → EntryPlace
+  readNext s = readAt (shapes reads nr) (s .count) (tableOffset nr (s .count)) (s .standing) (s .area)
+
+  -- What n lookups pass on: "the offset of its last look-up, and 770,048 when it has made none" (document 02, Ticket 2).
+  unfoldable pub lastOffset : List ℕ → ℕ → State → ℕ
+  lastOffset mem zero s = nowhere nr
+  lastOffset mem (suc n) s = readNext (advance mem n s) .offset
+
 -- The calls on a walk, whose lookups read as its cipher does.
 module _ (nr : ℕ) where
   unfoldable pub answer : Call → Held → Answer
@@ -97,6 +108,19 @@ module _ (nr : ℕ) where
   handed (oneLookup mem) w = ifAccepted (judgeOne nr (length mem) (w .state .count)) (changed (step (readsOf (w .cipher)) nr mem) w) w
   handed (fetch block) w = w
 
+  -- The place that the next lookup of a walk reads.
+  abbrev pub placeRead : Held → EntryPlace
+  placeRead w = readNext (readsOf (w .cipher)) nr (w .state)
+
+  -- The offset that a move passes on, of the last lookup that it made; `nowhere` if it is refused or its stop is the count. A fetch makes no lookup and
+  -- hands back no offset; `nowhere` stands for it here.
+  unfoldable pub passedOn : Call → Held → ℕ
+  passedOn (toStop mem stop) w =
+      let n = w .state .count in
+      ifAccepted (judgeStop nr (length mem) stop n) (lastOffset (readsOf (w .cipher)) nr mem (stop - n) (w .state)) (nowhere nr)
+  passedOn (oneLookup mem) w = ifAccepted (judgeOne nr (length mem) (w .state .count)) (placeRead w .offset) (nowhere nr)
+  passedOn (fetch block) w = nowhere nr
+
   -- The lent block afterwards: the standing bytes, or what it held. A move is lent none.
   unfoldable pub blockLeft : Call → Held → List ℕ
   blockLeft (toStop mem stop) w = []
@@ -104,17 +128,18 @@ module _ (nr : ℕ) where
   blockLeft (fetch block) w = ifAccepted (judgeFetch nr (length block) (w .state .count)) (w .state .standing) block
 
 -- ---- lists of calls: "each move or fetch gets the walk that the call before it handed back or left"
--- What a call answers: its reply, the walk handed back or left, the lent block afterwards.
+-- What a call answers: its reply, the walk handed back or left, the offset passed on, the lent block afterwards.
 pub record Served : Type 0 where
   pub reply : Reply
   pub walk : Held
+  pub offset : ℕ
   pub block : List ℕ
 
 module _ (nr : ℕ) where
   unfoldable pub serve : Held → List Call → List Served
   serve w [] = []
   serve w (c ∷ cs) =
-      record { reply = reply nr c w; walk = handed nr c w; block = blockLeft nr c w } ∷ serve (handed nr c w) cs
+      record { reply = reply nr c w; walk = handed nr c w; offset = passedOn nr c w; block = blockLeft nr c w } ∷ serve (handed nr c w) cs
 
   unfoldable pub lastWalk : Held → List Call → Held
   lastWalk w [] = w

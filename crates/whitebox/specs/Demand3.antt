@@ -39,8 +39,9 @@ dueFor c nk key l x cs =
     (encodeOutput (roundsOf nk) l (cipherBlock c nk key (decodeInput (roundsOf nk) l x))) 0 cs
 
 pub record Answered (c nk : ℕ) (key l x : List ℕ) (cs : List Call) (n : ℕ) : Type 0 where
-  -- Call by call: the reply is the plain count's; the walk handed back or left is the one due at the plain count; an accepted fetch leaves
-  -- the cipher's block under the output coding, a refused one the bytes that the lent block held.
+  -- Call by call: the reply is the plain count's; the walk handed back or left is the one due at the plain count; the offset passed on is that of the
+  -- last lookup that the plain count has the call make, in the walk due before it; an accepted fetch leaves the cipher's block under the output coding, a
+  -- refused one the bytes that the lent block held.
   pub calls : serve (roundsOf nk) (started c x) cs ≡ dueFor c nk key l x cs
   -- At the end: the walk due at the plain count n, which is, byte for byte, what one move straight to that count hands back.
   pub last : lastWalk (roundsOf nk) (started c x) cs ≡ dueHeld c nk key l (decodeInput (roundsOf nk) l x) n

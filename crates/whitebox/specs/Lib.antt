@@ -11,6 +11,7 @@ pub mod InRange
 pub mod Bundles
 pub mod FreeBytes
 pub mod Named
+pub mod PlaceRead
 pub mod Joined
 pub mod Demand2
 pub mod Zeros

@@ -7,7 +7,7 @@ use Rattle.answers.specs.Answers.{accepted}
 use Rattle.network.specs.Lookups.{State}
 use Rattle.layout.specs.Ciphers.{kept}
 use Rattle.whitebox.specs.Bundles.{madeSet, madeTable}
-use Rattle.whitebox.specs.Calls.{Held, holding, started, Call, toStop, oneLookup, fetch, reply, handed, blockLeft}
+use Rattle.whitebox.specs.Calls.{Held, holding, started, Call, toStop, oneLookup, fetch, reply, handed, passedOn, blockLeft}
 
 -- ---- numbers that are kept alike name one cipher: the same set, the same tables, the same start. So a statement about the cipher c, such as demand 2, is one
 -- about each number that names it: a set may be made for 5 and walked for 7.
@@ -24,9 +24,10 @@ SameCipher nk = (c c′ : ℕ) → kept c ≡ kept c′ → Named nk c c′
 abbrev pub withKept : Held → Held
 withKept w = holding (kept (w .cipher)) (w .state)
 
--- It acts as that one: the same reply, the same block, and behind the call the two differ in that number at most.
+-- It acts as that one: the same reply, the same offset, the same block, and behind the call the two differ in that number at most.
 pub record ActsAs (nr : ℕ) (m : Call) (w : Held) : Type 0 where
   pub same-reply : reply nr m w ≡ reply nr m (withKept w)
+  pub same-offset : passedOn nr m w ≡ passedOn nr m (withKept w)
   pub same-block : blockLeft nr m w ≡ blockLeft nr m (withKept w)
   pub same-walk : withKept (handed nr m w) ≡ handed nr m (withKept w)
 

@@ -1,15 +1,15 @@
 -- The plain count, word for word from document 01, "Lists of calls": it "is fed the calls' arguments only: stops and lengths. It starts at
--- 0." And which memory a list of calls may be lent. Definitions only.
+-- 0." And which memory a list of calls may be lent, and what it must answer; the offsets are document 02's, Ticket 2. Definitions only.
 use mathlib.Core.Bool.{cond, _||_}
 use mathlib.Core.List.{List, [], _∷_}
 use mathlib.Core.Logic.{_⊎_, _≢_}
 use mathlib.Core.Path.{_≡_}
-use Prim.Native.Nat.{ℕ, suc}
+use Prim.Native.Nat.{ℕ, suc, _-_}
 use lib.Dec.{eqb, ltb}
 use lib.ListN.{length}
 use Rattle.answers.specs.Answers.{Reply, accepted, refused}
-use Rattle.layout.specs.Stages.{lookups, setBytes, tableSize}
-use Rattle.whitebox.specs.Calls.{Held, Call, toStop, oneLookup, fetch, Served}
+use Rattle.layout.specs.Stages.{lookups, setBytes, nowhere, tableSize}
+use Rattle.whitebox.specs.Calls.{Held, Call, toStop, oneLookup, fetch, placeRead, Served}
 
 -- A call's arguments: the length of the lent memory and the stop; the length of the lent table; the length of the lent block.
 pub data Args : Type 0 where
@@ -75,10 +75,16 @@ module _ (nr : ℕ) where
     blockDue (oneLookup mem) n = []
     blockDue (fetch block) n = blockFor (plain (fetchArgs (length block)) n .reply) block
 
+    -- A call behind which the plain count has grown from n to n′ made lookup n′ - 1 last, and passes on where that one reads in the walk due before it.
+    -- Where the count has not grown none was made.
+    abbrev pub offsetDue : ℕ → ℕ → ℕ
+    offsetDue n n′ = cond (ltb n n′) (placeRead nr (walks (n′ - 1)) .offset) (nowhere nr)
+
     unfoldable pub dueServed : ℕ → List Call → List Served
     dueServed n [] = []
     dueServed n (c ∷ cs) =
-        let p = plain (argsOf c) n in record { reply = p .reply; walk = walks (p .count); block = blockDue c n } ∷ dueServed (p .count) cs
+        let p = plain (argsOf c) n in
+        record { reply = p .reply; walk = walks (p .count); offset = offsetDue n (p .count); block = blockDue c n } ∷ dueServed (p .count) cs
 
 -- ---- two lists of calls that are compared: "start, stops, lengths and blocks are the same and each list of calls is lent its own set"
 abbrev pub AlikeCall : Call → Call → Type 0
@@ -98,7 +104,7 @@ Alike [] (c ∷ cs) = ⊥
 Alike (c ∷ cs) [] = ⊥
 Alike (c ∷ cs) (c′ ∷ cs′) = AlikeCall c c′ × Alike cs cs′
 
--- What is compared, call by call: "refusals, counts and answer blocks".
+-- What is compared, call by call: "refusals, counts and answer blocks". The offsets are not: other codings read other entries.
 pub record Seen : Type 0 where
   pub reply : Reply
   pub count : ℕ

@@ -6,7 +6,7 @@ use Prim.Native.Nat.{ℕ}
 use lib.Dec.{eqb}
 use native.Mathlib.Omega.{arith}
 use borrow.Author.Tests.{eq-eqb, ne-eqb, eqb-true}
-use Rattle.answers.specs.Answers.{refusedIf, wantsLength, andThen, ifAccepted}
+use Rattle.answers.specs.Answers.{accepted, replyOf, refusedIf, wantsLength, andThen, ifAccepted}
 use Rattle.answers.specs.declared.Answer.{Answer}
 use Rattle.answers.specs.declared.Answer.the-variants.{Accepted, Refused}
 use Rattle.answers.specs.declared.Refusal.{Refusal}
@@ -101,6 +101,15 @@ left-new a new old e = ap (λ (x : Answer). ifAccepted x new old) (sym e)
 
 pub left-old : {A : Type 0} (a : Answer) (r : Refusal) (new old : A) → a ≡ Refused r → old ≡ ifAccepted a new old
 left-old a r new old e = ap (λ (x : Answer). ifAccepted x new old) (sym e)
+
+-- By the reply; and where both are the same.
+pub left-back : {A : Type 0} (a : Answer) (new old : A) → (replyOf a ≡ accepted → ⊥) → ifAccepted a new old ≡ old
+left-back Accepted new old n = absurd (n refl)
+left-back (Refused r) new old n = refl
+
+pub left-either : {A : Type 0} (a : Answer) (x : A) → ifAccepted a x x ≡ x
+left-either Accepted x = refl
+left-either (Refused r) x = refl
 
 -- What is left by an answer, once more by the same.
 pub twice : {T : Type 0} (a : Answer) (new old : T) → ifAccepted a new old ≡ ifAccepted a (ifAccepted a new old) old

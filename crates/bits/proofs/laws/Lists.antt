@@ -11,7 +11,7 @@ use borrow.Rule.Slice.PartMut.{putMid, postOf}
 use lib.Arith.{digits-lt}
 use lib.ListN.{getD, length, set, take, drop, replicate, length-append, length-take, length-drop, length-replicate, getD-replicate}
 use lib.ListN.{List·getD-append, List·getD-eq-default}
-use lib.Seq.{ext-getD, take-suc-set, take-all, take-at, length-take-le, getD-append-add}
+use lib.Seq.{ext-getD, take-suc-set, take-all, take-at, length-take-le, getD-append-add, take-nil}
 use Rattle.bits.specs.Lists.{at, tabulate, concat}
 
 -- ---- tabulated lists
@@ -84,6 +84,13 @@ append-below b u v p q i = elim (decLt i (length u)) [
       rw (e, getD-append-add u v (i - length u) 0) (q (i - length u))
 ]
 
+pub set-below : (b : ℕ) (l : List ℕ) (i v : ℕ) → Below b l → v < b → Below b (set l i v)
+set-below b [] i v p h j = p j
+set-below b (x ∷ xs) zero v p h zero = h
+set-below b (x ∷ xs) zero v p h (suc j) = p (suc j)
+set-below b (x ∷ xs) (suc i) v p h zero = p 0
+set-below b (x ∷ xs) (suc i) v p h (suc j) = set-below b xs i v (λ k. p (suc k)) h j
+
 -- ---- a list that is filled from the front: element i is f i
 -- One element written at a: what then stands up to its end.
 pub put-one : (w : List ℕ) (a b k : ℕ) → a < length w → k ≡ suc a → take k (set w a b) ≡ take a w ++ (b ∷ [])
@@ -141,7 +148,14 @@ module _ (w : ℕ) (t : ℕ → List ℕ) where
         ∙ ap (λ (x : ℕ). at (t x) j) (sym e)
   ]
 
--- ---- a part of a list, from place `start` up to place `end`, as the code lends it
+-- ---- a part of a list
+pub drop-take : (a n : ℕ) (l : List ℕ) → drop a (take n l) ≡ take (n - a) (drop a l)
+drop-take zero n l = ap (λ (k : ℕ). take k l) (let e : n ≡ n - 0 = omega arith in e)
+drop-take (suc a) zero l = ap (λ (k : ℕ). take k (drop (suc a) l)) (let e : 0 ≡ 0 - suc a = omega arith in e)
+drop-take (suc a) (suc n) [] = sym (take-nil (suc n - suc a))
+drop-take (suc a) (suc n) (x ∷ xs) = drop-take a n xs ∙ ap (λ (k : ℕ). take k (drop a xs)) (let e : n - a ≡ suc n - suc a = omega arith in e)
+
+-- from place `start` up to place `end`, as the code lends it
 abbrev pub cut : List ℕ → ℕ → ℕ → List ℕ
 cut l start end = take (end - start) (drop start l)
 

@@ -1,7 +1,7 @@
 -- Laws, not definitions: nibbles of byte lists that are packed from a function. Three carry all list work: read a nibble, replace a
 -- nibble, copy m bytes.
 -- Assumes nothing.
-use mathlib.Core.Bool.{cond}
+use mathlib.Core.Bool.{Bool, true, false, cond}
 use mathlib.Core.List.{List, _++_}
 use mathlib.Core.Logic.{⊎-elim, _⊎_, inl, inr}
 use mathlib.Core.Path.{_≡_, refl, sym, ap, ap₂, _∙_, subst}
@@ -14,7 +14,7 @@ use lib.Seq.{ext-getD, getD-set-same, getD-set-other, getD-take, getD-drop, getD
 use Rattle.bits.specs.Bytes.{Bytes}
 use Rattle.bits.specs.Lists.{at}
 use Rattle.bits.specs.Nibbles.{pack, half, nibble, setNibble, packed}
-use Rattle.bits.proofs.laws.Lists.{length-tabulate, at-tabulate, tabulate-below}
+use Rattle.bits.proofs.laws.Lists.{length-tabulate, at-tabulate, tabulate-below, set-below}
 
 pub length-packed : (n : ℕ) (f : ℕ → ℕ) → length (packed n f) ≡ n
 unfolding packed
@@ -163,6 +163,15 @@ half-lt (suc r) x h = omega arith
 pub nibble-lt : (l : List ℕ) → Bytes l → (q : ℕ) → nibble l q < 16
 unfolding nibble
 nibble-lt l h q = half-lt (q % 2) (at l (q / 2)) (h (q / 2))
+
+-- A nibble replaced by a nibble leaves bytes.
+pub setNibble-bytes : (l : List ℕ) (q v : ℕ) → Bytes l → v < 16 → Bytes (setNibble l q v)
+unfolding setNibble
+setNibble-bytes l q v b h = set-below 256 l (q / 2) _ b (new (eqb (q % 2) 0))
+  where
+    new : (t : Bool) → cond t (pack v (at l (q / 2) % 16)) (pack (at l (q / 2) / 16) v) < 256
+    new true = omega arith
+    new false = omega (arith, b (q / 2))
 
 pub nibble-even : (s : List ℕ) (i : ℕ) → nibble s (2 * i) ≡ at s i / 16
 unfolding nibble

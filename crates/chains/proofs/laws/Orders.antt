@@ -13,9 +13,9 @@ use Rattle.answers.specs.Numbers.{numberOf}
 use Rattle.answers.specs.declared.Answer.{Answer}
 use Rattle.answers.proofs.laws.Numbers.{number-is}
 use Rattle.bits.proofs.laws.Lists.{cut, cut-is}
-use Rattle.layout.specs.Stages.{placeOf}
+use Rattle.layout.specs.Stages.{nowhere, placeOf}
 use Rattle.layout.specs.declared.stage.Place.{Place}
-use Rattle.whitebox.specs.Calls.{Held, tablePart, Call, toStop, oneLookup, fetch, reply, handed, blockLeft, serve, lastWalk}
+use Rattle.whitebox.specs.Calls.{Held, tablePart, Call, toStop, oneLookup, fetch, reply, handed, passedOn, blockLeft, serve, lastWalk}
 use Rattle.evaluate.specs.Contracts.{Moves, Fetches}
 use Rattle.evaluate.specs.Held.{held}
 use Rattle.evaluate.specs.declared.walk.Move.{Move}
@@ -55,11 +55,12 @@ module _ {nr : ℕ} {mem : List ℕ} {order : ℕ} {w : Walk} {lent : List ℕ} 
   unfolding callFor
   one-served {t} h e m = as-call (oneLookup t) (rw (e, eq-eqb order oneOrder h)) m refl
 
-  pub fetch-served : {a : Answer} {left : List ℕ} → (order ≡ oneOrder → ⊥) → order ≡ fetchOrder → Fetches nr lent w a left
-      → OneServed nr mem order w lent (record { answer = a; walk = w }) left
-  unfolding callFor handed
-  fetch-served n h f =
-      as-call (fetch lent) (rw (ne-eqb order oneOrder n, eq-eqb order fetchOrder h)) (record { answer = f .answer; walk = refl }) (f .block)
+  pub fetch-served : {a : Answer} {o : ℕ} {left : List ℕ} → (order ≡ oneOrder → ⊥) → order ≡ fetchOrder → o ≡ nowhere nr → Fetches nr lent w a left
+      → OneServed nr mem order w lent (record { answer = a; walk = w; offset = o }) left
+  unfolding callFor handed passedOn
+  fetch-served n h e f =
+      as-call (fetch lent) (rw (ne-eqb order oneOrder n, eq-eqb order fetchOrder h))
+      (record { answer = f .answer; walk = refl; offset = e; inside = λ more. absurd (omega arith) }) (f .block)
 
   pub stop-served : {r : Move} → (order ≡ oneOrder → ⊥) → (order ≡ fetchOrder → ⊥) → Moves nr (toStop mem order) w r
       → OneServed nr mem order w lent r lent

@@ -3,7 +3,7 @@
 -- Assumes nothing.
 use mathlib.Core.List.{List}
 use mathlib.Core.Logic.{_⊎_}
-use mathlib.Core.Path.{_≡_, refl, sym, ap, ap₂, _∙_}
+use mathlib.Core.Path.{_≡_, sym, ap, ap₂, _∙_, subst}
 use Prim.Native.Nat.{ℕ, _+_, _-_, _≤_, _<_}
 use native.Mathlib.Numerals.{add-one}
 use native.Mathlib.Omega.{arith}
@@ -14,25 +14,31 @@ use Rattle.answers.specs.declared.Refusal.the-variants.{SetLength, BlockLength,
 use Rattle.answers.proofs.laws.Tests.{left-new, left-old}
 use Rattle.network.specs.Lookups.{State, stateAt, zeroArea, lookup, lookupIn}
 use Rattle.network.specs.Order.{layerLookups}
-use Rattle.network.specs.Sizes.{layerBytes}
+use Rattle.network.specs.Read.{readIn}
+use Rattle.network.specs.Sizes.{offsetOf}
+use Rattle.network.specs.Theorems.{WithinTable}
+use Rattle.network.specs.declared.EntryPlace.{EntryPlace}
 use Rattle.network.proofs.laws.Order.{layer-lookups}
 use Rattle.layout.specs.Ciphers.{kept, readsOf}
-use Rattle.layout.specs.Stages.{widthOf, shapeAt, shapes, lookups, setBytes, tableOffset, stageOf, indexOf, placeOf}
+use Rattle.layout.specs.Stages.{widthOf, shapeAt, shapes, lookups, setBytes, nowhere, tableOffset, stageOf, indexOf, placeOf}
 use Rattle.layout.specs.declared.stage.Place.{Place}
 use Rattle.layout.proofs.laws.Lookup.{Sizes, Stands, stands, tables-in-set}
 use Rattle.layout.proofs.laws.Ranges.{by-stage}
-use Rattle.whitebox.specs.Calls.{holding, changed, toStop, oneLookup, started, judgeStop, judgeOne, judgeFetch, advance, answer, handed, blockLeft}
+use Rattle.whitebox.specs.Calls.{Held, holding, toStop, oneLookup, started, judgeStop, judgeOne, judgeFetch, advance, readNext, lastOffset}
+use Rattle.whitebox.specs.Calls.{answer, handed, passedOn, blockLeft}
+use Rattle.whitebox.specs.PlaceRead.{InTable}
 use Rattle.whitebox.proofs.laws.Judged as judged
 use Rattle.whitebox.proofs.laws.Judged.{presented-wrong, presented-right, set-wrong, stop-right, none-left, table-wrong, table-right, block-wrong, count-wrong, count-right}
-use Rattle.lookups.specs.InPlace.{Fits, LookedUp, sumsIn}
+use Rattle.whitebox.proofs.laws.PlaceRead.{in-table}
+use Rattle.lookups.specs.InPlace.{offsetLimit, Fits, Holds, LookedUp, LayerMade, placeOfLast, sumsIn}
 use Rattle.bits.proofs.laws.Lists.{cut, cut-is, length-cut}
 use Rattle.lookups.proofs.laws.Whole.{length-sums-in}
 use Rattle.evaluate.specs.Held.{held}
-use Rattle.evaluate.specs.Advanced.{Advanced}
+use Rattle.evaluate.specs.Advanced.{Refuses, Advanced, Advances}
 use Rattle.evaluate.specs.Contracts.{Opens, Moves, Fetches}
 use Rattle.evaluate.specs.declared.walk.Move.{Move}
 use Rattle.evaluate.specs.declared.walk.Walk.{Walk}
-use Rattle.evaluate.proofs.laws.Stages.{advance-split, layer-walk}
+use Rattle.evaluate.proofs.laws.Stages.{advance-split, last-split, layer-walk, layer-read, layer-inside}
 
 -- ---- the place of a lookup
 module _ {nr count bytes : ℕ} (N : Sizes nr count bytes) (n : ℕ) (p : Place) (h : n < count) (e : p ≡ placeOf nr n) where
@@ -52,29 +58,41 @@ module _ {nr count bytes : ℕ} (N : Sizes nr count bytes) (n : ℕ) (p : Place)
   pub place-width : (m : ℕ) → m ≡ widthOf (p .stage) → (m ≡ 4) ⊎ (m ≡ 16)
   place-width m f = rw f (place .width)
 
-  -- The tables of a stage or half, from its first lookup on, in a set of that length.
-  pub place-room : (long : ℕ) → long ≡ bytes → p .index ≡ 0 → p .offset + layerBytes (widthOf (p .stage)) ≤ long
-  place-room long l z = omega (arith, place .layer z, tables-in-set nr, N .all-bytes)
+  -- The tables of a stage or half, from its first lookup on, lie in a set.
+  pub place-holds : (long : ℕ) → long ≡ bytes → bytes ≤ offsetLimit → p .index ≡ 0 → Holds (p .stage) (p .offset) long
+  place-holds long l s z = record { width = place .width; room = omega (arith, place .layer z, tables-in-set nr, N .all-bytes); short = omega arith }
 
 -- The lookup made in place is the walk's.
-looked-up : (reads : ℕ → ℕ) (nr n : ℕ) (p : Place) → n < lookups nr → p ≡ placeOf nr n → (t s a s′ a′ : List ℕ)
-    → LookedUp (shapeAt reads (p .stage)) (p .index) t s a s′ a′
-    → lookup (shapes reads nr) t (stateAt n s a) ≡ stateAt (n + 1) s′ a′
-unfolding lookup
-looked-up reads nr n p h e t s a s′ a′ l =
-    let w : State = stateAt n s a in
-    by-stage nr .lookup-is reads n h t w
-    ∙ ap (λ (p : Place). lookupIn (shapeAt reads (p .stage)) (p .index) t w) (sym e)
-    ∙ l .walk n
-    ∙ ap (λ (k : ℕ). stateAt k s′ a′) (sym (add-one n))
+module _ (reads : ℕ → ℕ) (nr n : ℕ) (p : Place) (h : n < lookups nr) (e : p ≡ placeOf nr n) {t s a s′ a′ : List ℕ} {r : EntryPlace}
+    (l : LookedUp (shapeAt reads (p .stage)) (p .index) t (p .offset) s a r s′ a′) where
+  looked-up : lookup (shapes reads nr) t (stateAt n s a) ≡ stateAt (n + 1) s′ a′
+  unfolding lookup
+  looked-up =
+      let w : State = stateAt n s a in
+      by-stage nr .lookup-is reads n h t w
+      ∙ ap (λ (p : Place). lookupIn (shapeAt reads (p .stage)) (p .index) t w) (sym e)
+      ∙ l .walk n
+      ∙ ap (λ (k : ℕ). stateAt k s′ a′) (sym (add-one n))
+
+  -- And so is the place that it read.
+  read-there : r .offset ≡ readNext reads nr (stateAt n s a) .offset
+  read-there =
+      ap (λ (r : EntryPlace). r .offset)
+      (l .read
+      ∙ ap (λ (p : Place). readIn (shapeAt reads (p .stage)) (p .index) (p .offset) s a) e
+      ∙ sym (by-stage nr .read-is reads n h (tableOffset nr n) s a))
+
+  inside-there : InTable nr n (r .offset)
+  inside-there =
+      in-table nr n h r (subst (λ (p : Place). WithinTable (widthOf (p .stage)) (p .index) (p .offset) r) e (l .table))
 
 -- ---- a step: one lookup, or all of a stage or half, made in place, is the walk's
 module _ {reads : ℕ → ℕ} {nr count bytes : ℕ} (N : Sizes nr count bytes) {set : List ℕ} {n stop : ℕ} {p : Place} {s a s′ a′ : List ℕ}
     (e : p ≡ placeOf nr n) (b : n < stop) (d : stop ≤ count) where
-  pub one-advanced : LookedUp (shapeAt reads (p .stage)) (p .index) (cut set (p .offset) (p .offset + p .size)) s a s′ a′
-      → Advanced reads nr set n stop (n + 1) s a s′ a′
-  unfolding advance
-  one-advanced l =
+  pub one-advanced : {r : EntryPlace} → LookedUp (shapeAt reads (p .stage)) (p .index) (cut set (p .offset) (p .offset + p .size)) (p .offset) s a r s′ a′
+      → Advanced reads nr set n stop (n + 1) (r .offset) s a s′ a′
+  unfolding advance lastOffset
+  one-advanced {r} l =
       let w : State = stateAt n s a in
       let inside : n < lookups nr = omega (arith, N .all-lookups) in
       let one : n + 1 - n ≡ 1 = omega arith in
@@ -85,20 +103,22 @@ module _ {reads : ℕ → ℕ} {nr count bytes : ℕ} (N : Sizes nr count bytes)
         walk =
             ap (λ (x : ℕ). advance reads nr set x w) one
             ∙ ap (λ (t : List ℕ). lookup (shapes reads nr) t w) part
-            ∙ looked-up reads nr n p inside e _ s a s′ a′ l;
+            ∙ looked-up reads nr n p inside e l;
+        offset = read-there reads nr n p inside e l ∙ ap (λ (x : ℕ). lastOffset reads nr set x w) (sym one);
+        inside = subst (λ (k : ℕ). InTable nr k (r .offset)) (let z : n ≡ n + 1 - 1 = omega arith in z) (inside-there reads nr n p inside e l);
         kept = l .kept;
         long = l .long;
       }
 
-  pub all-advanced : {all m : ℕ} → m ≡ widthOf (p .stage) → all ≡ layerLookups m → p .index ≡ 0 → all ≤ stop - n → length s ≡ 16 → length a ≡ 256
-      → s′ ≡ sumsIn (shapeAt reads (p .stage)) set (p .offset) s a → a′ ≡ zeroArea → Advanced reads nr set n stop (n + all) s a s′ a′
-  all-advanced {all} {m} v c z r ls la f g =
+  pub all-advanced : {all m : ℕ} {r : EntryPlace} → m ≡ widthOf (p .stage) → all ≡ layerLookups m → p .index ≡ 0 → all ≤ stop - n → length s ≡ 16
+      → length a ≡ 256 → LayerMade (shapeAt reads (p .stage)) set (p .offset) s a r s′ a′ → Advanced reads nr set n stop (n + all) (r .offset) s a s′ a′
+  all-advanced {all} {m} {r} v c z b′ ls la f =
       let inside : n < lookups nr = omega (arith, N .all-lookups) in
       let x : n + all - n ≡ all = omega arith in
       let q : all ≡ layerLookups (widthOf (stageOf nr n)) = c ∙ ap layerLookups v ∙ ap (λ (p : Place). layerLookups (widthOf (p .stage))) e in
       let i : indexOf nr n ≡ 0 = ap (λ (p : Place). p .index) (sym e) ∙ z in
       let sums : sumsIn (shapeAt reads (stageOf nr n)) set (tableOffset nr n) s a ≡ s′ =
-      ap (λ (p : Place). sumsIn (shapeAt reads (p .stage)) set (p .offset) s a) (sym e) ∙ sym f in
+      ap (λ (p : Place). sumsIn (shapeAt reads (p .stage)) set (p .offset) s a) (sym e) ∙ sym (f .standing) in
       record {
         more = omega (arith, layer-lookups m);
         most = omega arith;
@@ -106,43 +126,75 @@ module _ {reads : ℕ → ℕ} {nr count bytes : ℕ} (N : Sizes nr count bytes)
             ap (λ (x : ℕ). advance reads nr set x (stateAt n s a)) (x ∙ q)
             ∙ layer-walk reads nr set n inside i s a
             ∙ ap (λ (k : ℕ). stateAt (n + k) (sumsIn (shapeAt reads (stageOf nr n)) set (tableOffset nr n) s a) zeroArea) (sym q)
-            ∙ ap₂ (stateAt (n + all)) sums (sym g);
-        kept = ap length f ∙ length-sums-in (shapeAt reads (p .stage)) set (p .offset) s a ∙ sym ls;
-        long = ap length g ∙ length-replicate {A = ℕ} 256 0 ∙ sym la;
+            ∙ ap₂ (stateAt (n + all)) sums (sym (f .area));
+        offset =
+            ap (λ (r : EntryPlace). r .offset) (f .read ∙ ap (λ (p : Place). placeOfLast (shapeAt reads (p .stage)) set (p .offset) s a) e)
+            ∙ sym (layer-read reads nr set n inside i s a)
+            ∙ ap (λ (x : ℕ). lastOffset reads nr set x (stateAt n s a)) (sym (x ∙ q));
+        inside =
+            subst (λ (k : ℕ). InTable nr k (r .offset)) (let y : n + (layerLookups (widthOf (stageOf nr n)) - 1) ≡ n + all - 1 = omega (arith, q, layer-lookups m, c) in y)
+            (layer-inside reads nr set n inside i s a r
+            (subst (λ (p : Place). WithinTable (widthOf (p .stage)) (layerLookups (widthOf (p .stage)) - 1)
+            (p .offset + offsetOf (widthOf (p .stage)) (layerLookups (widthOf (p .stage)) - 1)) r) e (f .table)));
+        kept = ap length (f .standing) ∙ length-sums-in (shapeAt reads (p .stage)) set (p .offset) s a ∙ sym ls;
+        long = ap length (f .area) ∙ length-replicate {A = ℕ} 256 0 ∙ sym la;
       }
 
--- ---- the loop over a set, from the walk w₀: at count n, with standing bytes s and area a, what is left of the way to the stop ends as all of it
-pub record Going (reads : ℕ → ℕ) (nr : ℕ) (set : List ℕ) (stop : ℕ) (w₀ : State) (s a : List ℕ) (n : ℕ) : Type 0 where
+-- ---- the loop over a set, from the walk w₀: the lookups up to count n have left standing bytes s and area a, and o is the offset of the last
+pub record Going (reads : ℕ → ℕ) (nr : ℕ) (set : List ℕ) (stop : ℕ) (w₀ : State) (s a : List ℕ) (n o : ℕ) : Type 0 where
   pub within : n ≤ stop
+  pub behind : w₀ .count ≤ n
   pub kept : length s ≡ 16
   pub long : length a ≡ 256
-  pub same : advance reads nr set (stop - w₀ .count) w₀ ≡ advance reads nr set (stop - n) (stateAt n s a)
+  pub same : advance reads nr set (n - w₀ .count) w₀ ≡ stateAt n s a
+  pub offset : o ≡ lastOffset reads nr set (n - w₀ .count) w₀
+  pub inside : w₀ .count < n → InTable nr (n - 1) o
 
-pub going-none : {reads : ℕ → ℕ} {nr : ℕ} {set : List ℕ} {stop n : ℕ} {s a : List ℕ} → n ≤ stop → length s ≡ 16 → length a ≡ 256
-    → Going reads nr set stop (stateAt n s a) s a n
-going-none h l k = record { within = h; kept = l; long = k; same = refl }
+pub going-none : {reads : ℕ → ℕ} {nr : ℕ} {set : List ℕ} {stop n o : ℕ} {s a : List ℕ} → n ≤ stop → length s ≡ 16 → length a ≡ 256 → o ≡ nowhere nr
+    → Going reads nr set stop (stateAt n s a) s a n o
+unfolding advance lastOffset
+going-none {reads} {nr} {set} {n = n} {s = s} {a} h l k e =
+    let z : n - n ≡ 0 = omega arith in
+    record {
+      within = h;
+      behind = omega arith;
+      kept = l;
+      long = k;
+      same = ap (λ (x : ℕ). advance reads nr set x (stateAt n s a)) z;
+      offset = e ∙ ap (λ (x : ℕ). lastOffset reads nr set x (stateAt n s a)) (sym z);
+      inside = λ more. absurd (omega arith);
+    }
 
-module _ {reads : ℕ → ℕ} {nr : ℕ} {set : List ℕ} {stop : ℕ} {w₀ : State} {s a : List ℕ} {n : ℕ} (I : Going reads nr set stop w₀ s a n) where
-  pub going-more : {r : ℕ} {s′ a′ : List ℕ} → Advanced reads nr set n stop r s a s′ a′ → Going reads nr set stop w₀ s′ a′ r
+module _ {reads : ℕ → ℕ} {nr : ℕ} {set : List ℕ} {stop : ℕ} {w₀ : State} {s a : List ℕ} {n o : ℕ} (I : Going reads nr set stop w₀ s a n o) where
+  pub going-more : {r o′ : ℕ} {s′ a′ : List ℕ} → Advanced reads nr set n stop r o′ s a s′ a′ → Going reads nr set stop w₀ s′ a′ r o′
   going-more {r} d =
-      let w : State = stateAt n s a in
-      let e : stop - n ≡ r - n + (stop - r) = omega (arith, d .more, d .most) in
+      let i = n - w₀ .count in
+      let e : r - w₀ .count ≡ i + (r - n) = omega (arith, I .behind, d .more) in
       record {
         within = d .most;
+        behind = omega (arith, I .behind, d .more);
         kept = d .kept ∙ I .kept;
         long = d .long ∙ I .long;
         same =
-            I .same
-            ∙ ap (λ (x : ℕ). advance reads nr set x w) e
-            ∙ advance-split reads nr set (r - n) (stop - r) w
-            ∙ ap (advance reads nr set (stop - r)) (d .walk);
+            ap (λ (x : ℕ). advance reads nr set x w₀) e
+            ∙ advance-split reads nr set i (r - n) w₀
+            ∙ ap (advance reads nr set (r - n)) (I .same)
+            ∙ d .walk;
+        offset =
+            d .offset
+            ∙ ap (lastOffset reads nr set (r - n)) (sym (I .same))
+            ∙ sym (last-split reads nr set i (r - n) w₀ (omega (arith, d .more)))
+            ∙ ap (λ (x : ℕ). lastOffset reads nr set x w₀) (sym e);
+        inside = λ more. d .inside;
       }
 
-  pub going-all : stop ≤ n → stateAt n s a ≡ advance reads nr set (stop - w₀ .count) w₀
-  unfolding advance
+  -- At the stop all lookups are made.
+  pub going-all : stop ≤ n → (stateAt n s a ≡ advance reads nr set (stop - w₀ .count) w₀) × (o ≡ lastOffset reads nr set (stop - w₀ .count) w₀)
   going-all h =
-      let z : stop - n ≡ 0 = omega arith in
-      sym (I .same ∙ ap (λ (x : ℕ). advance reads nr set x (stateAt n s a)) z)
+      let e : n ≡ stop = omega (arith, I .within) in (
+        sym (I .same) ∙ ap (λ (x : ℕ). advance reads nr set (x - w₀ .count) w₀) e,
+        I .offset ∙ ap (λ (x : ℕ). lastOffset reads nr set (x - w₀ .count) w₀) e,
+      )
 
 -- ---- start
 pub start-refused : (c : ℕ) (block : List ℕ) → (length block ≡ 16 → ⊥)
@@ -160,56 +212,84 @@ start-done c block s w l e f =
     let j = presented-right (length block) l in
     record { answer = j; walk = f ∙ ap (λ (x : List ℕ). holding (kept c) (stateAt 0 x zeroArea)) e ∙ left-new _ _ _ (sym j) }
 
--- ---- a move: the answer, and the walk handed back
+-- ---- a move: the answer, the walk handed back, and the offset passed on
+-- A refused one has not moved.
+not-on : {nr : ℕ} {r : Refusal} {w : Walk} {m : Move} → Refuses nr r w m → w .count < m .walk .count → InTable nr (m .walk .count - 1) (m .offset)
+not-on d more = absurd (omega (arith, ap (λ (v : Walk). v .count) (d .walk)))
+
 -- It hands back m. A refused one leaves the walk as it was.
 module _ {nr count bytes : ℕ} (N : Sizes nr count bytes) (set : List ℕ) (stop : ℕ) (w : Walk) (m : Move) where
-  not-moved : (r : Refusal) → m .answer ≡ Refused r → m .walk ≡ w → Refused r ≡ judgeStop nr (length set) stop (w .count) → Moves nr (toStop set stop) w m
-  unfolding answer handed
-  not-moved r a b e = record { answer = a ∙ e; walk = ap held b ∙ left-old _ r _ (held w) (sym e) }
+  not-moved : (r : Refusal) → Refuses nr r w m → Refused r ≡ judgeStop nr (length set) stop (w .count) → Moves nr (toStop set stop) w m
+  unfolding answer handed passedOn
+  not-moved r d e =
+      record {
+        answer = d .answer ∙ e;
+        walk = ap held (d .walk) ∙ left-old _ r _ (held w) (sym e);
+        offset = d .offset ∙ left-old _ r _ (nowhere nr) (sym e);
+        inside = not-on d;
+      }
 
-  pub wrong-set : m .answer ≡ Refused SetLength → m .walk ≡ w → (length set ≡ bytes → ⊥) → Moves nr (toStop set stop) w m
-  wrong-set a b n = not-moved SetLength a b (set-wrong nr _ _ _ (λ e. n (e ∙ N .all-bytes)))
+  pub wrong-set : Refuses nr SetLength w m → (length set ≡ bytes → ⊥) → Moves nr (toStop set stop) w m
+  wrong-set d n = not-moved SetLength d (set-wrong nr _ _ _ (λ e. n (e ∙ N .all-bytes)))
 
   module _ (l : length set ≡ bytes) where
     long : length set ≡ setBytes nr
     long = l ∙ sym (N .all-bytes)
 
-    pub stop-above : m .answer ≡ Refused Stop → m .walk ≡ w → count < stop → Moves nr (toStop set stop) w m
-    stop-above a b h = not-moved Stop a b (judged.stop-above nr _ _ _ long (omega (arith, N .all-lookups)))
+    pub stop-above : Refuses nr Stop w m → count < stop → Moves nr (toStop set stop) w m
+    stop-above d h = not-moved Stop d (judged.stop-above nr _ _ _ long (omega (arith, N .all-lookups)))
 
-    pub stop-below : m .answer ≡ Refused Stop → m .walk ≡ w → stop ≤ count → stop < w .count → Moves nr (toStop set stop) w m
-    stop-below a b h d = not-moved Stop a b (judged.stop-below nr _ _ _ long (omega (arith, N .all-lookups)) d)
+    pub stop-below : Refuses nr Stop w m → stop ≤ count → stop < w .count → Moves nr (toStop set stop) w m
+    stop-below d h b = not-moved Stop d (judged.stop-below nr _ _ _ long (omega (arith, N .all-lookups)) b)
 
-    pub stop-done : m .answer ≡ Accepted → stop ≤ count → w .count ≤ stop
-        → held (m .walk) ≡ changed (advance (readsOf (w .cipher)) nr set (stop - w .count)) (held w) → Moves nr (toStop set stop) w m
-    unfolding answer handed
-    stop-done a h b e =
+    pub stop-done : stop ≤ count → w .count ≤ stop → Advances nr set stop w m → Moves nr (toStop set stop) w m
+    unfolding answer handed passedOn
+    stop-done h b d =
         let j = stop-right nr _ stop (w .count) long (omega (arith, N .all-lookups)) b in
-        record { answer = a ∙ j; walk = e ∙ left-new _ _ (held w) (sym j) }
+        record {
+          answer = d .answer ∙ j;
+          walk = d .walk ∙ left-new _ _ (held w) (sym j);
+          offset = d .offset ∙ left-new _ _ (nowhere nr) (sym j);
+          inside = d .inside;
+        }
 
 module _ {nr count bytes : ℕ} (N : Sizes nr count bytes) (table : List ℕ) (w : Walk) (m : Move) where
-  not-looked : (r : Refusal) → m .answer ≡ Refused r → m .walk ≡ w → Refused r ≡ judgeOne nr (length table) (w .count) → Moves nr (oneLookup table) w m
-  unfolding answer handed
-  not-looked r a b e = record { answer = a ∙ e; walk = ap held b ∙ left-old _ r _ (held w) (sym e) }
+  not-looked : (r : Refusal) → Refuses nr r w m → Refused r ≡ judgeOne nr (length table) (w .count) → Moves nr (oneLookup table) w m
+  unfolding answer handed passedOn
+  not-looked r d e =
+      record {
+        answer = d .answer ∙ e;
+        walk = ap held (d .walk) ∙ left-old _ r _ (held w) (sym e);
+        offset = d .offset ∙ left-old _ r _ (nowhere nr) (sym e);
+        inside = not-on d;
+      }
 
-  pub no-lookup : m .answer ≡ Refused Stop → m .walk ≡ w → count ≤ w .count → Moves nr (oneLookup table) w m
-  no-lookup a b h = not-looked Stop a b (none-left nr _ _ (omega (arith, N .all-lookups)))
+  pub no-lookup : Refuses nr Stop w m → count ≤ w .count → Moves nr (oneLookup table) w m
+  no-lookup d h = not-looked Stop d (none-left nr _ _ (omega (arith, N .all-lookups)))
 
   module _ (p : Place) (h : w .count < count) (e : p ≡ placeOf nr (w .count)) where
     left : w .count < lookups nr
     left = omega (arith, N .all-lookups)
 
-    pub wrong-table : m .answer ≡ Refused SetLength → m .walk ≡ w → (length table ≡ p .size → ⊥) → Moves nr (oneLookup table) w m
-    wrong-table a b n = not-looked SetLength a b (table-wrong nr _ _ left (λ l. n (l ∙ sym (stands left e .size))))
+    pub wrong-table : Refuses nr SetLength w m → (length table ≡ p .size → ⊥) → Moves nr (oneLookup table) w m
+    wrong-table d n = not-looked SetLength d (table-wrong nr _ _ left (λ l. n (l ∙ sym (stands left e .size))))
 
-    pub one-done : (s′ a′ : List ℕ) → m .answer ≡ Accepted → length table ≡ p .size
-        → LookedUp (shapeAt (readsOf (w .cipher)) (p .stage)) (p .index) table (w .standing) (w .area) s′ a′
-        → held (m .walk) ≡ holding (kept (w .cipher)) (stateAt (w .count + 1) s′ a′) → Moves nr (oneLookup table) w m
-    unfolding answer handed
-    one-done s′ a′ a l u f =
+    pub one-done : {s′ a′ : List ℕ} {r : EntryPlace} → m .answer ≡ Accepted → length table ≡ p .size
+        → LookedUp (shapeAt (readsOf (w .cipher)) (p .stage)) (p .index) table (p .offset) (w .standing) (w .area) r s′ a′
+        → held (m .walk) ≡ holding (kept (w .cipher)) (stateAt (w .count + 1) s′ a′) → m .offset ≡ r .offset → Moves nr (oneLookup table) w m
+    unfolding answer handed passedOn
+    one-done {r = r} a l u f g =
+        let reads = readsOf (w .cipher) in
         let j = table-right nr _ _ left (l ∙ stands left e .size) in
-        let made = looked-up (readsOf (w .cipher)) nr (w .count) p left e table (w .standing) (w .area) s′ a′ u in
-        record { answer = a ∙ j; walk = f ∙ ap (holding (kept (w .cipher))) (sym made) ∙ left-new _ _ (held w) (sym j) }
+        record {
+          answer = a ∙ j;
+          walk = f ∙ ap (holding (kept (w .cipher))) (sym (looked-up reads nr (w .count) p left e u)) ∙ left-new _ _ (held w) (sym j);
+          offset = g ∙ read-there reads nr (w .count) p left e u ∙ left-new _ _ (nowhere nr) (sym j);
+          inside =
+              λ more.
+              rw g (subst (λ (k : ℕ). InTable nr k (r .offset)) (let z : w .count ≡ m .walk .count - 1 = omega (arith, ap (λ (v : Held). v .state .count) f) in z)
+              (inside-there reads nr (w .count) p left e u));
+        }
 
 -- ---- fetch: the answer, and the block as it is left
 module _ {nr count bytes : ℕ} (N : Sizes nr count bytes) (block : List ℕ) (w : Walk) where

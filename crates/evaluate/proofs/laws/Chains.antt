@@ -5,23 +5,21 @@ use mathlib.Core.List.{List, [], _∷_, map}
 use mathlib.Core.Path.{_≡_, refl, ap, ap₂, _∙_}
 use Prim.Native.Nat.{ℕ}
 use Rattle.answers.specs.Answers.{replyOf}
-use Rattle.answers.specs.declared.Answer.{Answer}
-use Rattle.whitebox.specs.Calls.{Held, Served, reply, handed, blockLeft, serve, lastWalk}
+use Rattle.whitebox.specs.Calls.{Held, Served, reply, handed, passedOn, blockLeft, serve, lastWalk}
+use Rattle.whitebox.proofs.laws.Served.{served}
 use Rattle.evaluate.specs.Held.{held}
 use Rattle.evaluate.specs.Chains.{CallMade, moveTo, moveOne, fetched, callOf, walkAfter, servedBy, Meets, Serves, ChainServes}
 use Rattle.evaluate.specs.declared.walk.Walk.{Walk}
 
-served : Answer → Held → List ℕ → Served
-served a w block = record { reply = replyOf a; walk = w; block = block }
-
 module _ (nr : ℕ) where
   -- ---- one call
   answers : (w : Walk) (m : CallMade) → Meets nr w m
-      → servedBy w m ≡ record { reply = reply nr (callOf m) (held w); walk = handed nr (callOf m) (held w); block = blockLeft nr (callOf m) (held w) }
-  unfolding served blockLeft handed
-  answers w (moveTo set stop r) h = ap₂ (λ (a : Answer) (v : Held). served a v []) (h .answer) (h .walk)
-  answers w (moveOne table r) h = ap₂ (λ (a : Answer) (v : Held). served a v []) (h .answer) (h .walk)
-  answers w (fetched lent r left) h = ap₂ (λ (a : Answer) (b : List ℕ). served a (held w) b) (h .answer) (h .block)
+      → let c = callOf m in
+      servedBy nr w m ≡ record { reply = reply nr c (held w); walk = handed nr c (held w); offset = passedOn nr c (held w); block = blockLeft nr c (held w) }
+  unfolding blockLeft handed passedOn
+  answers w (moveTo set stop r) h = served (ap replyOf (h .answer)) (h .walk) (h .offset) refl
+  answers w (moveOne table r) h = served (ap replyOf (h .answer)) (h .walk) (h .offset) refl
+  answers w (fetched lent r left) h = served (ap replyOf (h .answer)) refl refl (h .block)
 
   leaves : (w : Walk) (m : CallMade) → Meets nr w m → held (walkAfter w m) ≡ handed nr (callOf m) (held w)
   unfolding handed

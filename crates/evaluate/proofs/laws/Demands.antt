@@ -1,12 +1,9 @@
 -- Laws, not definitions: demands 2 and 3 and the round trip of the calls in code, from those of the definitions (crate whitebox) and `chain-serves`.
 -- Assumes nothing.
 use mathlib.Core.List.{List, map}
-use mathlib.Core.Path.{_≡_, refl, sym, ap, _∙_}
+use mathlib.Core.Path.{_≡_, sym, ap, _∙_}
 use Prim.Native.Nat.{ℕ, suc}
-use native.Mathlib.Omega.{arith}
-use Rattle.answers.specs.Answers.{accepted, replyOf}
-use Rattle.answers.specs.declared.Answer.{Answer}
-use Rattle.answers.specs.declared.Answer.the-variants.{Accepted, Refused}
+use Rattle.answers.specs.Answers.{replyOf}
 use Rattle.round.specs.Key.{roundsOf}
 use Rattle.layout.specs.Stages.{lookups}
 use Rattle.whitebox.specs.Bundles.{madeSet}
@@ -15,6 +12,7 @@ use Rattle.whitebox.specs.Demand2.{walkedOver}
 use Rattle.whitebox.specs.Demand3.{Presented}
 use Rattle.whitebox.specs.PlainCount.{argsOf, plainCount, seen}
 use Rattle.whitebox.proofs.laws.Demands.{demand3-for}
+use Rattle.whitebox.proofs.laws.Judged.{reply-was}
 use Rattle.whitebox.proofs.laws.RoundTrip.{round-trip-for}
 use Rattle.evaluate.specs.Held.{held}
 use Rattle.evaluate.specs.Chains.{CallMade, callOf, servedIn, lastIn, Chain}
@@ -30,11 +28,6 @@ unheld h = record { cipher = h .cipher; count = h .state .count; standing = h .s
 same-walk : (v w : Walk) → held v ≡ held w → v ≡ w
 unfolding unheld
 same-walk v w e = ap unheld e
-
--- Only an accepted call has that reply.
-reply-was : (a : Answer) → replyOf a ≡ accepted → a ≡ Accepted
-reply-was Accepted e = refl
-reply-was (Refused r) e = let z : _≡_ {A = ℕ} 0 1 = cc in absurd (omega arith)
 
 whole-walk : (nr : ℕ) → WholeWalk nr
 whole-walk nr c set x lent left w =
@@ -68,7 +61,7 @@ module _ (c : ℕ) (x : List ℕ) (o : Opening) (begun : Begun c x o) where
   presented = record { bytes = begun .bytes; started = sym (begun .opens .answer) ∙ begun .accepted }
 
   module _ (nr : ℕ) (ms : List CallMade) (chain : Chain nr (o .walk) ms) where
-    served : servedIn (o .walk) ms ≡ serve nr (started c x) (map callOf ms)
+    served : servedIn nr (o .walk) ms ≡ serve nr (started c x) (map callOf ms)
     served = chain-serves nr (o .walk) ms chain .answers ∙ ap (λ (w : Held). serve nr w (map callOf ms)) (begun .opens .walk)
 
     last : held (lastIn (o .walk) ms) ≡ lastWalk nr (started c x) (map callOf ms)

@@ -1,5 +1,5 @@
 -- Laws, not definitions: the lookups of a stage or half are the walk's, from its first lookup on, for any number nr of rounds and any byte
--- `reads` that the row shift reads.
+-- `reads` that the row shift reads; and so is the place that the last of them reads (`layer-read`, `layer-inside`).
 -- Assumes nothing.
 use mathlib.Core.List.{List}
 use mathlib.Core.Logic.{⊎-elim}
@@ -10,15 +10,20 @@ use native.Mathlib.Omega.{arith}
 use lib.ListN.{take, drop}
 use Rattle.network.specs.Lookups.{State, stateAt, Shape, zeroArea, sums, lookup, lookupIn}
 use Rattle.network.specs.Order.{xors, layerLookups}
+use Rattle.network.specs.Read.{readIn}
 use Rattle.network.specs.Sizes.{sizeOf, offsetOf}
+use Rattle.network.specs.Theorems.{WithinTable}
+use Rattle.network.specs.declared.EntryPlace.{EntryPlace}
 use Rattle.network.proofs.laws.Order.{layer-lookups}
 use Rattle.layout.specs.Stages.{widthOf, shapeAt, shapes, lookups, tableSize, tableOffset, stageOf, indexOf, firstLookup, firstByte}
 use Rattle.layout.specs.declared.stage.Stage.{Stage}
 use Rattle.layout.proofs.laws.Lookup.{first-byte}
 use Rattle.layout.proofs.laws.Ranges.{in-stage, by-stage}
 use Rattle.layout.proofs.laws.Stages.{lookups-16, lookups-4}
-use Rattle.whitebox.specs.Calls.{advance}
-use Rattle.lookups.specs.InPlace.{tableFrom, spreadsIn, xorsIn, sumsIn}
+use Rattle.whitebox.specs.Calls.{advance, readNext, lastOffset}
+use Rattle.whitebox.specs.PlaceRead.{InTable}
+use Rattle.whitebox.proofs.laws.PlaceRead.{in-table}
+use Rattle.lookups.specs.InPlace.{tableFrom, spreadsIn, xorsIn, placeOfLast, sumsIn}
 use Rattle.lookups.proofs.laws.Layers.{at-spread, at-xor, at-last}
 
 module _ (reads : ℕ → ℕ) (nr : ℕ) (set : List ℕ) where
@@ -36,6 +41,14 @@ module _ (reads : ℕ → ℕ) (nr : ℕ) (set : List ℕ) where
   advance-last : (k : ℕ) (w : State) → advance reads nr set (suc k) w ≡ stepOver (advance reads nr set k w)
   unfolding advance
   advance-last k w = ap (λ (x : ℕ). advance reads nr set x w) (sym (add-one k)) ∙ advance-split k 1 w
+
+  -- What is passed on is the last part's, where that makes a lookup.
+  pub last-split : (j k : ℕ) (w : State) → 0 < k → lastOffset reads nr set (j + k) w ≡ lastOffset reads nr set k (advance reads nr set j w)
+  unfolding lastOffset
+  last-split j zero w h = absurd (omega arith)
+  last-split j (suc k) w h =
+      let e : j + suc k ≡ suc (j + k) = omega arith in
+      ap (λ (x : ℕ). lastOffset reads nr set x w) e ∙ ap (λ (w : State). readNext reads nr w .offset) (advance-split j k w)
 
   -- ---- from the first lookup n of a stage or half
   module _ (n : ℕ) (h : n < lookups nr) (z : indexOf nr n ≡ 0) where
@@ -66,13 +79,24 @@ module _ (reads : ℕ → ℕ) (nr : ℕ) (set : List ℕ) where
       unfolding indexOf
       index-is = rw stage-is (omega (arith, first))
 
+      offset-is : tableOffset nr (n + k) ≡ from + offsetOf m k
+      offset-is =
+          by-stage nr .offset-is (n + k) below
+          ∙ ap₂ (λ (s : Stage) (j : ℕ). firstByte nr s + offsetOf (widthOf s) j) stage-is index-is
+          ∙ ap (λ (x : ℕ). x + offsetOf (widthOf (stageOf nr n)) k) (sym (first-byte nr n h z))
+
       table-is : take (tableSize nr (n + k)) (drop (tableOffset nr (n + k)) set) ≡ table k
       table-is =
           ap₂ (λ (x y : ℕ). take x (drop y set))
           (by-stage nr .size-is (n + k) below ∙ ap₂ (λ (s : Stage) (j : ℕ). sizeOf (widthOf s) j) stage-is index-is)
-          (by-stage nr .offset-is (n + k) below
-          ∙ ap₂ (λ (s : Stage) (j : ℕ). firstByte nr s + offsetOf (widthOf s) j) stage-is index-is
-          ∙ ap (λ (x : ℕ). x + offsetOf (widthOf (stageOf nr n)) k) (sym (first-byte nr n h z)))
+          offset-is
+
+      -- The place that lookup k of the stage or half reads is the walk's.
+      read-is : (u a : List ℕ) → readNext reads nr (stateAt (n + k) u a) ≡ readIn S k (from + offsetOf m k) u a
+      read-is u a =
+          by-stage nr .read-is reads (n + k) below (tableOffset nr (n + k)) u a
+          ∙ ap₂ (λ (s : Stage) (j : ℕ). readIn (shapeAt reads s) j (tableOffset nr (n + k)) u a) stage-is index-is
+          ∙ ap (λ (o : ℕ). readIn S k o u a) offset-is
 
       -- The walk's next lookup is lookup k of the stage or half.
       next : (w : State) (u a : List ℕ) → advance reads nr set k w ≡ stateAt (n + k) u a
@@ -119,14 +143,38 @@ module _ (reads : ℕ → ℕ) (nr : ℕ) (set : List ℕ) where
           ∙ at-last S (16 + k) (table (16 + k)) (stateAt (n + (16 + k)) u (xored k)) k (omega arith) (omega arith) (sym l)
           ∙ ap₂ (λ (x y : ℕ). stateAt x (sums m (xored y)) zeroArea) f e
 
+      -- There is an XOR lookup, which the last is.
+      some-xors : 16 < layerLookups m
+      some-xors =
+          ⊎-elim
+          (λ e. subst (λ (m : ℕ). 16 < layerLookups m) (sym e) (omega (arith, lookups-4)))
+          (λ e. subst (λ (m : ℕ). 16 < layerLookups m) (sym e) (omega (arith, lookups-16)))
+          (in-stage nr n h .width)
+
+      pub layer-read : lastOffset reads nr set (layerLookups (widthOf (stageOf nr n))) (stateAt n u a)
+          ≡ placeOfLast (shapeAt reads (stageOf nr n)) set (tableOffset nr n) u a .offset
+      unfolding lastOffset placeOfLast
+      layer-read =
+          let k : ℕ = xors m - 1 in
+          let l : layerLookups m ≡ suc (16 + k) = omega (arith, layer-lookups m, some-xors) in
+          let e : 16 + k ≡ layerLookups m - 1 = omega arith in
+          ap (λ (x : ℕ). lastOffset reads nr set x (stateAt n u a)) l
+          ∙ ap (λ (w : State). readNext reads nr w .offset) (xors-walk k (omega (arith, layer-lookups m, some-xors)))
+          ∙ ap (λ (r : EntryPlace). r .offset)
+          (read-is (16 + k) (omega arith) u (xored k)
+          ∙ ap (λ (j : ℕ). readIn S j (from + offsetOf m j) u (xored k)) e)
+
+      -- And it lies in that lookup's table.
+      pub layer-inside : (r : EntryPlace)
+          → WithinTable (widthOf (stageOf nr n)) (layerLookups (widthOf (stageOf nr n)) - 1)
+          (tableOffset nr n + offsetOf (widthOf (stageOf nr n)) (layerLookups (widthOf (stageOf nr n)) - 1)) r
+          → InTable nr (n + (layerLookups (widthOf (stageOf nr n)) - 1)) (r .offset)
+      layer-inside r T =
+          let k : ℕ = layerLookups m - 1 in
+          let b : k < layerLookups m = omega (arith, some-xors) in
+          in-table nr (n + k) (below k b) r (rw (offset-is k b, index-is k b, stage-is k b) T)
+
       pub layer-walk : advance reads nr set (layerLookups (widthOf (stageOf nr n))) (stateAt n u a)
           ≡ stateAt (n + layerLookups (widthOf (stageOf nr n))) (sumsIn (shapeAt reads (stageOf nr n)) set (tableOffset nr n) u a) zeroArea
       unfolding sumsIn
       layer-walk = last-walk (xors m - 1) (omega (arith, layer-lookups m, some-xors))
-        where
-          some-xors : 16 < layerLookups m
-          some-xors =
-              ⊎-elim
-              (λ e. subst (λ (m : ℕ). 16 < layerLookups m) (sym e) (omega (arith, lookups-4)))
-              (λ e. subst (λ (m : ℕ). 16 < layerLookups m) (sym e) (omega (arith, lookups-16)))
-              (in-stage nr n h .width)

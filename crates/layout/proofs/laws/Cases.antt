@@ -20,4 +20,5 @@ starred =
       table-bytes = refl;
       all-bytes = refl;
       all-encodings = refl;
+      no-lookup = refl;
     }

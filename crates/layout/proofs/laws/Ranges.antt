@@ -10,12 +10,14 @@ use borrow.Author.Tests.{lt-ltb, le-ltb}
 use Rattle.network.specs.Lookups.{State, Shape, lookupIn, lookupAt}
 use Rattle.network.specs.Numbers.{Numbers, startNumbers, numbersAfter}
 use Rattle.network.specs.Order.{layerLookups}
+use Rattle.network.specs.Read.{readIn, readAt}
 use Rattle.network.specs.Rule.{Labels, labels, firstResult, ruleIn, ruleAt}
 use Rattle.network.specs.Sizes.{sizeOf, offsetOf, layerBytes, lookupsIn, resultsIn, sizeIn, offsetIn}
 use Rattle.network.specs.Tables.{Layer, AllGood, widthsOf, tableIn, tableAt}
 use Rattle.network.proofs.laws.Layers.{lookup-past, table-past, rule-past, size-past, offset-past}
 use Rattle.network.proofs.laws.Layers.{lookup-first, table-first, rule-first, size-first, offset-first}
 use Rattle.network.proofs.laws.Layers.{lookup-none, size-none, offset-none}
+use Rattle.network.proofs.laws.Read.{read-past, read-first}
 use Rattle.network.proofs.laws.Rule.{rule-tables}
 use Rattle.layout.specs.Stages.{stages, widthOf, shapeAt, shapes, widths, lookups, tablesBytes, setBytes, encodings}
 use Rattle.layout.specs.Stages.{tableSize, tableOffset, entryLookups, halfLookups, stageOf, roundAt, inRound, firstLookup, firstByte, numbersOf, indexOf}
@@ -156,6 +158,17 @@ module _ (nr k : ℕ) (s : Stage) (at : InStage nr k s) where
       ∙ lookup-past As (shapeAt reads s ∷ map (shapeAt reads) (at .found .behind)) j t w
       ∙ lookup-first (shapeAt reads s) (map (shapeAt reads) (at .found .behind)) j t w (unfold j in at .within)
 
+  read-in : (reads : ℕ → ℕ) (from : ℕ) (standing area : List ℕ)
+      → readAt (shapes reads nr) k from standing area ≡ readIn (shapeAt reads s) j from standing area
+  unfolding shapes
+  read-in reads from standing area =
+      let As : List Shape = map (shapeAt reads) (at .found .before) in
+      let Bs : List Shape = map (shapeAt reads) (at .found .behind) in
+      let widths-before = map-map (λ (S : Shape). S .width) (shapeAt reads) (at .found .before) in
+      ap₂ (λ (Ss : List Shape) (n : ℕ). readAt Ss n from standing area) (split-map (shapeAt reads)) (count-is (map (λ (S : Shape). S .width) As) widths-before)
+      ∙ read-past As (shapeAt reads s ∷ Bs) j from standing area
+      ∙ read-first (shapeAt reads s) Bs j from standing area (unfold j in at .within)
+
   size-in : tableSize nr k ≡ sizeOf (widthOf s) j
   unfolding tableSize widths
   size-in =
@@ -205,6 +218,7 @@ by-stage nr =
       all-encodings = ap (λ (n : ℕ). 32 + n) (all-results-of nr) ∙ omega arith;
       output-numbers = output;
       lookup-is = λ reads k h t w. lookup-in nr k (stageOf nr k) (at k h) reads t w;
+      read-is = λ reads k h from standing area. read-in nr k (stageOf nr k) (at k h) reads from standing area;
       table-is = λ E F e k h. table-in nr k (stageOf nr k) (at k h) F e E;
       table-by-rule = by-rule;
       size-is = λ k h. size-in nr k (stageOf nr k) (at k h);

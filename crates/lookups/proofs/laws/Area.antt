@@ -2,7 +2,7 @@
 -- Assumes nothing.
 use mathlib.Core.List.{List}
 use mathlib.Core.Logic.{⊎-elim, _⊎_}
-use mathlib.Core.Path.{_≡_, sym, ap, _∙_, subst}
+use mathlib.Core.Path.{_≡_, refl, sym, ap, _∙_, subst}
 use Prim.Native.Nat.{ℕ, _+_, _*_, _/_, _%_, _≤_, _<_}
 use native.Mathlib.Omega.{arith}
 use lib.ListN.{length, set}
@@ -13,13 +13,24 @@ use Rattle.bits.proofs.laws.Filled.{Filled, filled-more, filled-all}
 use Rattle.bits.proofs.laws.Lists.{zeros}
 use Rattle.bits.proofs.laws.Multiples.{row-inside}
 use Rattle.bits.proofs.laws.Nibbles.{nibble-even, nibble-odd}
-use Rattle.bits.proofs.laws.Pasted.{Pasted, pasted-none}
+use Rattle.bits.proofs.laws.Pasted.{Pasted, pasted-none, pasted-all, length-pasted}
 use Rattle.network.specs.Lookups.{sums, zeroArea}
-use Rattle.lookups.specs.InPlace.{xorByte}
+use Rattle.lookups.specs.InPlace.{SpreadRead, xorByte}
 
 -- ---- the loop that copies word w of a table, of 256 words of m bytes, to word p of an area, of 16 of them: its start
 pub word-none : (d t : List ℕ) (p w m : ℕ) → length d ≡ 256 → m ≤ 16 → p < 16 → length t ≡ 256 * m → w < 256 → Pasted d t (p * m) (w * m) m d 0
 word-none d t p w m l b h k g = pasted-none (omega (arith, row-inside p m 16 h)) (omega (arith, row-inside w m 256 g))
+
+-- And its end: w is the byte x, and r the byte of the table where the word begins.
+pub word-read : {d t : List ℕ} {p w m x : ℕ} {a : List ℕ} {b : ℕ} → Pasted d t (p * m) (w * m) m a b → m ≤ b → w ≡ x → length t ≡ 256 * m → x < 256
+    → SpreadRead t m p x d (w * m) a
+word-read {m = m} I h e l g =
+    rw e (record {
+      word = refl;
+      ends = omega (arith, row-inside _ m 256 g);
+      area = rw e at (pasted-all I h);
+      long = length-pasted I h;
+    })
 
 -- ---- the loop that fills the area with zeros
 pub cleared : {a : List ℕ} {i : ℕ} → Filled 256 (λ k. 0) a i → 256 ≤ i → a ≡ zeroArea
@@ -83,18 +94,26 @@ module _ (high low a : List ℕ) (s d : ℕ) (h : s < length a) (n : d ≡ s →
   unfolding b
   added-now = getD-set-other a s d (pack v (at a s % 16)) 0 n
 
+  -- The entry that the second reads goes by the low nibbles as they were.
+  low-entry : pack (nibble b (2 * s + 1)) (nibble b (2 * d + 1)) ≡ pack (at a s % 16) (at a d % 16)
+  low-entry =
+      let f : pack v (at a s % 16) % 16 ≡ at a s % 16 = omega arith in
+      rw (nibble-odd b s, nibble-odd b d, sum-now, added-now, f)
+
   low-done : setNibble b (2 * s + 1) (nibble low (pack (nibble b (2 * s + 1)) (nibble b (2 * d + 1)))) ≡ xorByte high low s d a
   unfolding xorByte
   low-done =
       let w : ℕ = nibble low (pack (at a s % 16) (at a d % 16)) in
       let e : pack v (at a s % 16) / 16 ≡ v = omega arith in
-      let f : pack v (at a s % 16) % 16 ≡ at a s % 16 = omega arith in
-      rw (nibble-odd b s, nibble-odd b d, sum-now, added-now, f)
-      (set-low b s w ∙ rw (sum-now, e) (unfold v b in set-set a s (pack v (at a s % 16)) (pack v w)))
+      rw low-entry (set-low b s w ∙ rw (sum-now, e) (unfold v b in set-set a s (pack v (at a s % 16)) (pack v w)))
 
-  pub xor-both : (c : List ℕ) → c ≡ setNibble a (2 * s) (nibble high (pack (nibble a (2 * s)) (nibble a (2 * d))))
-      → xorByte high low s d a ≡ setNibble c (2 * s + 1) (nibble low (pack (nibble c (2 * s + 1)) (nibble c (2 * d + 1))))
-  xor-both c e =
-      sym
-      (ap (λ (c : List ℕ). setNibble c (2 * s + 1) (nibble low (pack (nibble c (2 * s + 1)) (nibble c (2 * d + 1))))) (e ∙ high-done)
-      ∙ low-done)
+  -- Where the first lookup left the list c.
+  module _ (c : List ℕ) (e : c ≡ setNibble a (2 * s) (nibble high (pack (nibble a (2 * s)) (nibble a (2 * d))))) where
+    pub both-entry : pack (at a s % 16) (at a d % 16) ≡ pack (nibble c (2 * s + 1)) (nibble c (2 * d + 1))
+    both-entry = sym (ap (λ (c : List ℕ). pack (nibble c (2 * s + 1)) (nibble c (2 * d + 1))) (e ∙ high-done) ∙ low-entry)
+
+    pub xor-both : xorByte high low s d a ≡ setNibble c (2 * s + 1) (nibble low (pack (nibble c (2 * s + 1)) (nibble c (2 * d + 1))))
+    xor-both =
+        sym
+        (ap (λ (c : List ℕ). setNibble c (2 * s + 1) (nibble low (pack (nibble c (2 * s + 1)) (nibble c (2 * d + 1))))) (e ∙ high-done)
+        ∙ low-done)

@@ -1,4 +1,4 @@
--- Laws, not definitions: a lookup of a stage or half, made in place.
+-- Laws, not definitions: a lookup of a stage or half, made in place, and the place that it reads.
 -- Assumes nothing.
 use mathlib.Core.List.{List}
 use mathlib.Core.Logic.{⊎-elim, _⊎_, inl, inr}
@@ -12,15 +12,18 @@ use lib.Seq.{paste}
 use Rattle.bits.specs.Lists.{at}
 use Rattle.bits.specs.Nibbles.{nibble, setNibble, pack}
 use Rattle.bits.proofs.laws.Lists.{length-tabulate}
-use Rattle.network.specs.Lookups.{State, stateAt, Shape, spreadArea, xorArea, sums, zeroArea, lookupIn}
+use Rattle.network.specs.Lookups.{State, stateAt, Shape, spreadArea, xorIndex, xorArea, sums, zeroArea, lookupIn}
 use Rattle.network.specs.Order.{xors, layerLookups, sumPlace, addedPlace}
+use Rattle.network.specs.Read.{wordPlace, nibblePlace, readIn}
+use Rattle.network.specs.declared.EntryPlace.{EntryPlace}
+use Rattle.network.proofs.laws.Read.{read-spread, read-xor, word-within, nibble-within}
 use Rattle.network.proofs.laws.Sizes.{spread-size, xor-size}
 use Rattle.layout.specs.Stages.{widthOf, entryLookups}
 use Rattle.layout.specs.declared.stage.Stage.{Stage}
 use Rattle.layout.specs.declared.stage.Stage.the-variants.{Entry, First, Second, Exit, Beyond}
 use Rattle.layout.proofs.laws.Stages.{lookups-16, lookups-4}
-use Rattle.lookups.specs.InPlace.{Fits, XorIn, LookedUp, xorByte}
-use Rattle.lookups.proofs.laws.Area.{xor-both}
+use Rattle.lookups.specs.InPlace.{SpreadRead, XorRead, PairRead, Fits, XorIn, XorMade, PairMade, LookedUp}
+use Rattle.lookups.proofs.laws.Area.{both-entry, xor-both}
 
 -- ---- an XOR lookup at its two places
 xor-at : (m x p q : ℕ) (t a : List ℕ) → p ≡ sumPlace m x → q ≡ addedPlace m x
@@ -28,61 +31,66 @@ xor-at : (m x p q : ℕ) (t a : List ℕ) → p ≡ sumPlace m x → q ≡ added
 unfolding xorArea
 xor-at m x p q t a e f = ap₂ (λ (p q : ℕ). setNibble a p (nibble t (pack (nibble a p) (nibble a q)))) e f
 
--- Two XOR lookups in a row, those of one byte.
-xor-pair-at : (m y p q : ℕ) (high low a : List ℕ) → p < length a → (q ≡ p → ⊥)
+-- The entry that it reads, and the area that it leaves.
+xor-made : (m x p q : ℕ) (t a : List ℕ) (e : ℕ) (a′ : List ℕ) → p ≡ sumPlace m x → q ≡ addedPlace m x → XorRead t p q a e a′ → XorMade m x t a e a′
+xor-made m x p q t a e a′ f g r =
+    record {
+      entry = r .entry ∙ ap₂ (λ (p q : ℕ). pack (nibble a p) (nibble a q)) f g;
+      below = r .below;
+      area = r .area ∙ ap (λ (i : ℕ). setNibble a p (nibble t i)) (r .entry) ∙ xor-at m x p q t a f g;
+    }
+
+-- Two XOR lookups in a row, those of one byte: the entry that the second reads, and the area that they leave.
+pair-made : (m y p q : ℕ) (high low a : List ℕ) (e : ℕ) (a′ : List ℕ) → p < length a → (q ≡ p → ⊥)
     → 2 * p ≡ sumPlace m (2 * y) → 2 * q ≡ addedPlace m (2 * y) → 2 * p + 1 ≡ sumPlace m (2 * y + 1) → 2 * q + 1 ≡ addedPlace m (2 * y + 1)
-    → xorByte high low p q a ≡ xorArea m (2 * y + 1) low (xorArea m (2 * y) high a)
-xor-pair-at m y p q high low a h n e f e′ f′ =
-    xor-both high low a p q h n (xorArea m (2 * y) high a) (sym (xor-at m (2 * y) (2 * p) (2 * q) high a e f))
-    ∙ xor-at m (2 * y + 1) (2 * p + 1) (2 * q + 1) low (xorArea m (2 * y) high a) e′ f′
+    → PairRead high low p q a e a′ → PairMade m y high low a e a′
+pair-made m y p q high low a e a′ h n i j i′ j′ r =
+    let c = xorArea m (2 * y) high a in
+    let first = sym (xor-at m (2 * y) (2 * p) (2 * q) high a i j) in
+    record {
+      entry = r .entry ∙ both-entry high low a p q h n c first ∙ ap₂ (λ (p q : ℕ). pack (nibble c p) (nibble c q)) i′ j′;
+      below = r .below;
+      area = r .area ∙ xor-both high low a p q h n c first ∙ xor-at m (2 * y + 1) (2 * p + 1) (2 * q + 1) low c i′ j′;
+    }
 
 -- Entry and exit: one group of 16 words.
 pub below-480 : {m x : ℕ} → XorIn m x → m ≡ 16 → x < 480
 below-480 k e = ⊎-elim (λ p. p .1) (λ p. absurd (omega arith)) k
 
-pub xor-16 : (m x : ℕ) (t a a′ : List ℕ) → XorIn m x → m ≡ 16
-    → a′ ≡ setNibble a (x % 32) (nibble t (pack (nibble a (x % 32)) (nibble a (x + 32))))
-    → a′ ≡ xorArea m x t a
-xor-16 m x t a a′ k e f =
+pub xor-16 : {m x : ℕ} {t a a′ : List ℕ} {i : ℕ} → XorIn m x → m ≡ 16 → XorRead t (x % 32) (x + 32) a i a′ → XorMade m x t a i a′
+xor-16 {x = x} {t} {a} {a′} {i} k e r =
     let h = below-480 k e in
-    f ∙ xor-at 16 x (x % 32) (x + 32) t a (omega arith) (omega arith) ∙ ap (λ (m : ℕ). xorArea m x t a) (sym e)
+    rw e (xor-made 16 x (x % 32) (x + 32) t a i a′ (omega arith) (omega arith) r)
 
-pub xor-pair-16 : (m y : ℕ) (high low a a′ : List ℕ) → XorIn m (2 * y + 1) → m ≡ 16 → length a ≡ 256
-    → a′ ≡ xorByte high low (y % 16) (y + 16) a
-    → a′ ≡ xorArea m (2 * y + 1) low (xorArea m (2 * y) high a)
-xor-pair-16 m y high low a a′ k e l f =
+pub xor-pair-16 : {m y : ℕ} {high low a a′ : List ℕ} {i : ℕ} → XorIn m (2 * y + 1) → m ≡ 16 → length a ≡ 256
+    → PairRead high low (y % 16) (y + 16) a i a′ → PairMade m y high low a i a′
+xor-pair-16 {y = y} {high} {low} {a} {a′} {i} k e l r =
     let h : y < 240 = omega (arith, below-480 k e) in
-    f
-    ∙ xor-pair-at 16 y (y % 16) (y + 16) high low a (omega arith) (λ z. omega arith) (omega arith) (omega arith) (omega arith) (omega arith)
-    ∙ ap (λ (m : ℕ). xorArea m (2 * y + 1) low (xorArea m (2 * y) high a)) (sym e)
+    rw e
+    (pair-made 16 y (y % 16) (y + 16) high low a i a′ (omega arith) (λ z. omega arith) (omega arith) (omega arith) (omega arith) (omega arith) r)
 
 -- A half: four groups of 4 words.
 pub is-4 : {m x : ℕ} → XorIn m x → (m ≡ 16 → ⊥) → (m ≡ 4) × (x < 96)
 is-4 k n = ⊎-elim (λ p. absurd (n (p .0))) (λ p. p) k
 
-pub xor-4 : (m x : ℕ) (t a a′ : List ℕ) → XorIn m x → (m ≡ 16 → ⊥)
-    → a′ ≡ setNibble a (x / 24 * 32 + x % 8) (nibble t (pack (nibble a (x / 24 * 32 + x % 8)) (nibble a (x / 24 * 32 + 8 + x % 24))))
-    → a′ ≡ xorArea m x t a
-xor-4 m x t a a′ k n f =
+pub xor-4 : {m x : ℕ} {t a a′ : List ℕ} {i : ℕ} → XorIn m x → (m ≡ 16 → ⊥)
+    → XorRead t (x / 24 * 32 + x % 8) (x / 24 * 32 + 8 + x % 24) a i a′ → XorMade m x t a i a′
+xor-4 {x = x} {t} {a} {a′} {i} k n r =
     let h = is-4 k n in
-    f
-    ∙ xor-at 4 x (x / 24 * 32 + x % 8) (x / 24 * 32 + 8 + x % 24) t a (omega arith) (omega arith)
-    ∙ ap (λ (m : ℕ). xorArea m x t a) (sym (h .0))
+    rw (h .0) (xor-made 4 x (x / 24 * 32 + x % 8) (x / 24 * 32 + 8 + x % 24) t a i a′ (omega arith) (omega arith) r)
 
-pub xor-pair-4 : (m y : ℕ) (high low a a′ : List ℕ) → XorIn m (2 * y + 1) → (m ≡ 16 → ⊥) → length a ≡ 256
-    → a′ ≡ xorByte high low (y / 12 * 16 + y % 4) (y / 12 * 16 + 4 + y % 12) a
-    → a′ ≡ xorArea m (2 * y + 1) low (xorArea m (2 * y) high a)
-xor-pair-4 m y high low a a′ k n l f =
+pub xor-pair-4 : {m y : ℕ} {high low a a′ : List ℕ} {i : ℕ} → XorIn m (2 * y + 1) → (m ≡ 16 → ⊥) → length a ≡ 256
+    → PairRead high low (y / 12 * 16 + y % 4) (y / 12 * 16 + 4 + y % 12) a i a′ → PairMade m y high low a i a′
+xor-pair-4 {y = y} {high} {low} {a} {a′} {i} k n l r =
     let h = is-4 k n in
     let turn : 2 * y / 8 ≡ y / 4 = omega arith in
     let turn′ : (2 * y + 1) / 8 ≡ y / 4 = omega arith in
     let group : y / 4 / 3 ≡ y / 12 = omega arith in
     let word : y % 12 ≡ y / 4 % 3 * 4 + y % 4 = omega arith in
-    f
-    ∙ xor-pair-at 4 y (y / 12 * 16 + y % 4) (y / 12 * 16 + 4 + y % 12) high low a (omega arith) (λ z. omega arith)
+    rw (h .0)
+    (pair-made 4 y (y / 12 * 16 + y % 4) (y / 12 * 16 + 4 + y % 12) high low a i a′ (omega arith) (λ z. omega arith)
     (rw (turn, group) (omega arith)) (rw (turn, group, word) (omega arith))
-    (rw (turn′, group) (omega arith)) (rw (turn′, group, word) (omega arith))
-    ∙ ap (λ (m : ℕ). xorArea m (2 * y + 1) low (xorArea m (2 * y) high a)) (sym (h .0))
+    (rw (turn′, group) (omega arith)) (rw (turn′, group, word) (omega arith)) r)
 
 pub length-xor : (m x : ℕ) (t a : List ℕ) → length (xorArea m x t a) ≡ length a
 unfolding xorArea setNibble
@@ -141,40 +149,55 @@ module _ (S : Shape) (j : ℕ) (t : List ℕ) (w : State) where
   unfolding lookupIn
   at-last x e h l = rw (e, le-ltb j 16 h, eq-eqb (suc j) (layerLookups (S .width)) l)
 
+-- ---- the place that it reads
+-- The entry that an XOR lookup of width m read is there.
+xor-place : (S : Shape) (j from m : ℕ) {t : List ℕ} (s : List ℕ) {a : List ℕ} {i : ℕ} {a′ : List ℕ} → m ≡ S .width → 16 ≤ j → XorMade m (j - 16) t a i a′
+    → nibblePlace from i ≡ readIn S j from s a
+xor-place S j from m s {a} e h g =
+    ap (nibblePlace from) (g .entry) ∙ ap (λ (m : ℕ). nibblePlace from (xorIndex m (j - 16) a)) e ∙ sym (read-xor S j from s a h)
+
 -- ---- the same, from what the parts of the code left
-module _ {S : Shape} {j m : ℕ} {t s a : List ℕ} (e : m ≡ S .width) where
-  pub by-spread : {i : ℕ} {a′ : List ℕ} → j < 16 → i ≡ S .source j → a′ ≡ paste a (j * m) (drop (at s i * m) t) m
-      → length a′ ≡ length a → LookedUp S j t s a s a′
+module _ {S : Shape} {j from m : ℕ} {t s a : List ℕ} (e : m ≡ S .width) where
+  pub by-spread : {i r : ℕ} {a′ : List ℕ} → j < 16 → i ≡ S .source j → SpreadRead t m j (at s i) a r a′
+      → LookedUp S j t from s a (record { offset = from + r; half = 0 }) s a′
   unfolding spreadArea
-  by-spread h f g l =
+  by-spread {i} h f g =
+      let place = ap {B = EntryPlace} (λ (r : ℕ). record { offset = from + r; half = 0 }) (g .word) in
       record {
+        read = place ∙ ap₂ (λ (m i : ℕ). wordPlace from m (at s i)) e f ∙ sym (read-spread S j from s a h);
+        table = rw (place, sym e) (word-within m j from (at s i) h (omega (arith, g .word, g .ends)));
         walk =
             λ n.
             at-spread S j t (stateAt n s a) h
-            ∙ ap (stateAt (suc n) s) (ap₂ (λ (m i : ℕ). paste a (j * m) (drop (at s i * m) t) m) (sym e) (sym f) ∙ sym g);
+            ∙ ap (stateAt (suc n) s) (ap₂ (λ (m i : ℕ). paste a (j * m) (drop (at s i * m) t) m) (sym e) (sym f) ∙ sym (g .area));
         kept = refl;
-        long = l;
+        long = g .long;
       }
 
-  pub by-xor : {n : ℕ} {a′ : List ℕ} → 16 ≤ j → a′ ≡ xorArea m (j - 16) t a → n ≡ layerLookups m → (j + 1 ≡ n → ⊥) → LookedUp S j t s a s a′
-  by-xor h g f l =
+  pub by-xor : {n i : ℕ} {r : EntryPlace} {a′ : List ℕ} → 16 ≤ j → XorMade m (j - 16) t a i a′ → r ≡ nibblePlace from i → n ≡ layerLookups m
+      → (j + 1 ≡ n → ⊥) → LookedUp S j t from s a r s a′
+  by-xor h g o f l =
       record {
+        read = o ∙ xor-place S j from m s e h g;
+        table = rw (o, sym e) (nibble-within m j from _ h (g .below));
         walk =
             λ n.
             at-xor S j t (stateAt n s a) (j - 16) refl h (λ z. l (add-one j ∙ z ∙ ap layerLookups (sym e) ∙ sym f))
-            ∙ ap (stateAt (suc n) s) (ap (λ (m : ℕ). xorArea m (j - 16) t a) (sym e) ∙ sym g);
+            ∙ ap (stateAt (suc n) s) (ap (λ (m : ℕ). xorArea m (j - 16) t a) (sym e) ∙ sym (g .area));
         kept = refl;
-        long = ap length g ∙ length-xor m (j - 16) t a;
+        long = ap length (g .area) ∙ length-xor m (j - 16) t a;
       }
 
-  pub by-last : {n : ℕ} {x s′ a′ : List ℕ} → 16 ≤ j → x ≡ xorArea m (j - 16) t a → n ≡ layerLookups m → j + 1 ≡ n → s′ ≡ sums m x → a′ ≡ zeroArea
-      → length s ≡ 16 → length a ≡ 256 → LookedUp S j t s a s′ a′
-  by-last {x = x} h g f l p q k b =
+  pub by-last : {n i : ℕ} {r : EntryPlace} {x s′ a′ : List ℕ} → 16 ≤ j → XorMade m (j - 16) t a i x → r ≡ nibblePlace from i → n ≡ layerLookups m
+      → j + 1 ≡ n → s′ ≡ sums m x → a′ ≡ zeroArea → length s ≡ 16 → length a ≡ 256 → LookedUp S j t from s a r s′ a′
+  by-last {x = x} h g o f l p q k b =
       record {
+        read = o ∙ xor-place S j from m s e h g;
+        table = rw (o, sym e) (nibble-within m j from _ h (g .below));
         walk =
             λ n.
             at-last S j t (stateAt n s a) (j - 16) refl h (sym (add-one j) ∙ l ∙ f ∙ ap layerLookups e)
-            ∙ ap₂ (stateAt (suc n)) (ap (λ (m : ℕ). sums m (xorArea m (j - 16) t a)) (sym e) ∙ ap (sums m) (sym g) ∙ sym p) (sym q);
+            ∙ ap₂ (stateAt (suc n)) (ap (λ (m : ℕ). sums m (xorArea m (j - 16) t a)) (sym e) ∙ ap (sums m) (sym (g .area)) ∙ sym p) (sym q);
         kept = ap length p ∙ length-sums m x ∙ sym k;
         long = ap length q ∙ length-replicate {A = ℕ} 256 0 ∙ sym b;
       }

@@ -1,22 +1,24 @@
--- Laws, not definitions: all lookups of a stage or half, made in place.
+-- Laws, not definitions: all lookups of a stage or half, made in place, and the place that the last one reads.
 -- Assumes nothing.
 use mathlib.Core.List.{List}
 use mathlib.Core.Logic.{⊎-elim, _⊎_, inl, inr}
-use mathlib.Core.Path.{_≡_, refl, sym, ap, _∙_}
+use mathlib.Core.Path.{_≡_, refl, sym, ap, ap₂, _∙_}
 use Prim.Native.Nat.{ℕ, suc, _+_, _-_, _*_, _/_, _%_, _≤_, _<_, min}
 use native.Mathlib.Numerals.{add-one}
 use native.Mathlib.Omega.{arith}
 use borrow.Author.Tests.{lt-ltb, le-ltb}
 use lib.ListN.{length, take, drop}
-use lib.Seq.{paste}
 use Rattle.bits.specs.Lists.{at}
 use Rattle.bits.proofs.laws.Lists.{cut, cut-is, length-cut}
 use Rattle.bits.proofs.laws.Multiples.{row-inside}
-use Rattle.network.specs.Lookups.{Shape, spreadArea, xorArea, sums}
+use Rattle.network.specs.Lookups.{Shape, spreadArea, xorIndex, xorArea, sums, zeroArea}
 use Rattle.network.specs.Order.{xors, layerLookups}
-use Rattle.network.specs.Sizes.{layerBytes}
+use Rattle.network.specs.Read.{nibblePlace, readIn}
+use Rattle.network.specs.Sizes.{offsetOf, layerBytes}
+use Rattle.network.specs.declared.EntryPlace.{EntryPlace}
 use Rattle.network.proofs.laws.Order.{layer-lookups}
-use Rattle.lookups.specs.InPlace.{XorIn, tableFrom, spreadsIn, xorsIn, sumsIn}
+use Rattle.network.proofs.laws.Read.{read-xor, nibble-within}
+use Rattle.lookups.specs.InPlace.{SpreadRead, XorIn, PairMade, XorsMade, LayerMade, tableFrom, spreadsIn, xorsIn, placeOfLast, sumsIn}
 use Rattle.lookups.proofs.laws.Layers.{length-xor, length-sums}
 
 -- ---- where the tables begin: of spread lookup p, and of XOR lookups 2y and 2y + 1
@@ -68,17 +70,16 @@ module _ {S : Shape} {set : List ℕ} {from m : ℕ} {s a₀ a : List ℕ} {p : 
   table-long h = length-cut set (spreadAt from m p) (256 * m) (table-ends h)
 
   pub spreads-more : (i : ℕ) (a′ : List ℕ) → p < 16 → i ≡ S .source p
-      → a′ ≡ paste a (p * m) (drop (at s i * m) (cut set (spreadAt from m p) (spreadAt from m p + 256 * m))) m
-      → length a′ ≡ length a → Spreads S set from m s a₀ a′ (p + 1)
+      → {r : ℕ} → SpreadRead (cut set (spreadAt from m p) (spreadAt from m p + 256 * m)) m p (at s i) a r a′ → Spreads S set from m s a₀ a′ (p + 1)
   unfolding spreadsIn spreadArea
-  spreads-more i a′ h f g l =
+  spreads-more i a′ h f g =
       record {
         within = omega arith;
         width = I .width;
         room = I .room;
-        long = l ∙ I .long;
+        long = g .long ∙ I .long;
         made =
-            g
+            g .area
             ∙ rw (cut-is set (spreadAt from m p) (256 * m), I .made, f, I .width, sym (spread-table set from (S .width) p h)) refl
             ∙ ap (λ (x : ℕ). spreadsIn S set from s x a₀) (sym (add-one p));
       }
@@ -88,14 +89,17 @@ module _ {S : Shape} {set : List ℕ} {from m : ℕ} {s a₀ a : List ℕ} {p : 
       let e : p ≡ 16 = omega arith in
       (I .made ∙ ap (λ (x : ℕ). spreadsIn S set from s x a₀) e, I .long)
 
--- ---- the loop over the XOR lookups, two a turn: y of n turns are made, and the area a₀ has become a
-pub record Xors (m : ℕ) (set : List ℕ) (from n : ℕ) (a₀ a : List ℕ) (y : ℕ) : Type 0 where
+-- ---- the loop over the XOR lookups, two a turn: y of n turns are made, the area a₀ has become a, and the last lookup has read entry e
+pub record Xors (m : ℕ) (set : List ℕ) (from n : ℕ) (a₀ : List ℕ) (e : ℕ) (a : List ℕ) (y : ℕ) : Type 0 where
   pub within : y ≤ n
   pub width : (m ≡ 4) ⊎ (m ≡ 16)
   pub twice : 2 * n ≡ xors m
+  pub some : 0 < n
   pub room : from + 4096 * m + n * 256 ≤ length set
   pub long : length a ≡ 256
   pub made : a ≡ xorsIn m set from (2 * y) a₀
+  pub entry : 0 < y → e ≡ xorIndex m (2 * y - 1) (xorsIn m set from (2 * y - 1) a₀)
+  pub below : e < 256
 
 xors-4 : xors 4 ≡ 96
 unfolding xors
@@ -105,19 +109,38 @@ xors-16 : xors 16 ≡ 480
 unfolding xors
 xors-16 = refl
 
--- The XOR lookups are all but the 16 spread lookups.
-pub spreads-least : (m all : ℕ) → all ≡ layerLookups m → 16 ≤ all
-spreads-least m all e = omega (arith, layer-lookups m)
+-- All lookups of a stage or half: 16 spread lookups, and an even number of XOR lookups.
+pub record Count (m all : ℕ) : Type 0 where
+  pub sum : all ≡ 16 + xors m
+  pub some : 96 ≤ xors m
+  pub most : xors m ≤ 480
+  pub even : xors m % 2 ≡ 0
 
-pub xors-none : {m : ℕ} {set : List ℕ} {from all : ℕ} {a : List ℕ} → (m ≡ 4) ⊎ (m ≡ 16) → all ≡ layerLookups m → from + layerBytes m ≤ length set
-    → length a ≡ 256 → Xors m set from ((all - 16) / 2) a a 0
+pub counted : (m all : ℕ) → (m ≡ 4) ⊎ (m ≡ 16) → all ≡ layerLookups m → Count m all
+counted m all k e = ⊎-elim (λ f. of 96 (ap xors f ∙ xors-4) (omega arith) (omega arith) refl) (λ f. of 480 (ap xors f ∙ xors-16) (omega arith) (omega arith) refl) k
+  where
+    of : (n : ℕ) → xors m ≡ n → 96 ≤ n → n ≤ 480 → n % 2 ≡ 0 → Count m all
+    of n f lo hi even = record { sum = e ∙ layer-lookups m; some = omega arith; most = omega arith; even = ap (λ (x : ℕ). x % 2) f ∙ even }
+
+pub xors-none : {m : ℕ} {set : List ℕ} {from all e : ℕ} {a : List ℕ} → (m ≡ 4) ⊎ (m ≡ 16) → all ≡ layerLookups m → from + layerBytes m ≤ length set
+    → length a ≡ 256 → e < 256 → Xors m set from ((all - 16) / 2) a e a 0
 unfolding xorsIn layerBytes
-xors-none {m = m} {all = all} k e b l =
-    let even : xors m % 2 ≡ 0 = ⊎-elim (λ f. omega (arith, ap xors f, xors-4)) (λ f. omega (arith, ap xors f, xors-16)) k in
-    let half : 2 * ((all - 16) / 2) ≡ xors m = omega (arith, layer-lookups m) in
-    record { within = omega arith; width = k; twice = half; room = omega arith; long = l; made = refl }
+xors-none {m = m} {all = all} k e b l h =
+    let N = counted m all k e in
+    let half : 2 * ((all - 16) / 2) ≡ xors m = omega (arith, N) in
+    record {
+      within = omega arith;
+      width = k;
+      twice = half;
+      some = omega (arith, N);
+      room = omega arith;
+      long = l;
+      made = refl;
+      entry = λ z. absurd (omega arith);
+      below = h;
+    }
 
-module _ {m : ℕ} {set : List ℕ} {from n : ℕ} {a₀ a : List ℕ} {y : ℕ} (I : Xors m set from n a₀ a y) where
+module _ {m : ℕ} {set : List ℕ} {from n : ℕ} {a₀ : List ℕ} {e : ℕ} {a : List ℕ} {y : ℕ} (I : Xors m set from n a₀ e a y) where
   xor-inside : y < n → XorIn m (2 * y + 1)
   xor-inside h =
       ⊎-elim
@@ -141,36 +164,86 @@ module _ {m : ℕ} {set : List ℕ} {from n : ℕ} {a₀ a : List ℕ} {y : ℕ}
     I .long,
   )
 
-  pub xors-more : {a′ : List ℕ} → y < n → a′ ≡ xorArea m (2 * y + 1) lowTable (xorArea m (2 * y) highTable a) → Xors m set from n a₀ a′ (y + 1)
+  -- The first of the two.
+  first-made : xorArea m (2 * y) highTable a ≡ xorsIn m set from (2 * y + 1) a₀
+  unfolding xorsIn
+  first-made =
+      let start : ℕ = pairAt from m y in
+      let one : suc (2 * y) ≡ 2 * y + 1 = omega arith in
+      let high = cut-is set start 128 ∙ sym (xor-table set from m (2 * y) start (omega arith)) in
+      ap₂ (xorArea m (2 * y)) high (I .made) ∙ ap (λ (x : ℕ). xorsIn m set from x a₀) one
+
+  pub xors-more : {i : ℕ} {a′ : List ℕ} → y < n → PairMade m y highTable lowTable a i a′ → Xors m set from n a₀ i a′ (y + 1)
   unfolding xorsIn
   xors-more h k =
       let start : ℕ = pairAt from m y in
-      let two : 2 * (y + 1) ≡ suc (suc (2 * y)) = omega arith in
-      let one : 2 * y + 1 ≡ suc (2 * y) = omega arith in
-      let high = xor-table set from m (2 * y) start (omega arith) in
-      let low = xor-table set from m (suc (2 * y)) (start + 128) (omega arith) in
+      let two : suc (2 * y + 1) ≡ 2 * (y + 1) = omega arith in
+      let one : 2 * y + 1 ≡ 2 * (y + 1) - 1 = omega arith in
+      let low = cut-is set (start + 128) 128 ∙ sym (xor-table set from m (2 * y + 1) (start + 128) (omega arith)) in
       record {
         within = omega arith;
         width = I .width;
         twice = I .twice;
+        some = I .some;
         room = I .room;
-        long = ap length k ∙ length-xor m (2 * y + 1) _ _ ∙ length-xor m (2 * y) _ a ∙ I .long;
-        made =
-            k
-            ∙ rw (cut-is set (start + 128) 128, cut-is set start 128, I .made, one, sym low, sym high) refl
-            ∙ ap (λ (x : ℕ). xorsIn m set from x a₀) (sym two);
+        long = ap length (k .area) ∙ length-xor m (2 * y + 1) _ _ ∙ length-xor m (2 * y) _ a ∙ I .long;
+        made = k .area ∙ ap₂ (xorArea m (2 * y + 1)) low first-made ∙ ap (λ (x : ℕ). xorsIn m set from x a₀) two;
+        entry =
+            λ z.
+            k .entry
+            ∙ ap (xorIndex m (2 * y + 1)) first-made
+            ∙ ap (λ (x : ℕ). xorIndex m x (xorsIn m set from x a₀)) one;
+        below = k .below;
       }
 
-  pub xors-all : n ≤ y → (a ≡ xorsIn m set from (xors m) a₀) × (length a ≡ 256)
+  pub xors-all : n ≤ y → XorsMade m set from a₀ e a
   xors-all h =
-      let e : 2 * y ≡ xors m = omega (arith, I .twice) in
-      (I .made ∙ ap (λ (x : ℕ). xorsIn m set from x a₀) e, I .long)
+      let all : 2 * y ≡ xors m = omega (arith, I .within, I .twice) in
+      record {
+        entry = I .entry (omega (arith, I .some)) ∙ ap (λ (x : ℕ). xorIndex m (x - 1) (xorsIn m set from (x - 1) a₀)) all;
+        below = I .below;
+        area = I .made ∙ ap (λ (x : ℕ). xorsIn m set from x a₀) all;
+        long = I .long;
+      }
 
 -- ---- all lookups
-pub sums-are : (S : Shape) (set : List ℕ) (from m : ℕ) (s a b d s′ : List ℕ) → m ≡ S .width → b ≡ spreadsIn S set from s 16 a
-    → d ≡ xorsIn m set from (xors m) b → s′ ≡ sums m d → s′ ≡ sumsIn S set from s a
-unfolding sumsIn
-sums-are S set from m s a b d s′ e f g h = h ∙ rw (g, f, e) refl
+-- The table of the last, of `all`, begins there, and it ends where the tables of the stage or half do.
+abbrev lastAt : ℕ → ℕ → ℕ → ℕ
+lastAt from m all = from + 4096 * m + (all - 17) * 128
+
+pub last-ends : (from m all bytes : ℕ) → (m ≡ 4) ⊎ (m ≡ 16) → all ≡ layerLookups m → from + layerBytes m ≤ bytes → lastAt from m all + 128 ≤ bytes
+unfolding layerBytes
+last-ends from m all bytes k e h = omega (arith, counted m all k e)
+
+-- The spread lookups leave the area b, the XOR lookups d, from which the sums s′ are taken.
+pub layer-made : {S : Shape} {set : List ℕ} {from m all : ℕ} {s a b d s′ a′ : List ℕ} {i : ℕ} {r : EntryPlace} → m ≡ S .width → (m ≡ 4) ⊎ (m ≡ 16) → all ≡ layerLookups m
+    → b ≡ spreadsIn S set from s 16 a → XorsMade m set from b i d → s′ ≡ sums m d → a′ ≡ zeroArea → r ≡ nibblePlace (lastAt from m all) i
+    → LayerMade S set from s a r s′ a′
+unfolding sumsIn placeOfLast
+layer-made {S} {set} {from} {m} {all} {s} {a} {b} {i = i} e k c f x g h o =
+    record { read = o ∙ read; table = rw (o, there, sym e) (nibble-within m (layerLookups m - 1) _ _ last-xor (x .below)); standing = g ∙ rw (x .area, f, e) refl; area = h }
+  where
+    N : Count m all
+    N = counted m all k c
+
+    last-xor : 16 ≤ layerLookups m - 1
+    last-xor = omega (arith, N, c)
+
+    there : lastAt from m all ≡ from + offsetOf m (layerLookups m - 1)
+    there =
+        let sixteen : min (layerLookups m - 1) 16 ≡ 16 = omega (arith, N, c) in
+        rw sixteen (omega (arith, N, c))
+
+    read : nibblePlace (lastAt from m all) i
+        ≡ readIn S (layerLookups (S .width) - 1) (from + offsetOf (S .width) (layerLookups (S .width) - 1)) s
+        (xorsIn (S .width) set from (xors (S .width) - 1) (spreadsIn S set from s 16 a))
+    read =
+        let j = layerLookups m - 1 in
+        let z : xors m - 1 ≡ j - 16 = omega (arith, N, c) in
+        ap₂ nibblePlace there (x .entry ∙ ap₂ (λ (n : ℕ) (b : List ℕ). xorIndex m n (xorsIn m set from (xors m - 1) b)) z f)
+        ∙ ap (λ (m : ℕ). nibblePlace (from + offsetOf m (layerLookups m - 1))
+        (xorIndex m (layerLookups m - 1 - 16) (xorsIn m set from (xors m - 1) (spreadsIn S set from s 16 a)))) e
+        ∙ sym (read-xor S (layerLookups (S .width) - 1) _ s _ (rw (sym e) last-xor))
 
 pub length-sums-in : (S : Shape) (set : List ℕ) (from : ℕ) (s a : List ℕ) → length (sumsIn S set from s a) ≡ 16
 unfolding sumsIn

@@ -17,7 +17,7 @@ abbrev pub widthsIn : List Shape → List ℕ
 widthsIn Ss = map (λ (S : Shape). S .width) Ss
 
 -- ---- past layers
-past : (t n k : ℕ) → t + n + k - t ≡ n + k
+pub past : (t n k : ℕ) → t + n + k - t ≡ n + k
 past t n k = omega arith
 
 pub lookup-past : (As Bs : List Shape) (k : ℕ) (t : List ℕ) (w : State) → lookupAt (As ++ Bs) (lookupsIn (widthsIn As) + k) t w ≡ lookupAt Bs k t w

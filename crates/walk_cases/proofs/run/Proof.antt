@@ -1,5 +1,6 @@
--- `walk_cases::run` ensures nothing: what is left is that it ends and reads within the order's 8 bytes. The invariant: the array keeps them, and at most
--- 10,000 orders are left, which are the measure. The number of six bytes is below 2^48, since each `three` is below 2^24.
+-- `walk_cases::run` ensures nothing: what is left is that it ends, reads within the order's 8 bytes and gives the memory back as long as it was. The
+-- invariant: the array and the memory keep their lengths, and at most 100,000 orders are left, which are the measure. The number of six bytes is below
+-- 2^48, since each `three` is below 2^24.
 -- Assumes nothing.
 use mathlib.Core.Path.{_≡_}
 use lib.ListN.{length}
@@ -9,10 +10,10 @@ use Rattle.walk_cases.proofs.run.Statement.{statement}
 use Rattle.walk_cases.proofs.run.Tie as tie
 
 abbrev Inv-loop : tie.InvT-loop
-Inv-loop mem walk₀ h₀ left₀ walk h left = (left ≤ 10000) × (length h ≡ 8)
+Inv-loop mem₀ walk₀ h₀ left₀ mem walk h left = (left ≤ 100000) × (length h ≡ 8) × (length mem ≡ length mem₀)
 
 abbrev μ-loop : tie.MeasureT-loop
-μ-loop mem walk₀ h₀ left₀ walk h left = left
+μ-loop mem₀ walk₀ h₀ left₀ mem walk h left = left
 
 -- ---- the needs that the search closes
 loop-holds : tie.Need-loop-holds Inv-loop μ-loop
@@ -23,6 +24,9 @@ slice-aggregate-read-full c = search needs
 
 read-full-requires : tie.Need-read-full-requires Inv-loop μ-loop
 read-full-requires c κs = search needs
+
+same-length : tie.Need-same-length Inv-loop μ-loop
+same-length c = search needs
 
 returns : tie.Need-returns Inv-loop μ-loop
 returns c = search needs
@@ -78,6 +82,9 @@ loop-less c = search needs
 loop-again : tie.Need-loop-again Inv-loop μ-loop
 loop-again c = search needs
 
+same-length-2 : tie.Need-same-length-2 Inv-loop μ-loop
+same-length-2 c = search needs
+
 returns-2 : tie.Need-returns-2 Inv-loop μ-loop
 returns-2 c = search needs
 
@@ -90,6 +97,7 @@ run-spec =
     loop-holds
     slice-aggregate-read-full
     read-full-requires
+    same-length
     returns
     array-read-three
     array-read-three-2
@@ -108,4 +116,5 @@ run-spec =
     sub-left
     loop-less
     loop-again
+    same-length-2
     returns-2)

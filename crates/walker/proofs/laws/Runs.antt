@@ -26,13 +26,13 @@ use Rattle.whitebox.proofs.laws.Calls.{start-keeps, start-count}
 use Rattle.whitebox.proofs.laws.Judged.{stop-right, count-right}
 use Rattle.evaluate.specs.Held.{held}
 use Rattle.evaluate.specs.Contracts.{Opens}
-use Rattle.evaluate.specs.declared.walk.Move.{Move}
 use Rattle.evaluate.specs.declared.walk.Opening.{Opening}
 use Rattle.streams.specs.Lines.{causeLine, answerLine}
 use Rattle.streams.specs.Written.{Written}
 use Rattle.streams.specs.Received.{Received, joined, Front}
 use Rattle.walker.specs.Tables.{OverTables, Short, OverInput}
 use Rattle.walker.specs.Writes.{blank, walkerWrites, lineOf, Runs, ReadsEnough}
+use Rattle.walker.specs.declared.Walked.{Walked}
 use Rattle.walker.proofs.laws.Tables.{received-more}
 use Rattle.walker.proofs.laws.Joined.{joined-more, joined-count, joined-bytes, joined-walk}
 
@@ -148,7 +148,7 @@ module _ (nr got : ℕ) (array : List ℕ) (f : Front got array) (l : length arr
         written = rw (block-refused nr block (joined []) (sym (p .answer) ∙ e)) w;
       }
 
-  module _ (s : o .answer ≡ Accepted) {m : Move} (i : OverInput nr (held (o .walk)) (m .answer) (held (m .walk))) where
+  module _ (s : o .answer ≡ Accepted) {m : Walked} (i : OverInput nr (held (o .walk)) (m .answer) (held (m .walk))) where
     started-right : judgeStart (length block) ≡ Accepted
     started-right = sym (p .answer) ∙ s
 

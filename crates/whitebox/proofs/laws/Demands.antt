@@ -44,9 +44,10 @@ use Rattle.whitebox.specs.Parts.{Parts, Fine}
 use Rattle.whitebox.specs.PlainCount.{argsOf, plain, plainCount, Lent, dueServed, seen}
 use Rattle.whitebox.specs.Values.{valuesAt, values, ended, dueStanding, dueArea, stateDue}
 use Rattle.whitebox.proofs.laws.Bundles.{codings-sound, encodings-agree, encoding-is}
-use Rattle.whitebox.proofs.laws.Calls.{Known, count-le, block-is, serve-is, last-is, straight-reply, straight, alike-seen}
+use Rattle.whitebox.proofs.laws.Calls.{count-le}
 use Rattle.whitebox.proofs.laws.Joined.{made-in-set}
 use Rattle.whitebox.proofs.laws.Judged.{presented-right, presented-was}
+use Rattle.whitebox.proofs.laws.Served.{Known, block-is, serve-is, last-is, straight-reply, straight, alike-seen}
 use Rattle.whitebox.proofs.laws.Set.{widths-are, due-count, due-step, due-end}
 use Rattle.whitebox.proofs.laws.Ciphers.{parts-fine, parts-read, result-is, cipher-block, other-undoes}
 use Rattle.whitebox.specs.Tables.{layers}

@@ -65,7 +65,7 @@ module _ (nr : ℕ) (mem : List ℕ) (long : length mem ≡ setBytes nr) (w : He
   one-accepted : judgeOne nr (length t) n ≡ Accepted
   one-accepted = sym (table-right nr (length t) n left part-long)
 
-  stop-accepted : judgeStop nr (length mem) (suc n) n ≡ Accepted
+  pub stop-accepted : judgeStop nr (length mem) (suc n) n ≡ Accepted
   stop-accepted = sym (stop-right nr (length mem) (suc n) n long left (omega arith))
 
   stop-handed : handed nr (toStop mem (suc n)) w ≡ changed (step reads nr t) w

@@ -1,13 +1,14 @@
 -- Laws, not definitions: what start, moves and fetch are answered, by the tests of document 01's table "Turned down", one law for each outcome.
 -- Assumes nothing.
 use mathlib.Core.Bool.{Bool, _||_}
-use mathlib.Core.Path.{_≡_, sym, _∙_}
+use mathlib.Core.Path.{_≡_, refl, sym, _∙_}
 use Prim.Native.Nat.{ℕ, _≤_, _<_}
 use native.Mathlib.Decide.{ℕ-discrete, decLt}
 use native.Mathlib.Omega.{arith}
 use lib.Dec.{ltb}
 use borrow.Author.Tests.{lt-ltb, le-ltb}
-use Rattle.answers.specs.Answers.{refusedIf, wantsLength}
+use Rattle.answers.specs.Answers.{accepted, replyOf, refusedIf, wantsLength}
+use Rattle.answers.specs.declared.Answer.{Answer}
 use Rattle.answers.specs.declared.Answer.the-variants.{Accepted, Refused}
 use Rattle.answers.specs.declared.Refusal.{Refusal}
 use Rattle.answers.specs.declared.Refusal.the-variants.{SetLength, BlockLength, Stop, Unfinished}
@@ -72,6 +73,11 @@ module _ (nr len count : ℕ) where
 -- An answer is not both.
 pub differ : {r : Refusal} {A : Type 0} → Accepted ≡ Refused r → A
 differ e = let z : _≡_ {A = ℕ} 0 1 = cc in absurd (omega arith)
+
+-- Only an accepted call has that reply.
+pub reply-was : (a : Answer) → replyOf a ≡ accepted → a ≡ Accepted
+reply-was Accepted e = refl
+reply-was (Refused r) e = let z : _≡_ {A = ℕ} 0 1 = cc in absurd (omega arith)
 
 -- What a move of one lookup was lent, by what it was answered.
 pub record Right (nr len n : ℕ) : Type 0 where

@@ -8,13 +8,14 @@ use lib.ListN.{length}
 use Rattle.answers.specs.Answers.{accepted, replyOf, ifAccepted}
 use Rattle.answers.specs.declared.Answer.{Answer}
 use Rattle.answers.specs.declared.Answer.the-variants.{Accepted, Refused}
+use Rattle.answers.proofs.laws.Tests.{left-back}
 use Rattle.layout.specs.Ciphers.{kept, readsOf, invShifted}
-use Rattle.layout.specs.Stages.{shifted}
+use Rattle.layout.specs.Stages.{shifted, nowhere}
 use Rattle.layout.proofs.laws.Ciphers.{kept-names}
 use Rattle.network.specs.Lookups.{State}
 use Rattle.whitebox.specs.Bundles.{madeSet, madeTable}
 use Rattle.whitebox.specs.Calls.{Held, holding, changed, started, Call, toStop, oneLookup, fetch, step, advance, answer, handed, blockLeft}
-use Rattle.whitebox.specs.Calls.{judgeStop, judgeOne, reply}
+use Rattle.whitebox.specs.Calls.{judgeStop, judgeOne, reply, readNext, lastOffset, passedOn}
 use Rattle.whitebox.specs.Named.{SameCipher, withKept, ActsAsKept, MovesHandBackKept, RefusedLeaves, NotRefusedForCipher}
 
 -- ---- numbers that name one cipher
@@ -39,15 +40,17 @@ abbrev lookupOver : ℕ → List ℕ → ℕ → State → State
 lookupOver nr mem c = step (readsOf c) nr mem
 
 -- The number kept reads as the number does.
-reads-kept : (f : (ℕ → ℕ) → State) (c : ℕ) → f (readsOf c) ≡ f (readsOf (kept c))
+pub reads-kept : {A : Type 0} (f : (ℕ → ℕ) → A) (c : ℕ) → f (readsOf c) ≡ f (readsOf (kept c))
 reads-kept f c = ap f (sym (kept-names c shifted invShifted))
 
 pub acts-as-kept : ActsAsKept
-unfolding answer handed blockLeft
+unfolding answer handed passedOn blockLeft
 acts-as-kept nr (toStop mem stop) w =
     let f = lookupsTo nr mem stop w in
     record {
       same-reply = refl;
+      same-offset =
+          reads-kept (λ reads. ifAccepted (answer nr (toStop mem stop) w) (lastOffset reads nr mem (stop - w .state .count) (w .state)) (nowhere nr)) (w .cipher);
       same-block = refl;
       same-walk =
           either-way (judgeStop nr (length mem) stop (w .state .count)) (f (w .cipher)) (f (kept (w .cipher))) w
@@ -57,12 +60,13 @@ acts-as-kept nr (oneLookup mem) w =
     let f = lookupOver nr mem in
     record {
       same-reply = refl;
+      same-offset = reads-kept (λ reads. ifAccepted (answer nr (oneLookup mem) w) (readNext reads nr (w .state) .offset) (nowhere nr)) (w .cipher);
       same-block = refl;
       same-walk =
           either-way (judgeOne nr (length mem) (w .state .count)) (f (w .cipher)) (f (kept (w .cipher))) w
           (reads-kept (λ reads. step reads nr mem (w .state)) (w .cipher));
     }
-acts-as-kept nr (fetch block) w = record { same-reply = refl; same-block = refl; same-walk = refl }
+acts-as-kept nr (fetch block) w = record { same-reply = refl; same-offset = refl; same-block = refl; same-walk = refl }
 
 -- ---- an accepted move
 kept-back : (a : Answer) (f : State → State) (w : Held) → replyOf a ≡ accepted → ifAccepted a (changed f w) w .cipher ≡ kept (w .cipher)
@@ -77,11 +81,7 @@ moves-hand-back-kept nr w =
       one = λ mem e. kept-back (judgeOne nr (length mem) (w .state .count)) (lookupOver nr mem (w .cipher)) w e;
     }
 
--- ---- a refused call: where the answer is no refusal, it is accepted
-left-back : (a : Answer) (new w : Held) → (replyOf a ≡ accepted → ⊥) → ifAccepted a new w ≡ w
-left-back Accepted new w n = absurd (n refl)
-left-back (Refused r) new w n = refl
-
+-- ---- a refused call
 pub refused-leaves : RefusedLeaves
 unfolding answer handed
 refused-leaves nr w = record { refused = refused; fetched = λ block. refl }

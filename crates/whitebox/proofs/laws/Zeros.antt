@@ -16,7 +16,7 @@ use Rattle.answers.proofs.laws.Tests.{left-new}
 use Rattle.bits.specs.Lists.{at}
 use Rattle.bits.specs.Nibbles.{pack, half, nibble, setNibble}
 use Rattle.bits.proofs.laws.Lists.{tabulate-ext, zeros, zero-at}
-use Rattle.network.specs.Lookups.{State, stateAt, zeroArea, Shape, spreadArea, xorArea, sums, lookupIn, lookup}
+use Rattle.network.specs.Lookups.{State, stateAt, zeroArea, Shape, spreadArea, xorArea, sums, areaIn, leaving, lookupIn, lookup}
 use Rattle.bits.proofs.laws.Multiples.{product-le}
 use Rattle.network.specs.Order.{sumPlace, layerLookups}
 use Rattle.network.specs.Sizes.{sizeOf}
@@ -93,23 +93,27 @@ sums-zero m n = tabulate-ext 16 _ (λ i. 0) (λ i h. zero-at n _) ∙ zeros 16
 abbrev zeroState : ℕ → State
 zeroState c = stateAt c (noughts 16) zeroArea
 
-on-test : (b : Bool) {s t u : State} → (b ≡ true → s ≡ u) → (b ≡ false → t ≡ u) → cond b s t ≡ u
+on-test : {A : Type 0} (b : Bool) {s t u : A} → (b ≡ true → s ≡ u) → (b ≡ false → t ≡ u) → cond b s t ≡ u
 on-test true p q = p refl
 on-test false p q = q refl
 
-lookup-zero : (S : Shape) (j k c : ℕ) → S .width ≤ 16 → (j < 16 → S .width ≤ k) → lookupIn S j (noughts k) (zeroState c) ≡ zeroState (suc c)
-unfolding lookupIn
-lookup-zero S j k c w f =
-    let xored : xorArea (S .width) (j - 16) (noughts k) zeroArea ≡ zeroArea = xor-zero (S .width) (j - 16) k 256 in
+area-zero : (S : Shape) (j k c : ℕ) → S .width ≤ 16 → (j < 16 → S .width ≤ k) → areaIn S j (noughts k) (zeroState c) ≡ zeroArea
+area-zero S j k c w f =
     on-test (ltb j 16)
     (λ e.
     let h : j < 16 = ltb-true j 16 e in
-    ap (stateAt (suc c) (noughts 16))
-    (spread-zero (S .width) (S .source j) j k 16 256 (omega (arith, product-le j (S .width) 15 16 (omega arith) w)) (f h)))
+    spread-zero (S .width) (S .source j) j k 16 256 (omega (arith, product-le j (S .width) 15 16 (omega arith) w)) (f h))
+    (λ e. xor-zero (S .width) (j - 16) k 256)
+
+leaving-zero : (S : Shape) (j c : ℕ) → leaving S j zeroArea (zeroState c) ≡ zeroState (suc c)
+leaving-zero S j c =
+    on-test (ltb j 16) (λ e. refl)
     (λ e.
-    on-test (eqb (suc j) (layerLookups (S .width)))
-    (λ d. ap (λ (l : List ℕ). stateAt (suc c) l zeroArea) (ap (sums (S .width)) xored ∙ sums-zero (S .width) 256))
-    (λ d. ap (stateAt (suc c) (noughts 16)) xored))
+    on-test (eqb (suc j) (layerLookups (S .width))) (λ d. ap (λ (l : List ℕ). stateAt (suc c) l zeroArea) (sums-zero (S .width) 256)) (λ d. refl))
+
+lookup-zero : (S : Shape) (j k c : ℕ) → S .width ≤ 16 → (j < 16 → S .width ≤ k) → lookupIn S j (noughts k) (zeroState c) ≡ zeroState (suc c)
+unfolding lookupIn
+lookup-zero S j k c w f = ap (λ (a : List ℕ). leaving S j a (zeroState c)) (area-zero S j k c w f) ∙ leaving-zero S j c
 
 -- ---- the walk, over memory of n zeros that is long enough
 module _ (reads : ℕ → ℕ) (nr n : ℕ) (room : tablesBytes nr ≤ n) where

@@ -1,6 +1,8 @@
 -- `chains::orders::serve_one` meets its contract. Each order has a law of `laws.Orders`, whose premises are the tests on the way and what the call that it
--- is ensures: a move of one lookup over the table of the count (`one-served`), a fetch (`fetch-served`), and else a move to a stop (`stop-served`).
+-- is ensures: a move of one lookup over the table of the count (`one-served`), a fetch, which makes no lookup (`fetch-served`), and else a move to a stop (`stop-served`).
 -- Assumes nothing.
+use mathlib.Core.Path.{sym}
+use Rattle.layout.proofs.laws.Cases.{starred}
 use Rattle.chains.proofs.laws.Orders.{one-served, fetch-served, stop-served}
 use borrow.Author.Needs.{needs}
 use Rattle.chains.proofs.orders.serve_one.Statement.{statement}
@@ -10,7 +12,7 @@ returns : tie.Need-returns
 returns c = search one-served
 
 returns-2 : tie.Need-returns-2
-returns-2 c = search fetch-served
+returns-2 c = fetch-served (search) (search) (sym (starred .no-lookup)) (search)
 
 returns-3 : tie.Need-returns-3
 returns-3 c = search stop-served

@@ -1,12 +1,16 @@
--- `evaluate::walk::advance` meets its contract. The loop's invariant, `Going` of `laws.Calls`: from the count reached, the lookups left up to the stop
--- give what all of them give from the walk held, and the lists have kept their lengths. A turn goes on by what `step` ensures, one lookup or
--- more (`going-more`); at the stop none is left (`going-all`), and the walk keeps the cipher, as `walk_for` ensures. The measure is the number of lookups left.
+-- `evaluate::walk::advance` meets its contract. The loop's invariant, `Going` of `laws.Calls`: the lookups from the walk held up to the count reached have
+-- left the standing bytes and the area, which have kept their lengths, and the offset is the last one's, none at the start (`going-none`). A turn goes on
+-- by what `step` ensures, one lookup or more (`going-more`); at the stop all are made (`going-all`), and the walk keeps the cipher, as `walk_for` ensures.
+-- The measure is the number of lookups left.
 -- Assumes nothing.
-use mathlib.Core.Path.{ap, _∙_}
+use mathlib.Core.Path.{_≡_, refl, sym, ap, _∙_}
 use Prim.Native.Nat.{_-_}
 use Rattle.network.specs.Lookups.{stateAt}
-use Rattle.whitebox.specs.Calls.{holding}
+use Rattle.whitebox.specs.Calls.{Held, holding}
 use Rattle.layout.specs.Ciphers.{readsOf}
+use Rattle.layout.proofs.laws.Cases.{starred}
+use Rattle.evaluate.specs.Held.{held}
+use Rattle.evaluate.specs.declared.walk.Walk.{Walk}
 use Rattle.evaluate.proofs.laws.Calls.{Going, going-none, going-more, going-all}
 use borrow.Author.Needs.{needs}
 use native.Mathlib.Omega.{arith}
@@ -14,16 +18,22 @@ use Rattle.evaluate.proofs.walk.advance.Statement.{statement}
 use Rattle.evaluate.proofs.walk.advance.Tie as tie
 
 abbrev Inv-loop : tie.InvT-loop
-Inv-loop set stop cipher standing₀ area₀ n₀ standing area n = Going (readsOf cipher) 10 set stop (stateAt n₀ standing₀ area₀) standing area n
+Inv-loop set stop cipher standing₀ area₀ n₀ offset₀ standing area n offset = Going (readsOf cipher) 10 set stop (stateAt n₀ standing₀ area₀) standing area n offset
 
 abbrev μ-loop : tie.MeasureT-loop
-μ-loop set stop cipher standing₀ area₀ n₀ standing area n = stop - n
+μ-loop set stop cipher standing₀ area₀ n₀ offset₀ standing area n offset = stop - n
+
+-- the count of a walk, from what it holds
+counts : {w : Walk} {v : Held} → held w ≡ v → w .count ≡ v .state .count
+counts e = ap (λ (v : Held). v .state .count) e
 
 loop-holds : tie.Need-loop-holds Inv-loop μ-loop
-loop-holds c = going-none (search) (search needs) (search needs)
+loop-holds c = going-none (search) (search needs) (search needs) (sym (starred .no-lookup))
 
 loop-less : tie.Need-loop-less Inv-loop μ-loop
-loop-less c = omega (arith, c .step .ensures)
+loop-less c =
+    let part : tie.After-step Inv-loop μ-loop = search in
+    omega (arith, part .step .ensures)
 
 loop-again : tie.Need-loop-again Inv-loop μ-loop
 loop-again c = search going-more
@@ -32,7 +42,13 @@ returns : tie.Need-returns Inv-loop μ-loop
 returns c =
     let turn : tie.At-loop Inv-loop μ-loop = search in
     let walk : tie.After-walk-for Inv-loop μ-loop = search in
-    walk .walk-for .ensures ∙ ap (holding _) (going-all (turn .loop .inv) (search))
+    let all = going-all (turn .loop .inv) (search) in
+    record {
+      answer = refl;
+      walk = walk .walk-for .ensures ∙ ap (holding _) (all .0);
+      offset = all .1;
+      inside = λ more. rw (counts (walk .walk-for .ensures)) (turn .loop .inv .inside (rw (counts (walk .walk-for .ensures)) at more));
+    }
 
 -- ---- the needs that the search closes
 step-requires : tie.Need-step-requires Inv-loop μ-loop

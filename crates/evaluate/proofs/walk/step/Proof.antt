@@ -1,13 +1,12 @@
 -- `evaluate::walk::step` meets its contract. `place_of` ensures the stage or half and the table of lookup n. Where n is the first lookup and the last
 -- is not behind the stop, `layer_in` makes them all (`all-advanced` of `laws.Calls`); else `lookup_in` makes one over its table, a part of the
--- set (`one-advanced`). What the two ask is laws of the place: its width, and that its tables lie within the set. They are over the sizes of a
--- set, `ten` are those of the code, and over the byte that the row shift reads, which is the cipher's.
+-- set (`one-advanced`). What the two ask is laws of the place: its width, and that its tables lie within the set, which is no longer than `offsetLimit`.
+-- They are over the sizes of a set, `ten` are those of the code, and over the byte that the row shift reads, which is the cipher's.
 -- Assumes nothing.
-use mathlib.Core.Path.{refl}
 use Prim.Native.Nat.{_+_, _≤_}
 use Rattle.layout.specs.Stages.{tenSetBytes}
 use Rattle.layout.proofs.laws.Ten.{ten}
-use Rattle.evaluate.proofs.laws.Calls.{place-width, place-room, part-within, part-fits, one-advanced, all-advanced}
+use Rattle.evaluate.proofs.laws.Calls.{place-width, place-holds, part-within, part-fits, one-advanced, all-advanced}
 use native.Mathlib.Omega.{arith}
 use borrow.Author.Needs.{needs}
 use Rattle.evaluate.proofs.walk.step.Statement.{statement}
@@ -27,8 +26,7 @@ layer-in-requires c κs =
     let first : tie.Then1 = search in
     let place : tie.After-place-of = search in
     let entry : tie.Start = search in (
-      place-room ten _ _ (omega arith) (place .place-of .ensures) _ (entry .pre .0) (first .if1 .taken),
-      place-width ten _ _ (omega arith) (place .place-of .ensures) _ refl,
+      place-holds ten _ _ (omega arith) (place .place-of .ensures) _ (entry .pre .0) (omega arith) (first .if1 .taken),
       entry .pre .4,
       entry .pre .3,
     )
@@ -46,7 +44,7 @@ lookup-in-requires : tie.Need-lookup-in-requires
 lookup-in-requires c κs =
     let place : tie.After-place-of = search in
     let entry : tie.Start = search in
-    (part-fits ten _ _ (omega arith) (place .place-of .ensures) _ (entry .pre .0), entry .pre .4, entry .pre .3)
+    (part-fits ten _ _ (omega arith) (place .place-of .ensures) _ (entry .pre .0), omega (arith, within (search)), entry .pre .4, entry .pre .3)
 
 returns-2 : tie.Need-returns-2
 returns-2 c = search (one-advanced, ten)
@@ -61,8 +59,8 @@ width-of-requires c κs = search needs
 sub-if2 : tie.Need-sub-if2
 sub-if2 c = search needs
 
-add-result : tie.Need-add-result
-add-result c = search needs
+add-end : tie.Need-add-end
+add-end c = search needs
 
 sub-lookup-in : tie.Need-sub-lookup-in
 sub-lookup-in c = search needs
@@ -70,8 +68,8 @@ sub-lookup-in c = search needs
 part-lookup-in-start : tie.Need-part-lookup-in-start
 part-lookup-in-start c = search needs
 
-add-result-2 : tie.Need-add-result-2
-add-result-2 c = search needs
+add-next : tie.Need-add-next
+add-next c = search needs
 
 pub step-spec : {M : Type 1} → statement M
 step-spec =
@@ -82,12 +80,12 @@ step-spec =
     lookups-of-requires
     sub-if2
     layer-in-requires
-    add-result
+    add-end
     returns
     add-to
     sub-lookup-in
     part-lookup-in-start
     part-lookup-in-end
     lookup-in-requires
-    add-result-2
+    add-next
     returns-2)

@@ -1,11 +1,11 @@
 -- `lookups::area::spread` meets its contract. The loop copies a word of the table into the area, byte by byte: the invariant is `Pasted` of bits,
 -- which also holds that word p ends within the area and the word of byte s within the table (`word-none` of `laws.Area`, `pasted-more`). Behind
--- the last byte the word is copied (`pasted-all`, `length-pasted`). No product wraps: a word has at most 16 bytes, and there are 256 of them.
+-- the last byte the word is copied (`word-read`). No product wraps: a word has at most 16 bytes, and there are 256 of them.
 -- Assumes nothing.
 use Prim.Native.Nat.{_-_}
 use Rattle.bits.proofs.laws.Multiples.{product-le}
-use Rattle.bits.proofs.laws.Pasted.{Pasted, pasted-more, pasted-all, length-pasted}
-use Rattle.lookups.proofs.laws.Area.{word-none}
+use Rattle.bits.proofs.laws.Pasted.{Pasted, pasted-more}
+use Rattle.lookups.proofs.laws.Area.{word-none, word-read}
 use native.Mathlib.Omega.{arith}
 use borrow.Author.Needs.{needs}
 use Rattle.lookups.proofs.area.spread.Statement.{statement}
@@ -37,7 +37,7 @@ returns : tie.Need-returns Inv-loop μ-loop
 returns c =
     let copied : tie.At-loop Inv-loop μ-loop = search in
     let widened : tie.After-widened Inv-loop μ-loop = search in
-    (rw (widened .widened .ensures .0) at (pasted-all (copied .loop .inv) (search)), length-pasted (copied .loop .inv) (search))
+    word-read (copied .loop .inv) (search) (widened .widened .ensures .0) (search) (search)
 
 -- ---- the needs that the search closes
 widened-requires : tie.Need-widened-requires Inv-loop μ-loop

@@ -1,5 +1,5 @@
 -- `lookups::area::xor` meets its contract. The code reads two nibbles, looks their entry up and writes it over the first: `setNibble` and `nibble`,
--- written out, so the result is the calls' equations put together.
+-- written out, so the area is the calls' equations put together, and the entry is the one that `index_of` ensures.
 -- Assumes nothing.
 use Rattle.bits.specs.Nibbles.{nibble, setNibble}
 use borrow.Author.Needs.{needs}
@@ -8,7 +8,9 @@ use Rattle.lookups.proofs.area.xor.Tie as tie
 
 returns : tie.Need-returns
 unfolding nibble setNibble
-returns c = cc
+returns c =
+    let index : tie.After-index-of = search in
+    record { entry = cc; below = index .index-of .ensures .1; area = cc }
 
 -- ---- the needs that the search closes
 element-copy-out-half-of : tie.Need-element-copy-out-half-of
@@ -22,6 +24,9 @@ element-copy-out-half-of-2 c = search needs
 
 half-of-requires-2 : tie.Need-half-of-requires-2
 half-of-requires-2 c κs = search needs
+
+index-of-requires : tie.Need-index-of-requires
+index-of-requires c κs = search needs
 
 xor-entry-requires : tie.Need-xor-entry-requires
 xor-entry-requires c κs = search needs
@@ -43,6 +48,7 @@ xor-spec =
     half-of-requires
     element-copy-out-half-of-2
     half-of-requires-2
+    index-of-requires
     xor-entry-requires
     element-copy-out-with-half
     with-half-requires

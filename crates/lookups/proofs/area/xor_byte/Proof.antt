@@ -1,5 +1,5 @@
 -- `lookups::area::xor_byte` meets its contract. The code reads two bytes, looks up an entry for the high halves and one for the low halves, and
--- writes both as one byte: `xorByte`, written out, so the result is the calls' equations put together.
+-- writes both as one byte: `xorByte`, written out, so the area is the calls' equations put together, and the entry is the one that `index_of` ensures.
 -- Assumes nothing.
 use Rattle.lookups.specs.InPlace.{xorByte}
 use borrow.Author.Needs.{needs}
@@ -8,7 +8,9 @@ use Rattle.lookups.proofs.area.xor_byte.Tie as tie
 
 returns : tie.Need-returns
 unfolding xorByte
-returns c = cc
+returns c =
+    let index : tie.After-index-of2 = search in
+    record { entry = cc; below = index .index-of2 .ensures .1; area = cc }
 
 -- ---- the needs that the search closes
 element-copy-out-a : tie.Need-element-copy-out-a
@@ -23,6 +25,9 @@ half-of-requires c κs = search needs
 half-of-requires-2 : tie.Need-half-of-requires-2
 half-of-requires-2 c κs = search needs
 
+index-of-requires : tie.Need-index-of-requires
+index-of-requires c κs = search needs
+
 xor-entry-requires : tie.Need-xor-entry-requires
 xor-entry-requires c κs = search needs
 
@@ -31,6 +36,9 @@ half-of-requires-3 c κs = search needs
 
 half-of-requires-4 : tie.Need-half-of-requires-4
 half-of-requires-4 c κs = search needs
+
+index-of-requires-2 : tie.Need-index-of-requires-2
+index-of-requires-2 c κs = search needs
 
 xor-entry-requires-2 : tie.Need-xor-entry-requires-2
 xor-entry-requires-2 c κs = search needs
@@ -52,9 +60,11 @@ xor-byte-spec =
     element-copy-out-b
     half-of-requires
     half-of-requires-2
+    index-of-requires
     xor-entry-requires
     half-of-requires-3
     half-of-requires-4
+    index-of-requires-2
     xor-entry-requires-2
     mul-area
     add-area

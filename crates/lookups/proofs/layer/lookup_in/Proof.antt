@@ -1,8 +1,8 @@
 -- `lookups::layer::lookup_in` meets its contract. Lookup j is of one of three kinds, each with a way out and a law of `laws.Layers`: below 16 a
 -- spread lookup, at the standing byte that `source_of` ensures for the cipher (`by-spread`); from 16 on an XOR lookup, which is all unless it is
 -- the last (`by-xor`); and the last, behind which the sums are copied to the standing bytes and the area is cleared (`by-last`). The laws' premises
--- are the tests on the way and what the calls ensure. What the calls ask is the width and the length of the table that a lookup of that kind has,
--- by the `requires`.
+-- are the tests on the way and what the calls ensure; the place is where `spread` or `xor_place` says. What the calls ask is the width and the length of
+-- the table that a lookup of that kind has, by the `requires`. No offset wraps: the table begins at `offsetLimit` at most, and the entry lies within it.
 -- Assumes nothing.
 use Rattle.lookups.proofs.laws.Layers.{spread-sized, xor-sized, xor-within, xor-width, xor-below, length-after-xor}
 use Rattle.lookups.proofs.laws.Layers.{by-spread, by-xor, by-last}
@@ -19,11 +19,21 @@ element-copy-out-spread c =
 spread-requires : tie.Need-spread-requires
 spread-requires c κs = search (needs, spread-sized)
 
+add-at : tie.Need-add-at
+add-at c =
+    let word : tie.After-spread = search in
+    omega (arith, word .spread .ensures)
+
 returns : tie.Need-returns
 returns c = search by-spread
 
 xor-in-requires : tie.Need-xor-in-requires
 xor-in-requires c κs = search (xor-within, xor-sized)
+
+xor-place-requires : tie.Need-xor-place-requires
+xor-place-requires c κs =
+    let summed : tie.After-xor-in = search in
+    (search, summed .xor-in .ensures .below)
 
 add-if2 : tie.Need-add-if2
 add-if2 c =
@@ -42,7 +52,7 @@ take-sums-requires c κs = search xor-width
 clear-requires : tie.Need-clear-requires
 clear-requires c κs =
     let summed : tie.After-xor-in = search in
-    length-after-xor _ _ _ _ _ _ (summed .xor-in .ensures) (search)
+    length-after-xor _ _ _ _ _ _ (summed .xor-in .ensures .area) (search)
 
 returns-3 : tie.Need-returns-3
 returns-3 c = search by-last
@@ -62,8 +72,10 @@ lookup-in-spec =
     source-of-requires
     element-copy-out-spread
     spread-requires
+    add-at
     returns
     xor-in-requires
+    xor-place-requires
     add-if2
     lookups-of-requires
     returns-2

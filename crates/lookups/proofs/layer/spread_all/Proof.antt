@@ -58,7 +58,7 @@ loop-again : tie.Need-loop-again Inv-loop μ-loop
 loop-again c =
     let turn : tie.At-loop Inv-loop μ-loop = search in
     let source : tie.After-source-of Inv-loop μ-loop = search in
-    spreads-more (turn .loop .inv) _ _ (search) (source .source-of .ensures .0) (c .spread .ensures .0) (c .spread .ensures .1)
+    spreads-more (turn .loop .inv) _ _ (search) (source .source-of .ensures .0) (c .spread .ensures)
 
 returns : tie.Need-returns Inv-loop μ-loop
 returns c =

@@ -1,21 +1,21 @@
 -- `lookups::layer::xor_all` meets its contract. The loop's invariant, `Xors` of `laws.Whole`: y of the turns are made, two XOR lookups each; the
 -- turns are half of the XOR lookups, their tables lie within the set, and the area has kept its length. A turn makes lookups 2y and 2y + 1 over
--- their tables, two parts of the set one behind the other (`pair-asked`, `xors-more`); behind the last turn all are made (`xors-all`). No sum
--- wraps: the tables end within the set.
+-- their tables, two parts of the set one behind the other (`pair-asked`, `xors-more`), and the entry is the second one's; behind the last turn all are made
+-- (`xors-all`). No sum wraps: the tables end within the set.
 -- Assumes nothing.
 use Prim.Native.Nat.{_+_, _-_, _*_, _≤_}
 use lib.ListN.{length}
-use Rattle.lookups.proofs.laws.Whole.{Xors, spreads-room, spreads-least, xors-none, pair-asked, xors-more, xors-all}
+use Rattle.lookups.proofs.laws.Whole.{Xors, spreads-room, counted, xors-none, pair-asked, xors-more, xors-all}
 use native.Mathlib.Omega.{arith}
 use borrow.Author.Needs.{needs}
 use Rattle.lookups.proofs.layer.xor_all.Statement.{statement}
 use Rattle.lookups.proofs.layer.xor_all.Tie as tie
 
 abbrev Inv-loop : tie.InvT-loop
-Inv-loop area₀ set from width start bytes y₀ area y = Xors width set from bytes area₀ area y
+Inv-loop area₀ set from width start bytes last₀ y₀ area last y = Xors width set from bytes area₀ last area y
 
 abbrev μ-loop : tie.MeasureT-loop
-μ-loop area₀ set from width start bytes y₀ area y = bytes - y
+μ-loop area₀ set from width start bytes last₀ y₀ area last y = bytes - y
 
 -- the tables of the spread lookups end within the set
 room : (s : tie.Start Inv-loop μ-loop) → s .args .from + 4096 * s .args .width ≤ length (s .args .set .now)
@@ -28,10 +28,10 @@ add-start : tie.Need-add-start Inv-loop μ-loop
 add-start c = omega (arith, room (search))
 
 sub-bytes : tie.Need-sub-bytes Inv-loop μ-loop
-sub-bytes c = spreads-least _ _ (c .lookups-of .ensures)
+sub-bytes c = omega (arith, counted _ _ (search) (c .lookups-of .ensures))
 
 loop-holds : tie.Need-loop-holds Inv-loop μ-loop
-loop-holds c = xors-none (search) (c .lookups-of .ensures) (search) (search)
+loop-holds c = xors-none (search) (c .lookups-of .ensures) (search) (search) (omega arith)
 
 xor-pair-in-requires : tie.Need-xor-pair-in-requires Inv-loop μ-loop
 xor-pair-in-requires c κs =

@@ -26,7 +26,7 @@ xor-requires : tie.Need-xor-requires
 xor-requires c κs = omega (arith, wide (search))
 
 returns : tie.Need-returns
-returns c = xor-16 _ _ _ _ _ (search) (search) (search)
+returns c = search xor-16
 
 mul-group : tie.Need-mul-group
 mul-group c = omega (arith, narrow (search))
@@ -44,7 +44,7 @@ xor-requires-2 : tie.Need-xor-requires-2
 xor-requires-2 c κs = omega (arith, narrow (search))
 
 returns-2 : tie.Need-returns-2
-returns-2 c = xor-4 _ _ _ _ _ (search) (search) (search)
+returns-2 c = search xor-4
 
 pub xor-in-spec : {M : Type 1} → statement M
 xor-in-spec =

@@ -26,7 +26,7 @@ xor-byte-requires : tie.Need-xor-byte-requires
 xor-byte-requires c κs = omega (arith, wide (search))
 
 returns : tie.Need-returns
-returns c = xor-pair-16 _ _ _ _ _ _ (search) (search) (search) (search)
+returns c = search xor-pair-16
 
 mul-group : tie.Need-mul-group
 mul-group c = omega (arith, narrow (search))
@@ -44,7 +44,7 @@ xor-byte-requires-2 : tie.Need-xor-byte-requires-2
 xor-byte-requires-2 c κs = omega (arith, narrow (search))
 
 returns-2 : tie.Need-returns-2
-returns-2 c = xor-pair-4 _ _ _ _ _ _ (search) (search) (search) (search)
+returns-2 c = search xor-pair-4
 
 pub xor-pair-in-spec : {M : Type 1} → statement M
 xor-pair-in-spec =
