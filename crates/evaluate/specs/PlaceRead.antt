@@ -11,7 +11,7 @@ use Rattle.network.specs.Read.{lookupFrom}
 use Rattle.network.specs.declared.EntryPlace.{EntryPlace}
 use Rattle.layout.specs.Ciphers.{readsOf}
 use Rattle.layout.specs.Stages.{shapeAt, lookups, setBytes, nowhere, tableOffset, stageOf, indexOf}
-use Rattle.whitebox.specs.Calls.{tablePart, toStop, oneLookup, placeRead}
+use Rattle.whitebox.specs.Calls.{tablePart, Call, toStop, oneLookup, placeRead}
 use Rattle.whitebox.specs.PlaceRead.{InTable}
 use Rattle.lookups.specs.InPlace.{LookedUp}
 use Rattle.evaluate.specs.Held.{held}
@@ -62,8 +62,7 @@ module _ (nr : ℕ) where
 
   -- ---- a move r that made no lookup: it is refused, or its stop is the count
   pub record NoneMade (w : Walk) (r : Move) : Type 0 where
-    pub stop-refused : (mem : List ℕ) (stop : ℕ) → Moves nr (toStop mem stop) w r → (r .answer ≡ Accepted → ⊥) → r .offset ≡ nowhere nr
-    pub one-refused : (table : List ℕ) → Moves nr (oneLookup table) w r → (r .answer ≡ Accepted → ⊥) → r .offset ≡ nowhere nr
+    pub refused : (c : Call) → Moves nr c w r → (r .answer ≡ Accepted → ⊥) → r .offset ≡ nowhere nr
     pub still : (mem : List ℕ) → Moves nr (toStop mem (w .count)) w r → r .offset ≡ nowhere nr
 
   abbrev pub NoLookupMade : Type 0

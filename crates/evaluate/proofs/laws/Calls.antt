@@ -8,6 +8,7 @@ use Prim.Native.Nat.{ℕ, _+_, _-_, _≤_, _<_}
 use native.Mathlib.Numerals.{add-one}
 use native.Mathlib.Omega.{arith}
 use lib.ListN.{length, take, drop, replicate, length-replicate}
+use Rattle.answers.specs.Answers.{accepted}
 use Rattle.answers.specs.declared.Answer.the-variants.{Accepted, Refused}
 use Rattle.answers.specs.declared.Refusal.{Refusal}
 use Rattle.answers.specs.declared.Refusal.the-variants.{SetLength, BlockLength, Stop, Unfinished}
@@ -24,12 +25,14 @@ use Rattle.layout.specs.Stages.{widthOf, shapeAt, shapes, lookups, setBytes, no
 use Rattle.layout.specs.declared.stage.Place.{Place}
 use Rattle.layout.proofs.laws.Lookup.{Sizes, Stands, stands, tables-in-set}
 use Rattle.layout.proofs.laws.Ranges.{by-stage}
-use Rattle.whitebox.specs.Calls.{Held, holding, toStop, oneLookup, started, judgeStop, judgeOne, judgeFetch, advance, readNext, lastOffset}
-use Rattle.whitebox.specs.Calls.{answer, handed, passedOn, blockLeft}
+use Rattle.whitebox.specs.Calls.{Held, holding, Call, toStop, oneLookup, started, judgeStop, judgeOne, judgeFetch, advance, readNext, lastOffset}
+use Rattle.whitebox.specs.Calls.{answer, reply, handed, passedOn, blockLeft}
 use Rattle.whitebox.specs.PlaceRead.{InTable}
 use Rattle.whitebox.proofs.laws.Judged as judged
+use Rattle.whitebox.proofs.laws.Judged.{differ, reply-was}
 use Rattle.whitebox.proofs.laws.Judged.{presented-wrong, presented-right, set-wrong, stop-right, none-left, table-wrong, table-right, block-wrong, count-wrong, count-right}
-use Rattle.whitebox.proofs.laws.PlaceRead.{in-table}
+use Rattle.whitebox.proofs.laws.Named.{refused-leaves}
+use Rattle.whitebox.proofs.laws.PlaceRead.{in-table, place-was-read}
 use Rattle.lookups.specs.InPlace.{offsetLimit, Fits, Holds, LookedUp, LayerMade, placeOfLast, sumsIn}
 use Rattle.bits.proofs.laws.Lists.{cut, cut-is, length-cut}
 use Rattle.lookups.proofs.laws.Whole.{length-sums-in}
@@ -213,21 +216,22 @@ start-done c block s w l e f =
     record { answer = j; walk = f ∙ ap (λ (x : List ℕ). holding (kept c) (stateAt 0 x zeroArea)) e ∙ left-new _ _ _ (sym j) }
 
 -- ---- a move: the answer, the walk handed back, and the offset passed on
--- A refused one has not moved.
-not-on : {nr : ℕ} {r : Refusal} {w : Walk} {m : Move} → Refuses nr r w m → w .count < m .walk .count → InTable nr (m .walk .count - 1) (m .offset)
-not-on d more = absurd (omega (arith, ap (λ (v : Walk). v .count) (d .walk)))
+-- One that is refused, as any call c: the definitions leave the walk and pass on the offset of no lookup, and the walk has not moved.
+turned-down : {nr : ℕ} (c : Call) {r : Refusal} {w : Walk} {m : Move} → Refuses nr r w m → Refused r ≡ answer nr c (held w) → Moves nr c w m
+turned-down {nr} c {w = w} d e =
+    let no : reply nr c (held w) ≡ accepted → ⊥ = λ a. differ (sym (reply-was _ a) ∙ sym e) in
+    record {
+      answer = d .answer ∙ e;
+      walk = ap held (d .walk) ∙ sym (refused-leaves nr (held w) .refused c no);
+      offset = d .offset ∙ sym (place-was-read .none nr (held w) .refused c no);
+      inside = λ more. absurd (omega (arith, ap (λ (v : Walk). v .count) (d .walk)));
+    }
 
--- It hands back m. A refused one leaves the walk as it was.
+-- A move to a stop, and a move of one lookup, which hand back m.
 module _ {nr count bytes : ℕ} (N : Sizes nr count bytes) (set : List ℕ) (stop : ℕ) (w : Walk) (m : Move) where
   not-moved : (r : Refusal) → Refuses nr r w m → Refused r ≡ judgeStop nr (length set) stop (w .count) → Moves nr (toStop set stop) w m
-  unfolding answer handed passedOn
-  not-moved r d e =
-      record {
-        answer = d .answer ∙ e;
-        walk = ap held (d .walk) ∙ left-old _ r _ (held w) (sym e);
-        offset = d .offset ∙ left-old _ r _ (nowhere nr) (sym e);
-        inside = not-on d;
-      }
+  unfolding answer
+  not-moved r d e = turned-down (toStop set stop) d e
 
   pub wrong-set : Refuses nr SetLength w m → (length set ≡ bytes → ⊥) → Moves nr (toStop set stop) w m
   wrong-set d n = not-moved SetLength d (set-wrong nr _ _ _ (λ e. n (e ∙ N .all-bytes)))
@@ -255,14 +259,8 @@ module _ {nr count bytes : ℕ} (N : Sizes nr count bytes) (set : List ℕ) (sto
 
 module _ {nr count bytes : ℕ} (N : Sizes nr count bytes) (table : List ℕ) (w : Walk) (m : Move) where
   not-looked : (r : Refusal) → Refuses nr r w m → Refused r ≡ judgeOne nr (length table) (w .count) → Moves nr (oneLookup table) w m
-  unfolding answer handed passedOn
-  not-looked r d e =
-      record {
-        answer = d .answer ∙ e;
-        walk = ap held (d .walk) ∙ left-old _ r _ (held w) (sym e);
-        offset = d .offset ∙ left-old _ r _ (nowhere nr) (sym e);
-        inside = not-on d;
-      }
+  unfolding answer
+  not-looked r d e = turned-down (oneLookup table) d e
 
   pub no-lookup : Refuses nr Stop w m → count ≤ w .count → Moves nr (oneLookup table) w m
   no-lookup d h = not-looked Stop d (none-left nr _ _ (omega (arith, N .all-lookups)))

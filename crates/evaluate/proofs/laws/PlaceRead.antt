@@ -15,7 +15,7 @@ use Rattle.network.proofs.laws.Read.{puts-what-it-reads}
 use Rattle.layout.specs.Ciphers.{readsOf}
 use Rattle.layout.specs.Stages.{shapeAt, tableOffset, stageOf, indexOf}
 use Rattle.layout.proofs.laws.Ranges.{by-stage}
-use Rattle.whitebox.specs.Calls.{Held, Call, toStop, oneLookup, placeRead, reply}
+use Rattle.whitebox.specs.Calls.{Held, Call, placeRead, reply}
 use Rattle.whitebox.specs.PlaceRead.{InTable}
 use Rattle.whitebox.proofs.laws.Judged.{reply-was}
 use Rattle.whitebox.proofs.laws.PlaceRead.{in-table, place-was-read}
@@ -82,8 +82,7 @@ module _ (nr : ℕ) where
   no-lookup-made w r =
       let N = place-was-read .none nr (held w) in
       record {
-        stop-refused = λ mem stop meets n. meets .offset ∙ N .refused (toStop mem stop) (unreplied meets n);
-        one-refused = λ table meets n. meets .offset ∙ N .refused (oneLookup table) (unreplied meets n);
+        refused = λ c meets n. meets .offset ∙ N .refused c (unreplied meets n);
         still = λ mem meets. meets .offset ∙ N .still mem;
       }
 
