@@ -12,7 +12,7 @@
 #include <string.h>
 #include <time.h>
 
-enum { ROUNDS = 101, CIPHERS = 2, SPREAD_TABLE = 496, XOR_TABLE = 512 };
+enum { ROUNDS = 101, CIPHERS = 2, SPREAD_TABLE = 496, XOR_TABLE = 512, RECORDS = 25, ENTRY_BYTES = 5 };
 
 static uint8_t key[TAZHIKKO_KEY_BYTES];
 static uint8_t bundle[TAZHIKKO_BUNDLE_MAX_BYTES];
@@ -20,6 +20,11 @@ static size_t bundle_len;
 static uint8_t our_set[CIPHERS][TAZHIKKO_SET_BYTES], plain_set[CIPHERS][TAZHIKKO_SET_BYTES];
 static uint8_t our_table[4096], plain_table[4096];
 static uint8_t our_block[TAZHIKKO_BLOCK_BYTES], plain_block[TAZHIKKO_BLOCK_BYTES];
+
+/* For each cipher some blocks, and the records of the walks from them. */
+static struct recorded {
+    uint8_t block[TAZHIKKO_BLOCK_BYTES], ours[TAZHIKKO_RECORD_BYTES], plain[TAZHIKKO_RECORD_BYTES];
+} recorded[CIPHERS][RECORDS];
 
 /* The cipher at hand, TAZHIKKO_FORWARD or TAZHIKKO_INVERSE. */
 static uint64_t cipher;
@@ -62,6 +67,33 @@ static void walk_plain(void)
     memcpy(plain_block, answer, sizeof answer);
 }
 
+static void record_ours(struct recorded *r)
+{
+    tazhikko_record(cipher, our_set[cipher], TAZHIKKO_SET_BYTES, r->block, sizeof r->block, r->ours, sizeof r->ours);
+}
+
+static size_t replay_ours(const struct recorded *r)
+{
+    size_t differs = 0;
+    tazhikko_replay(cipher, our_set[cipher], TAZHIKKO_SET_BYTES, r->block, sizeof r->block, r->ours, sizeof r->ours, &differs);
+    return differs;
+}
+
+static void record_plain(struct recorded *r) { plain_record(cipher, plain_set[cipher], r->block, r->plain); }
+static size_t replay_plain(const struct recorded *r) { return plain_replay(cipher, plain_set[cipher], r->block, r->plain); }
+
+/* In turn, so that a call reads other entries than the one before. */
+static struct recorded *next(void)
+{
+    static size_t turn;
+    return &recorded[cipher][turn++ % RECORDS];
+}
+
+static void record_next_ours(void) { record_ours(next()); }
+static void record_next_plain(void) { record_plain(next()); }
+static void replay_next_ours(void) { replay_ours(next()); }
+static void replay_next_plain(void) { replay_plain(next()); }
+
 static const struct task {
     const char *what;
     uint64_t cipher;
@@ -73,10 +105,14 @@ static const struct task {
     {"make one spread table", TAZHIKKO_FORWARD, spread_ours, spread_plain, 2},
     {"make one XOR table", TAZHIKKO_FORWARD, xor_ours, xor_plain, 2},
     {"walk a block", TAZHIKKO_FORWARD, walk_ours, walk_plain, 50},
+    {"record a walk", TAZHIKKO_FORWARD, record_next_ours, record_next_plain, 2 * RECORDS},
+    {"replay a record", TAZHIKKO_FORWARD, replay_next_ours, replay_next_plain, 2 * RECORDS},
     {"inverse: make a set", TAZHIKKO_INVERSE, set_ours, set_plain, 1},
     {"inverse: one spread table", TAZHIKKO_INVERSE, spread_ours, spread_plain, 2},
     {"inverse: one XOR table", TAZHIKKO_INVERSE, xor_ours, xor_plain, 2},
     {"inverse: walk a block", TAZHIKKO_INVERSE, walk_ours, walk_plain, 50},
+    {"inverse: record a walk", TAZHIKKO_INVERSE, record_next_ours, record_next_plain, 2 * RECORDS},
+    {"inverse: replay a record", TAZHIKKO_INVERSE, replay_next_ours, replay_next_plain, 2 * RECORDS},
 };
 
 enum { COUNT = sizeof TASKS / sizeof *TASKS };
@@ -126,6 +162,33 @@ static void check_walks(void)
     }
 }
 
+/* A walk's own record, and that record with one bit turned over in every 97th byte: the first and the last lookup are among them. */
+static void check_replays(struct recorded *r)
+{
+    require(replay_ours(r) == TAZHIKKO_NONE && replay_plain(r) == SIZE_MAX, "replay of a walk's own record");
+    for (size_t at = 0; at < TAZHIKKO_RECORD_BYTES; at += 97) {
+        r->ours[at] ^= 0x10;
+        r->plain[at] ^= 0x10;
+        require(replay_ours(r) == at / ENTRY_BYTES && replay_plain(r) == at / ENTRY_BYTES, "replay");
+        r->ours[at] ^= 0x10;
+        r->plain[at] ^= 0x10;
+    }
+}
+
+static void check_records(void)
+{
+    for (size_t k = 0; k < RECORDS; k++) {
+        struct recorded *r = &recorded[cipher][k];
+        walk_ours();
+        walk_plain();
+        memcpy(r->block, our_block, sizeof our_block);
+        record_ours(r);
+        record_plain(r);
+        require(memcmp(r->ours, r->plain, TAZHIKKO_RECORD_BYTES) == 0, "record");
+        check_replays(r);
+    }
+}
+
 static double seconds(void (*call)(void), int calls)
 {
     struct timespec from, to;
@@ -164,6 +227,7 @@ int main(void)
     for (cipher = 0; cipher < CIPHERS; cipher++) {
         check_tables();
         check_walks();
+        check_records();
     }
     measure();
     return 0;

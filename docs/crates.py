@@ -19,7 +19,7 @@ GROUPS = {
     "the bundle": ("#fdebc8", {"bundle": 1.6, "judgement": 2.5, "external": 2.5, "view": 1.1}),
     "the table set, as definitions and theorems": ("#ecdff7", {"network": 5.2, "layout": 5.2, "whitebox": 3.5}),
     "the maker": ("#dcf2e3", {"entries": 0, "layers": 0.7, "stages": 0.7, "tables": 0.7}),
-    "the walk": ("#f8dcdc", {"lookups": 5.5, "evaluate": 5.4}),
+    "the walk": ("#f8dcdc", {"lookups": 5.5, "evaluate": 5.4, "records": 5.0}),
     "calls for C, chains of calls, programs": ("#ffffff", {"host": 2, "chains": 3.4, "streams": 6.5, "maker": 6.1, "walker": 7}),
 }
 TESTS = {"matrix_cases", "aes_vectors", "bundle_cases", "walk_cases"}

@@ -14,8 +14,9 @@ extern "C" {
 #endif
 
 /* The version of these calls: 10,000 times the major number, 100 times the minor one, and the patch. Where the major number is another, a
- * call takes or answers something else. Since version 2, make_set, make_table and walk name a cipher as their first argument. */
-#define TAZHIKKO_VERSION 20000
+ * call takes or answers something else. Since version 2, make_set, make_table and walk name a cipher as their first argument; since 2.1 there are
+ * record and replay. */
+#define TAZHIKKO_VERSION 20100
 
 /* The ciphers of a set and of a walk: 0 is the forward one and any other number the inverse one. No number is refused. */
 #define TAZHIKKO_FORWARD 0
@@ -27,9 +28,13 @@ extern "C" {
 #define TAZHIKKO_BUNDLE_MIN_BYTES 58408
 #define TAZHIKKO_BUNDLE_MAX_BYTES 65536
 #define TAZHIKKO_SET_BYTES 770048
+#define TAZHIKKO_RECORD_BYTES 15040
 
 /* Tables in a set. Tables 0 to 15 and 2512 to 2527 have 4096 bytes; of the 112 tables of a half round the first 16 have 1024; all others 128. */
 #define TAZHIKKO_TABLES 3008
+
+/* What stands for none where a call tells a number through a pointer. */
+#define TAZHIKKO_NONE SIZE_MAX
 
 /* Why a call is refused; the lowest number that applies is given. */
 #define TAZHIKKO_KEY_LENGTH 1     /* the key is not of 16 bytes */
@@ -42,6 +47,7 @@ extern "C" {
 #define TAZHIKKO_TABLE_NUMBER 8   /* the table number is above TAZHIKKO_TABLES - 1 */
 #define TAZHIKKO_SET_LENGTH 9     /* the set, or the single table, has the wrong length */
 #define TAZHIKKO_BLOCK_LENGTH 10  /* a block, in or out, is not of 16 bytes */
+#define TAZHIKKO_RECORD_LENGTH 13 /* a record is not of TAZHIKKO_RECORD_BYTES bytes */
 
 #define TAZHIKKO_CAUSE(refusal) ((uint32_t)((refusal) >> 32))
 #define TAZHIKKO_SECOND(refusal) ((uint32_t)(refusal))
@@ -69,6 +75,18 @@ uint64_t tazhikko_make_table(
  * block, under the output coding. A set has no mark of its cipher, so a walk that names the other one is not refused; its answer means nothing. */
 uint64_t tazhikko_walk(
     uint64_t cipher, const uint8_t *set, size_t set_len, const uint8_t *block, size_t block_len, uint8_t *answer, size_t answer_len);
+
+/* The record of that walk, over any memory as long as a set, made or not: for each of its lookups, in order, 5 bytes. They are the offset within the set
+ * of the table's entry that it read, in 4 bytes, the most significant first, then the entry's first byte or, of an XOR table's entry, its half-byte
+ * as a number 0 to 15. */
+uint64_t tazhikko_record(
+    uint64_t cipher, const uint8_t *set, size_t set_len, const uint8_t *block, size_t block_len, uint8_t *record, size_t record_len);
+
+/* The replay of a record over a set: *differs becomes TAZHIKKO_NONE where the record is the walk's own, else the number, from 0, of the first lookup
+ * one of whose 5 bytes differs. `differs` must not be null; a refused call leaves *differs as it was. */
+uint64_t tazhikko_replay(
+    uint64_t cipher, const uint8_t *set, size_t set_len, const uint8_t *block, size_t block_len, const uint8_t *record, size_t record_len,
+    size_t *differs);
 
 #ifdef __cplusplus
 }

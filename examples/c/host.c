@@ -9,32 +9,11 @@
  * the same: openssl enc -aes-128-ecb -nopad -K (the key in hex) -in BLOCK | xxd -p
  * A door that reads the block back has a set of the inverse cipher. The cipher block goes the same way over it, and the second line is the block.
  * Where a call is refused, `refused N I` is printed: the cause, and the number returned with it. */
-#include "tazhikko.h"
-
-#include <stdio.h>
+#include "input.h"
 
 #if TAZHIKKO_VERSION / 10000 != 2
 #error "this program is written for version 2 of the calls"
 #endif
-
-/* Room for one byte more than is right, so that a longer file is refused and not cut. */
-struct input {
-    uint8_t bytes[TAZHIKKO_BUNDLE_MAX_BYTES + 1];
-    size_t len;
-};
-
-static int read_input(const char *path, struct input *input)
-{
-    FILE *file = fopen(path, "rb");
-    if (file == NULL) {
-        perror(path);
-        return 0;
-    }
-    input->len = fread(input->bytes, 1, sizeof input->bytes, file);
-    int whole = !ferror(file);
-    fclose(file);
-    return whole;
-}
 
 /* What the cipher makes of a block, by a set of the key and the bundle. */
 static uint64_t by_set(uint64_t cipher, const struct input *key, const struct input *bundle, const uint8_t *block, size_t len, uint8_t out[16])
@@ -69,10 +48,8 @@ int main(int argc, char **argv)
     uint64_t refusal = by_set(TAZHIKKO_FORWARD, &key, &bundle, block.bytes, block.len, cipher_block);
     if (refusal == 0)
         refusal = by_set(TAZHIKKO_INVERSE, &key, &bundle, cipher_block, sizeof cipher_block, again);
-    if (refusal != 0) {
-        printf("refused %u %u\n", TAZHIKKO_CAUSE(refusal), TAZHIKKO_SECOND(refusal));
-        return 1;
-    }
+    if (refusal != 0)
+        return print_refusal(refusal);
     print_block(cipher_block);
     print_block(again);
     return 0;

@@ -10,6 +10,10 @@ mod tests;
 
 pub const SET_BYTES: usize = 770_048;
 pub const TABLES: usize = 3_008;
+pub const RECORD_BYTES: usize = 15_040;
+
+/// What stands for no lookup where a call tells one through a pointer.
+const NONE: usize = usize::MAX;
 
 pub type Block = [u8; 16];
 
@@ -38,6 +42,7 @@ pub enum Refusal {
     TableNumber,
     SetLength,
     BlockLength,
+    RecordLength,
 }
 
 /// A call for C that reads two slices and writes a third.
@@ -82,6 +87,25 @@ extern "C" {
         block_len: usize,
         answer: *mut u8,
         answer_len: usize,
+    ) -> u64;
+    fn tazhikko_record(
+        cipher: u64,
+        set: *const u8,
+        set_len: usize,
+        block: *const u8,
+        block_len: usize,
+        record: *mut u8,
+        record_len: usize,
+    ) -> u64;
+    fn tazhikko_replay(
+        cipher: u64,
+        set: *const u8,
+        set_len: usize,
+        block: *const u8,
+        block_len: usize,
+        record: *const u8,
+        record_len: usize,
+        differs: *mut usize,
     ) -> u64;
 }
 
@@ -144,6 +168,25 @@ pub fn walk(cipher: Cipher, set: &[u8], block: &[u8]) -> Result<Block, Refusal> 
     Ok(out)
 }
 
+/// The record of that walk: for each lookup the offset of the entry that it read, in 4 bytes, the most significant first, and the entry's first byte
+/// or, of an XOR table, its half-byte.
+pub fn record(cipher: Cipher, set: &[u8], block: &[u8]) -> Result<Vec<u8>, Refusal> {
+    let mut out = vec![0; RECORD_BYTES];
+    for_cipher(tazhikko_record, cipher as u64, set, block, &mut out)?;
+    Ok(out)
+}
+
+/// The replay of a record: the first lookup in which it differs from the walk's own, or `None` where it is that.
+pub fn replay(cipher: Cipher, set: &[u8], block: &[u8], record: &[u8]) -> Result<Option<usize>, Refusal> {
+    let mut differs = NONE;
+    let (recorded, recorded_len) = (record.as_ptr(), record.len());
+    // SAFETY: three slices' pointers and lengths, and a number that is borrowed alone.
+    answer(unsafe {
+        tazhikko_replay(cipher as u64, set.as_ptr(), set.len(), block.as_ptr(), block.len(), recorded, recorded_len, &mut differs)
+    })?;
+    Ok(if differs == NONE { None } else { Some(differs) })
+}
+
 /// The length of a table, 0 for a number that no table has.
 pub fn table_bytes(number: usize) -> usize {
     match number {
@@ -184,6 +227,7 @@ fn answer(number: u64) -> Result<(), Refusal> {
         8 => Refusal::TableNumber,
         9 => Refusal::SetLength,
         10 => Refusal::BlockLength,
+        13 => Refusal::RecordLength,
         cause => unreachable!("the calls for C have no cause {cause}"),
     })
 }

@@ -1,4 +1,4 @@
-//! FIPS 197's published examples, through bundles built here by document 01's format, and every refusal.
+//! FIPS 197's published examples, through bundles built here by document 01's format, records of walks, and every refusal.
 use super::*;
 
 /// FIPS 197, appendix C.1: key, block, cipher block.
@@ -93,6 +93,37 @@ fn tables_make_up_the_set() {
     }
 }
 
+/// Over zeros each lookup reads the first entry of its table, but the first sixteen, which read those of the block's bytes; every entry is 0.
+#[test]
+fn records_of_zeros() {
+    let (mut expected, mut start) = (vec![], 0);
+    for number in 0..TABLES {
+        let offset = start + 16 * BLOCK.get(number).map_or(0, |x| usize::from(*x));
+        expected.extend((offset as u32).to_be_bytes());
+        expected.push(0);
+        start += table_bytes(number);
+    }
+    for cipher in [Cipher::Forward, Cipher::Inverse] {
+        assert!(record(cipher, &[0; SET_BYTES], &BLOCK).unwrap() == expected);
+    }
+}
+
+/// The walk's own record, and that with one byte more altered at a time, from the last to the first.
+#[test]
+fn replays() {
+    let bundle = bundle(false);
+    for cipher in [Cipher::Forward, Cipher::Inverse] {
+        let set = make_set(cipher, &KEY, &bundle).unwrap();
+        let mut recorded = record(cipher, &set, &BLOCK).unwrap();
+        assert_eq!(replay(cipher, &set, &BLOCK, &recorded), Ok(None));
+        assert_eq!(replay(cipher, &set, &CIPHER, &recorded), Ok(Some(0)));
+        for at in [15_039, 15_035, 15_034, 2_480, 2_479, 5, 4, 0] {
+            recorded[at] ^= 0x10;
+            assert_eq!(replay(cipher, &set, &BLOCK, &recorded), Ok(Some(at / 5)));
+        }
+    }
+}
+
 #[test]
 fn faulty_bundles() {
     let lists = STARTS[0];
@@ -123,4 +154,10 @@ fn refused_calls() {
     assert_eq!(walk(inverse, &set, &[]), Err(Refusal::BlockLength));
     assert_eq!(walk(forward, &set, &BLOCK), Ok([0; 16]));
     assert_eq!(walk(inverse, &set, &BLOCK), Ok([0; 16]));
+    assert_eq!(record(forward, &set[1..], &[]), Err(Refusal::SetLength));
+    assert_eq!(record(inverse, &set, &[]), Err(Refusal::BlockLength));
+    assert_eq!(replay(forward, &set[1..], &[], &[]), Err(Refusal::SetLength));
+    assert_eq!(replay(inverse, &set, &[], &[]), Err(Refusal::BlockLength));
+    assert_eq!(replay(forward, &set, &BLOCK, &[0; RECORD_BYTES - 1]), Err(Refusal::RecordLength));
+    assert_eq!(for_cipher(tazhikko_record, 0, &set, &BLOCK, &mut [0; RECORD_BYTES + 1]), Err(Refusal::RecordLength));
 }

@@ -13,7 +13,7 @@ static void one_call(struct tests *t, struct group *g, enum direction direction,
     struct slices s = {
         .first = lend(key, TAZHIKKO_KEY_BYTES, shapes.first, &t->chance),
         .second = lend(block, TAZHIKKO_BLOCK_BYTES, shapes.second, &t->chance),
-        .out = lend_to_write(TAZHIKKO_BLOCK_BYTES, shapes.out, &t->chance),
+        .out = lend_to_write(TAZHIKKO_BLOCK_BYTES, shapes.third, &t->chance),
     };
     bool blocks = s.second.len == TAZHIKKO_BLOCK_BYTES && s.out.len == TAZHIKKO_BLOCK_BYTES;
     uint64_t due = lowest(unless(s.first.len == TAZHIKKO_KEY_BYTES, TAZHIKKO_KEY_LENGTH), unless(blocks, TAZHIKKO_BLOCK_LENGTH));

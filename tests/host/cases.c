@@ -1,5 +1,7 @@
 #include "cases.h"
 
+#include "tazhikko.h"
+
 #include <stdio.h>
 #include <stdlib.h>
 
@@ -163,6 +165,36 @@ static void read_walks(struct file file, struct cases *c)
     }
 }
 
+static void read_records(struct file file, struct cases *c)
+{
+    for (; more(&file); c->record_count++) {
+        c->records = grown(c->records, c->record_count, sizeof *c->records);
+        struct record *r = &c->records[c->record_count];
+        r->memory = number(&file);
+        r->inverse = number(&file) != 0;
+        r->block = taken(&file, 16);
+        r->bytes = taken(&file, TAZHIKKO_RECORD_BYTES);
+    }
+}
+
+static void read_replays(struct file file, struct cases *c)
+{
+    for (; more(&file); c->replay_count++) {
+        c->replays = grown(c->replays, c->replay_count, sizeof *c->replays);
+        struct replay *r = &c->replays[c->replay_count];
+        *r = (struct replay){.walk = number(&file)};
+        r->from = number(&file);
+        for (size_t left = number(&file); left > 0; left--) {
+            r->changes = grown(r->changes, r->count, sizeof *r->changes);
+            struct change *change = &r->changes[r->count++];
+            change->start = number(&file);
+            change->part = string(&file);
+        }
+        uint32_t differs = number(&file);
+        r->differs = differs == UINT32_MAX ? TAZHIKKO_NONE : differs;
+    }
+}
+
 static void read_crossed(struct file file, struct cases *c)
 {
     for (; more(&file); c->crossed_count++) {
@@ -182,6 +214,8 @@ struct cases read_cases(const char *folder)
     read_sets(opened(folder, "sets"), &c);
     read_tables(opened(folder, "tables"), &c);
     read_walks(opened(folder, "walks"), &c);
+    read_records(opened(folder, "records"), &c);
+    read_replays(opened(folder, "replays"), &c);
     read_crossed(opened(folder, "crossed"), &c);
     return c;
 }

@@ -67,6 +67,27 @@ struct walks {
     struct walk *walks;
 };
 
+/* The record of a walk. */
+struct record {
+    size_t memory; /* a number of the walks' memories */
+    bool inverse;
+    const uint8_t *block;
+    const uint8_t *bytes;
+};
+
+struct change {
+    size_t start;
+    struct string part;
+};
+
+struct replay {
+    size_t walk; /* a number of a record: its walk is replayed */
+    size_t from; /* a number of a record: with the changes, it is what the call is lent */
+    size_t count;
+    struct change *changes;
+    size_t differs; /* as the call tells it */
+};
+
 /* Two accepted bundles: the input coding of each is the output coding of the other. */
 struct crossed {
     struct string bundles[2];
@@ -80,8 +101,10 @@ struct cases {
     struct set *sets;
     struct table *tables;
     struct walks *walks;
+    struct record *records;
+    struct replay *replays;
     struct crossed *crossed;
-    size_t bundle_count, judgement_count, place_count, coding_count, set_count, table_count, walks_count, crossed_count;
+    size_t bundle_count, judgement_count, place_count, coding_count, set_count, table_count, walks_count, record_count, replay_count, crossed_count;
 };
 
 /* Ends the program where a file is missing or cut short. */

@@ -3,7 +3,7 @@
 
 usage: tests/host/cases.py FOLDER SEED
 
-Each file is a row of records. A number has 4 bytes, the most significant first; a string is a number and so many bytes. The records:
+Each file is rows, one behind the other. A number has 4 bytes, the most significant first; a string is a number and so many bytes. The rows:
 bundles      an accepted bundle; the start and length of each of its six gaps; its judgement with one byte less, and with one more
 judgements   a bundle; its judgement
 places       a table's offset in the set; its length
@@ -11,6 +11,9 @@ codings      a number of a bundle; a number of CODINGS; a block; the coded block
 sets         a number of a bundle; a cipher; a key; the set
 tables       a number of a bundle; a cipher; a key; a number of a table; the table
 walks        memory as long as a set; how many walks; for each a cipher, a block and the answer
+records      a number of a memory, in the order of walks; a cipher; a block; the record of that walk
+replays      a number of a record, whose walk is replayed; the number of the record that is altered, its own or another; how many parts of it are
+             changed, for each its start and, a string, what is there now; the first lookup that differs, or 2^32 - 1 for none
 crossed      two accepted bundles, the input coding of each the output coding of the other
 A judgement is the two numbers of a refusal, the cause first, or 0 and 0. A cipher is 0, forward, or 1, inverse: the tests name the inverse one by any
 number but 0.
@@ -27,12 +30,16 @@ import openssl_aes
 import tickets
 import wbref
 
-RULES = tickets.Rules(1)
+RULES = tickets.Rules(3)
 CIPHERS = (openssl_aes.encipher, openssl_aes.decipher)
 CODINGS = (("in", wbref.code), ("in", wbref.uncode), ("out", wbref.code), ("out", wbref.uncode))
 LONGEST = 65536
 FREE = LONGEST - bundle_cases.SHORTEST
 WHOLE = 4  # of so many bundles whole sets are made, of the others single tables
+LOOKUPS = len(wbref.LOOKS)
+XORS = [n for n, look in enumerate(wbref.LOOKS) if not look.spread]
+ENTRY = 5  # bytes of a lookup in a record
+NONE = 2**32 - 1
 ROUNDS = [496 + 224 * r for r in range(9)]
 FIRST_AND_LAST = [0, 15, 16, 495, 2512, 2527, 2528, 3007] + [n + k for n in ROUNDS for k in (0, 15, 16, 111, 112, 127, 128, 223)]
 
@@ -67,7 +74,7 @@ def accepted(rng):
         yield wbref.build_bundle(wbref.random_sections(rng), gaps), gaps
 
 
-def bundle_record(bundle, gaps):
+def bundle_row(bundle, gaps):
     ends = [40] + [offset + length for offset, length in wbref.pairs(bundle)]
     places = b"".join(number(start) + number(length) for start, length in zip(ends, gaps))
     return string(bundle) + places + judged(bundle[:-1]) + judged(bundle + b"\xa5")
@@ -161,7 +168,7 @@ class Set:
         self.bundle, self.view, self.cipher, self.key = n, wbref.Bundle(bundle), cipher, key
         self.bytes = tickets.Maker(cipher, key, bundle).tables()
 
-    def record(self):
+    def row(self):
         return number(self.bundle) + number(self.cipher) + self.key + string(self.bytes)
 
     def answer(self, block):
@@ -192,18 +199,79 @@ def walked(memory, cipher, block):
     return bytes(answer)
 
 
-def walks_record(memory, walks):
+def walks_row(memory, walks):
     return string(memory) + number(len(walks)) + b"".join(number(cipher) + block + answer for cipher, block, answer in walks)
 
 
-def walks(rng, made):
+def unfilled(rng):
+    """Memory that no maker filled."""
+    return [bytes(wbref.SET_LEN), b"\xff" * wbref.SET_LEN] + [rng.randbytes(wbref.SET_LEN) for _ in range(4)]
+
+
+def walks(rng, made, others):
     """Walks for both ciphers over the sets, and over memory that no maker filled. For a set, that of the other cipher is such memory."""
     for s in made:
         own = [(s.cipher, block, s.answer(block)) for block in blocks(rng, 17)]
         other = [(1 - s.cipher, block, walked(s.bytes, 1 - s.cipher, block)) for block in blocks(rng, 3)]
-        yield walks_record(s.bytes, own + other)
-    for memory in [bytes(wbref.SET_LEN), b"\xff" * wbref.SET_LEN] + [rng.randbytes(wbref.SET_LEN) for _ in range(4)]:
-        yield walks_record(memory, [(cipher, block, walked(memory, cipher, block)) for cipher in range(2) for block in blocks(rng, 7)])
+        yield walks_row(s.bytes, own + other)
+    for memory in others:
+        yield walks_row(memory, [(cipher, block, walked(memory, cipher, block)) for cipher in range(2) for block in blocks(rng, 7)])
+
+
+# ---- records of walks, and altered ones ----------------------------------------------------
+
+class Record:
+    """The record of the walk for a cipher over the memory of a number."""
+
+    def __init__(self, n, memory, cipher, block):
+        self.number, self.memory, self.cipher, self.block = n, memory, cipher, block
+        self.own = RULES.record_of(memory, block, cipher)
+
+    def row(self):
+        return number(self.number) + number(self.cipher) + self.block + self.own
+
+    def replayed(self, record):
+        cause, second, differs = RULES.replay(self.memory, self.block, record, self.cipher)
+        assert (cause, second) == (0, 0)
+        return NONE if differs is None else differs
+
+
+def records(rng, memories):
+    """For each memory two blocks that begin alike, so that their walks do not part at lookup 0 always; each for both ciphers."""
+    for n, memory in enumerate(memories):
+        first, alike = rng.choice(blocks(rng, 3)), rng.randrange(1, 16)
+        for block in (first, first[:alike] + rng.randbytes(16 - alike)):
+            for cipher in range(2):
+                yield Record(n, memory, cipher, block)
+
+
+def another(rng, byte):
+    return bytes([byte ^ rng.choice((1 << rng.randrange(8), rng.randrange(1, 256)))])
+
+
+def alterations(rng, turn, own):
+    """Changes of a record: none; a byte of an entry, each of the five at the first, the last and any lookup in turn; the upper half of the byte that
+    has an XOR entry's half-byte; several bytes anywhere; a lookup left out."""
+    def at(lookup, k):
+        place = ENTRY * lookup + k
+        return place, another(rng, own[place])
+
+    yield []
+    for k in range(ENTRY):
+        yield [at((0, LOOKUPS - 1, rng.randrange(LOOKUPS))[(turn + k) % 3], k)]
+    half = ENTRY * rng.choice(XORS) + ENTRY - 1
+    yield [(half, bytes([own[half] ^ rng.randrange(1, 16) << 4]))]
+    yield [at(rng.randrange(LOOKUPS), rng.randrange(ENTRY)) for _ in range(rng.randrange(2, 6))]
+    left_out = ENTRY * rng.randrange(LOOKUPS)
+    yield [(left_out, own[left_out + ENTRY :] + rng.randbytes(ENTRY))]
+
+
+def replays(rng, made):
+    """Each record's walk, with alterations of its own record and with the records for the other cipher and of the other block."""
+    for n, record in enumerate(made):
+        for m, changes in [(n, c) for c in alterations(rng, n, record.own)] + [(n ^ 1, []), (n ^ 2, [])]:
+            parts = b"".join(number(start) + string(part) for start, part in changes)
+            yield number(n) + number(m) + number(len(changes)) + parts + number(record.replayed(changed(made[m].own, changes)))
 
 
 # ---- crossed bundles -----------------------------------------------------------------------
@@ -225,9 +293,9 @@ def crossed(rng, bundles):
         yield string(bundle) + string(other)
 
 
-def write(folder, name, records):
+def write(folder, name, rows):
     with open(os.path.join(folder, name), "wb") as f:
-        f.writelines(records)
+        f.writelines(rows)
 
 
 def main():
@@ -236,14 +304,17 @@ def main():
     os.makedirs(folder, exist_ok=True)
     pool = list(accepted(rng))
     bundles = [bundle for bundle, _ in pool]
-    made = sets(rng, bundles)
-    write(folder, "bundles", (bundle_record(*b) for b in pool))
+    made, others = sets(rng, bundles), unfilled(rng)
+    recorded = list(records(rng, [s.bytes for s in made] + others))
+    write(folder, "bundles", (bundle_row(*b) for b in pool))
     write(folder, "judgements", (string(b) + judged(b) for bundle in bundles[1:4] for b in judgements(rng, bundle)))
     write(folder, "places", (number(look.off) + number(look.size) for look in wbref.LOOKS))
     write(folder, "codings", codings(rng, bundles))
-    write(folder, "sets", (s.record() for s in made))
+    write(folder, "sets", (s.row() for s in made))
     write(folder, "tables", tables(rng, list(enumerate(bundles))[WHOLE:]))
-    write(folder, "walks", walks(rng, made))
+    write(folder, "walks", walks(rng, made, others))
+    write(folder, "records", (r.row() for r in recorded))
+    write(folder, "replays", replays(rng, recorded))
     write(folder, "crossed", crossed(rng, bundles[:3]))
 
 

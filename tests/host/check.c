@@ -4,6 +4,8 @@
 
 #include <stdio.h>
 
+const struct shapes all_right = {RIGHT, RIGHT, RIGHT};
+
 struct shapes shapes_of_call(size_t n, struct chance *chance)
 {
     if (n >= COMBINATIONS)
@@ -34,7 +36,7 @@ static const char *fault(const struct slices *s, uint64_t returned, uint64_t due
         return "another number is due";
     if (!left)
         return due == 0 ? "other bytes are due" : "refused, and lent memory is changed";
-    if (!as_it_was(&s->first) || !as_it_was(&s->second))
+    if (!as_it_was(&s->first) || !as_it_was(&s->second) || !as_it_was(&s->third))
         return "memory that is only read is changed";
     return NULL;
 }
@@ -43,12 +45,13 @@ void check(struct group *group, struct slices *slices, uint64_t returned, uint64
 {
     const char *what = fault(slices, returned, due, written);
     if (what != NULL && shown(group))
-        printf("  %s, call %lu, lengths %zu %zu %zu: %s; returned %u %u, due %u %u\n", group->name, group->calls, slices->first.len,
-               slices->second.len, slices->out.len, what, TAZHIKKO_CAUSE(returned), TAZHIKKO_SECOND(returned), TAZHIKKO_CAUSE(due),
-               TAZHIKKO_SECOND(due));
+        printf("  %s, call %lu, lengths %zu %zu %zu, written %zu: %s; returned %u %u, due %u %u\n", group->name, group->calls, slices->first.len,
+               slices->second.len, slices->third.len, slices->out.len, what, TAZHIKKO_CAUSE(returned), TAZHIKKO_SECOND(returned),
+               TAZHIKKO_CAUSE(due), TAZHIKKO_SECOND(due));
     group->calls++;
     take_back(&slices->first);
     take_back(&slices->second);
+    take_back(&slices->third);
     take_back(&slices->out);
 }
 

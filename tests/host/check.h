@@ -16,19 +16,22 @@ struct totals {
     unsigned long failed;
 };
 
-/* What a call is lent: two slices that it reads and one that it writes. */
+/* What a call is lent: up to three slices that it reads, and a slice or a number that it writes. Those it has not are null slices. */
 struct slices {
     struct lent first;
     struct lent second;
+    struct lent third;
     struct lent out;
 };
 
-/* The shapes of the three slices. */
+/* The shapes of a call's three slices, in the order of its arguments. */
 struct shapes {
     enum shape first;
     enum shape second;
-    enum shape out;
+    enum shape third;
 };
+
+extern const struct shapes all_right;
 
 enum { COMBINATIONS = SHAPES * SHAPES * SHAPES };
 

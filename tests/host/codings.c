@@ -15,7 +15,7 @@ static void one_call(struct tests *t, struct group *g, const struct coding *c, s
     struct slices s = {
         .first = lend_bundle(&t->cases, &t->cases.bundles[c->bundle], shapes.first, &t->chance, &judgement),
         .second = lend(c->block, TAZHIKKO_BLOCK_BYTES, shapes.second, &t->chance),
-        .out = lend_to_write(TAZHIKKO_BLOCK_BYTES, shapes.out, &t->chance),
+        .out = lend_to_write(TAZHIKKO_BLOCK_BYTES, shapes.third, &t->chance),
     };
     bool blocks = s.second.len == TAZHIKKO_BLOCK_BYTES && s.out.len == TAZHIKKO_BLOCK_BYTES;
     uint64_t due = lowest(judgement, unless(blocks, TAZHIKKO_BLOCK_LENGTH));

@@ -43,9 +43,10 @@ static void closed(struct lent *lent)
     VALGRIND_MAKE_MEM_NOACCESS(lent->bytes + lent->len, GUARD);
 }
 
-static struct lent made(const uint8_t *content, size_t content_len, size_t len, struct chance *chance)
+/* The bytes stand at a random multiple of the step, counted from an address that suits every type. */
+static struct lent made(const uint8_t *content, size_t content_len, size_t len, size_t step, struct chance *chance)
 {
-    size_t front = GUARD + below(chance, 16);
+    size_t front = GUARD + step * below(chance, 16);
     struct lent lent = {.len = len, .held = room(len + 1), .whole = room(front + len + GUARD), .whole_len = front + len + GUARD};
     size_t copied = content_len < len ? content_len : len;
     lent.bytes = lent.whole + front;
@@ -60,17 +61,27 @@ struct lent lend(const uint8_t *content, size_t right, enum shape shape, struct 
 {
     if (shape == NULL_SLICE)
         return (struct lent){0};
-    return made(content, right, shaped_length(right, shape, chance), chance);
+    return made(content, right, shaped_length(right, shape, chance), 1, chance);
+}
+
+static struct lent unwritten(size_t len, size_t step, struct chance *chance)
+{
+    static const uint8_t none[1];
+    struct lent lent = made(none, 0, len, step, chance);
+    VALGRIND_MAKE_MEM_UNDEFINED(lent.bytes, lent.len);
+    return lent;
 }
 
 struct lent lend_to_write(size_t right, enum shape shape, struct chance *chance)
 {
-    static const uint8_t none[1];
     if (shape == NULL_SLICE)
         return (struct lent){0};
-    struct lent lent = made(none, 0, shaped_length(right, shape, chance), chance);
-    VALGRIND_MAKE_MEM_UNDEFINED(lent.bytes, lent.len);
-    return lent;
+    return unwritten(shaped_length(right, shape, chance), 1, chance);
+}
+
+struct lent lend_number(struct chance *chance)
+{
+    return unwritten(sizeof(size_t), sizeof(size_t), chance);
 }
 
 static const struct judgement *refused(const struct cases *cases, struct chance *chance)

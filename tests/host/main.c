@@ -41,6 +41,9 @@ int main(int argc, char **argv)
     test_make_set(&t);
     test_make_table(&t);
     test_walk(&t);
+    test_record(&t);
+    test_replay(&t);
+    test_record_and_replay(&t);
     test_demand2(&t);
     test_round_trip(&t);
     printf("%lu checks; %lu groups passed, %lu failed\n", t.totals.calls, t.totals.passed, t.totals.failed);

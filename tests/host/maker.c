@@ -8,7 +8,6 @@ enum { CALLS_FOR_A_SET = 100 };
 
 /* A bundle of the cases that are refused, and all else right. */
 static const struct shapes refused_bundle = {RIGHT, ANY_LENGTH, RIGHT};
-static const struct shapes all_right = {RIGHT, RIGHT, RIGHT};
 
 static uint64_t key_and_bundle(const struct slices *s, uint64_t judgement)
 {
@@ -21,7 +20,7 @@ static void one_set(struct tests *t, struct group *g, const struct set *set, str
     struct slices s = {
         .first = lend(set->key, TAZHIKKO_KEY_BYTES, shapes.first, &t->chance),
         .second = lend_bundle(&t->cases, &t->cases.bundles[set->bundle], shapes.second, &t->chance, &judgement),
-        .out = lend_to_write(TAZHIKKO_SET_BYTES, shapes.out, &t->chance),
+        .out = lend_to_write(TAZHIKKO_SET_BYTES, shapes.third, &t->chance),
     };
     uint64_t due = lowest(key_and_bundle(&s, judgement), unless(s.out.len == TAZHIKKO_SET_BYTES, TAZHIKKO_SET_LENGTH));
     check(g, &s, call_for(tazhikko_make_set, set->inverse, &s, &t->chance), due, set->content.bytes);
@@ -47,7 +46,7 @@ static void one_table(struct tests *t, struct group *g, const struct table *tabl
     struct slices s = {
         .first = lend(table->key, TAZHIKKO_KEY_BYTES, shapes.first, &t->chance),
         .second = lend_bundle(&t->cases, &t->cases.bundles[table->bundle], shapes.second, &t->chance, &judgement),
-        .out = lend_to_write(exists ? table->content.len : 128, shapes.out, &t->chance),
+        .out = lend_to_write(exists ? table->content.len : 128, shapes.third, &t->chance),
     };
     uint64_t due = lowest(key_and_bundle(&s, judgement), unless(exists, TAZHIKKO_TABLE_NUMBER));
     due = lowest(due, unless(s.out.len == table->content.len, TAZHIKKO_SET_LENGTH));

@@ -32,6 +32,9 @@ void test_aes(struct tests *t);
 void test_make_set(struct tests *t);
 void test_make_table(struct tests *t);
 void test_walk(struct tests *t);
+void test_record(struct tests *t);
+void test_replay(struct tests *t);
+void test_record_and_replay(struct tests *t);
 void test_demand2(struct tests *t);
 void test_round_trip(struct tests *t);
 

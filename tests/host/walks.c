@@ -8,7 +8,7 @@ static void one_walk(struct tests *t, struct group *g, const struct string *memo
     struct slices s = {
         .first = lend(memory->bytes, TAZHIKKO_SET_BYTES, shapes.first, &t->chance),
         .second = lend(walk->block, TAZHIKKO_BLOCK_BYTES, shapes.second, &t->chance),
-        .out = lend_to_write(TAZHIKKO_BLOCK_BYTES, shapes.out, &t->chance),
+        .out = lend_to_write(TAZHIKKO_BLOCK_BYTES, shapes.third, &t->chance),
     };
     bool blocks = s.second.len == TAZHIKKO_BLOCK_BYTES && s.out.len == TAZHIKKO_BLOCK_BYTES;
     uint64_t due = lowest(unless(s.first.len == TAZHIKKO_SET_BYTES, TAZHIKKO_SET_LENGTH), unless(blocks, TAZHIKKO_BLOCK_LENGTH));

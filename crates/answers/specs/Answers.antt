@@ -1,4 +1,4 @@
--- How an answer is made from tests, what it says in document 01's numbers, and what a call leaves by it: document 01, "Turned down". Definitions
+-- How an answer is made from tests, what it says in the documents' numbers, and what a call leaves by it: document 01, "Turned down". Definitions
 -- only.
 use mathlib.Core.Bool.{Bool, true, false, not}
 use Prim.Native.Nat.{ℕ}
@@ -27,7 +27,7 @@ abbrev pub ifAccepted {ℓ} : {A : Type ℓ} → Answer → A → A → A
 ifAccepted Accepted new old = new
 ifAccepted (Refused r) new old = old
 
--- An answer in document 01's words: accepted, or the number of the cause and the number returned with it.
+-- An answer in the documents' words: accepted, or the number of the cause and the number returned with it.
 pub data Reply : Type 0 where
   accepted : Reply
   refused : ℕ → ℕ → Reply

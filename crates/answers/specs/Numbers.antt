@@ -1,12 +1,12 @@
--- Document 01's numbers for each answer (table "Turned down"), and both in one number for C. Definitions, and the statement that a host can read
--- both off again.
+-- The documents' numbers for each answer (document 01, table "Turned down"; from 13 on document 02), and both in one number for C. Definitions, and the
+-- statement that a host can read both off again.
 use mathlib.Core.Path.{_≡_}
 use Prim.Native.Nat.{ℕ, _+_, _*_, _/_, _%_, _<_}
 use Rattle.answers.specs.declared.Answer.{Answer}
 use Rattle.answers.specs.declared.Answer.the-variants.{Accepted, Refused}
 use Rattle.answers.specs.declared.Refusal.{Refusal}
 use Rattle.answers.specs.declared.Refusal.the-variants.{KeyLength, BundleLength, Pair, Encoding, ByteMatrix, ColumnMatrix, InputMatrix}
-use Rattle.answers.specs.declared.Refusal.the-variants.{OutputMatrix, TableNumber, SetLength, BlockLength, Stop, Unfinished}
+use Rattle.answers.specs.declared.Refusal.the-variants.{OutputMatrix, TableNumber, SetLength, BlockLength, Stop, Unfinished, RecordLength}
 
 -- The number of the cause ("No.").
 abbrev pub causeOf : Refusal → ℕ
@@ -35,6 +35,8 @@ causeOf BlockLength = 10
 causeOf Stop = 11
 -- "answer fetched at a count other than 3,008"
 causeOf Unfinished = 12
+-- "A record of a length other than 15,040 gets number 13" (document 02, Ticket 3).
+causeOf RecordLength = 13
 
 -- The number "returned with it": "first bad pair, 0–4", "first such list", "first such number", for block matrices "0 input or both, 1 output
 -- only", and else 0.
@@ -52,6 +54,8 @@ secondOf SetLength = 0
 secondOf BlockLength = 0
 secondOf Stop = 0
 secondOf Unfinished = 0
+-- "With this and every later number 0 is returned" (document 02, Ticket 3).
+secondOf RecordLength = 0
 
 -- Both of an answer: 0 where the call is accepted.
 abbrev pub causeIn : Answer → ℕ

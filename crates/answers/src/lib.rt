@@ -1,9 +1,11 @@
-// What every call answers: accepted, or refused for a cause of document 01's table "Turned down". In code the numbers of each cause stand
+// What every call answers: accepted, or refused for a cause of document 01's table "Turned down" or of document 02. In code the numbers of each cause stand
 // here alone.
+pub mod found;
+
 ghost use mathlib.Core.Path.{_≡_};
 ghost use Rattle.answers.specs.Numbers.{causeOf, secondOf, causeIn, secondIn, joined, numberOf};
 
-// Why a call is refused, in the order of document 01's numbers: `causeOf` and `secondOf` of specs/ give the two numbers of each.
+// Why a call is refused, in the order of the documents' numbers: `causeOf` and `secondOf` of specs/ give the two numbers of each.
 pub enum Refusal {
     KeyLength,
     BundleLength,
@@ -18,6 +20,7 @@ pub enum Refusal {
     BlockLength,
     Stop,
     Unfinished,
+    RecordLength,
 }
 
 pub enum Answer {
@@ -43,6 +46,7 @@ fn cause_of(r: Refusal) -> u32
         Refusal::BlockLength => 10,
         Refusal::Stop => 11,
         Refusal::Unfinished => 12,
+        Refusal::RecordLength => 13,
     }
 }
 
@@ -64,6 +68,7 @@ fn second_of(r: Refusal) -> u32
         Refusal::BlockLength => 0,
         Refusal::Stop => 0,
         Refusal::Unfinished => 0,
+        Refusal::RecordLength => 0,
     }
 }
 

@@ -16,3 +16,4 @@ pub mod Bytes
 pub mod Nibbles
 pub mod Encodings
 pub mod Images
+pub mod Cuts

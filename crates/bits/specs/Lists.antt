@@ -1,7 +1,7 @@
--- Lists of numbers. Definitions only; their laws are in proofs/laws/Lists.antt.
+-- Lists of numbers. Definitions only; their laws are in proofs/laws/Lists.antt and Cuts.antt.
 use mathlib.Core.List.{List, [], _∷_, _++_}
-use Prim.Native.Nat.{ℕ, zero, suc}
-use lib.ListN.{getD}
+use Prim.Native.Nat.{ℕ, zero, suc, _*_}
+use lib.ListN.{getD, take, drop}
 
 -- Element i of a list of numbers, 0 past its end.
 abbrev pub at : List ℕ → ℕ → ℕ
@@ -16,3 +16,7 @@ tabulate (suc n) f = f zero ∷ tabulate n (λ k. f (suc k))
 unfoldable pub concat : ℕ → (ℕ → List ℕ) → List ℕ
 concat zero t = []
 concat (suc n) t = concat n t ++ t n
+
+-- Part k of a list in parts of one size; empty behind the last.
+unfoldable pub partOf : ℕ → List ℕ → ℕ → List ℕ
+partOf size l k = take size (drop (k * size) l)

@@ -1,5 +1,4 @@
 pub mod Tests
-pub mod Search
 pub mod Frame
 pub mod Parts
 pub mod FreeBytes

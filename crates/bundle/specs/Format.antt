@@ -9,11 +9,11 @@ use lib.ListN.{length, take, drop}
 use Rattle.answers.specs.Answers.{refusedIf, andThen, ifAccepted}
 use Rattle.answers.specs.declared.Answer.{Answer}
 use Rattle.answers.specs.declared.Refusal.the-variants.{BundleLength, Pair}
+use Rattle.answers.specs.Search.{first, refusedAt}
 use Rattle.bits.specs.Bytes.{number}
 use Rattle.bits.specs.Encodings.{imagesOf}
-use Rattle.bits.specs.Lists.{at}
+use Rattle.bits.specs.Lists.{at, partOf}
 use Rattle.matrices.specs.Matrices.{matrixOf}
-use Rattle.bundle.specs.Search.{first, refusedAt}
 
 -- ---- sizes
 -- How many encodings there are: 32 for the block that is read, 992 for the entry and for the exit, 448 for each round between them
@@ -113,10 +113,7 @@ frame nr l = andThen (refusedIf (lengthBad nr l) BundleLength) (refusedAt (first
 unfoldable pub sectionOf : ℕ → List ℕ → ℕ → List ℕ
 sectionOf nr l s = ifAccepted (frame nr l) (take (sectionLength nr s) (drop (offset l s) l)) []
 
--- Part n of a section with parts of one size; empty behind the last.
-unfoldable pub partOf : ℕ → List ℕ → ℕ → List ℕ
-partOf size s n = take size (drop (n * size) s)
-
+-- Part n of a section, whose parts have one size.
 unfoldable pub partAt : ℕ → List ℕ → ℕ → ℕ → List ℕ
 partAt nr l s n = partOf (partSize s) (sectionOf nr l s) n
 

@@ -1,4 +1,3 @@
-pub mod Search
 pub mod Format
 pub mod Frames
 pub mod FreeBytes

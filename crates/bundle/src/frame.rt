@@ -3,11 +3,11 @@ ghost use mathlib.Core.Path.{_≡_};
 ghost use Prim.Native.Nat.{_<_, _≤_};
 ghost use lib.ListN.{length};
 ghost use Rattle.bundle.specs.Format.{endBefore, pairBad, frame};
-ghost use Rattle.bundle.specs.Search.{first};
-use crate::found::Found;
+ghost use Rattle.answers.specs.Search.{first};
 use crate::layout;
 use answers::Answer;
 use answers::Refusal;
+use answers::found::Found;
 
 const SHORTEST: usize = 58408;
 

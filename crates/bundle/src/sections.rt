@@ -1,6 +1,7 @@
 // Sections, and parts of one size in a section, as parts of the lent slice.
 ghost use mathlib.Core.Path.{_≡_};
-ghost use Rattle.bundle.specs.Format.{sectionOf, partOf, partAt};
+ghost use Rattle.bits.specs.Lists.{partOf};
+ghost use Rattle.bundle.specs.Format.{sectionOf, partAt};
 use crate::frame;
 use crate::layout;
 use answers::Answer;

@@ -1,8 +1,8 @@
 -- The encodings by number, from the bundle's section that has them. Definitions only.
 use mathlib.Core.List.{List}
 use Prim.Native.Nat.{ℕ}
+use Rattle.bits.specs.Lists.{partOf}
 use Rattle.bits.specs.Encodings.{imagesOf}
-use Rattle.bundle.specs.Format.{partOf}
 
 abbrev pub encodingIn : List ℕ → ℕ → List ℕ
 encodingIn s n = imagesOf (partOf 8 s n)

@@ -6,9 +6,10 @@ use Rattle.aes.specs.Answers.{answerOf}
 use Rattle.judgement.specs.Judge.{judge}
 use Rattle.external.specs.Calls.{answer}
 use Rattle.tables.specs.Calls.{setAnswer, tableAnswer}
+use Rattle.records.specs.Replay.{judgeRecord}
 use Rattle.host.specs.Walks.{walkAnswer}
 
--- Of every call, whatever it is lent: both of document 01's numbers can be read off, and it is 0 only where the call is accepted.
+-- Of every call, whatever it is lent: both of the documents' numbers can be read off, and it is 0 only where the call is accepted.
 pub record Returned : Type 0 where
   pub judgements : (l : List ℕ) → ReadOff (judge 10 l)
   pub codings : (l : List ℕ) (from to : ℕ) → ReadOff (answer 10 l from to)
@@ -16,3 +17,4 @@ pub record Returned : Type 0 where
   pub sets : (key : ℕ) (l : List ℕ) (memory : ℕ) → ReadOff (setAnswer key l memory)
   pub singles : (key : ℕ) (l : List ℕ) (number memory : ℕ) → ReadOff (tableAnswer key l number memory)
   pub walks : (set block answer : ℕ) → ReadOff (walkAnswer set block answer)
+  pub records : (set block rec : ℕ) → ReadOff (judgeRecord 10 set block rec)

@@ -7,12 +7,12 @@ use lib.Dec.{eqb}
 use Rattle.answers.specs.Answers.{refusedIf, andThen}
 use Rattle.answers.specs.declared.Answer.{Answer}
 use Rattle.answers.specs.declared.Refusal.the-variants.{Encoding, ByteMatrix, ColumnMatrix, InputMatrix, OutputMatrix}
+use Rattle.answers.specs.Search.{first, refusedAt}
 use Rattle.inversion.specs.Elimination.{invert, hasInverse}
 use Rattle.bits.specs.Encodings.{imagesOf}
 use Rattle.bits.specs.Lists.{at}
 use Rattle.matrices.specs.Matrices.{matrixOf}
 use Rattle.bundle.specs.Format.{encodings, byteMatrices, columnMatrices, frame, encodingPart, byteMatrixPart, columnMatrixPart, inputMatrixPart, outputMatrixPart}
-use Rattle.bundle.specs.Search.{first, refusedAt}
 
 -- ---- tests
 -- x is among the k numbers f j, f (j + 1), ..

@@ -10,13 +10,13 @@ use Rattle.bundle.specs.Format.{encodings, byteMatrices, columnMatrices, partCo
 use Rattle.bundle.specs.Format.{partAt, encodingOf, byteMatrix, columnMatrix, inputMatrix, outputMatrix}
 use Rattle.bundle.specs.Frames.{InRange, Framed}
 use Rattle.bundle.specs.FreeBytes.{SameButFree}
-use Rattle.bundle.specs.Search.{All, FirstBad}
+use Rattle.answers.specs.Search.{All, FirstBad}
 use Rattle.answers.specs.Numbers.{causeOf}
 use Rattle.answers.specs.declared.Answer.{Answer}
 use Rattle.answers.specs.declared.Answer.the-variants.{Accepted, Refused}
 use Rattle.answers.specs.declared.Refusal.{Refusal}
 use Rattle.answers.specs.declared.Refusal.the-variants.{KeyLength, BundleLength, Pair, Encoding, ByteMatrix, ColumnMatrix, InputMatrix}
-use Rattle.answers.specs.declared.Refusal.the-variants.{OutputMatrix, TableNumber, SetLength, BlockLength, Stop, Unfinished}
+use Rattle.answers.specs.declared.Refusal.the-variants.{OutputMatrix, TableNumber, SetLength, BlockLength, Stop, Unfinished, RecordLength}
 use Rattle.judgement.specs.Judge.{judge}
 
 -- ---- what each cause asks; for causes 2 and 3 see Frames.antt of crate bundle
@@ -79,6 +79,7 @@ Why nr l (Refused SetLength) = ⊥
 Why nr l (Refused BlockLength) = ⊥
 Why nr l (Refused Stop) = ⊥
 Why nr l (Refused Unfinished) = ⊥
+Why nr l (Refused RecordLength) = ⊥
 
 -- ---- the theorems
 -- Every judgement is given for its reason, and no other has one: so the judgement is the only one that is right.

@@ -4,11 +4,11 @@ use mathlib.Core.List.{List}
 use mathlib.Core.Path.{_≡_}
 use Prim.Native.Nat.{ℕ, _≤_}
 use Rattle.answers.specs.declared.Answer.the-variants.{Accepted}
+use Rattle.answers.specs.Search.{All}
 use Rattle.bits.specs.Encodings.{Permutation}
 use Rattle.matrices.specs.Matrices.{Invertible}
 use Rattle.bundle.specs.Format.{encodings, byteMatrices, columnMatrices, shortest, longest}
 use Rattle.bundle.specs.Built.{Writable, bundleOf, plainBundle}
-use Rattle.bundle.specs.Search.{All}
 use Rattle.judgement.specs.Judge.{judge}
 use Rattle.judgement.specs.Judgements.{Mixing}
 

@@ -5,11 +5,12 @@ ghost use Prim.Native.Nat.{_*_, _/_, _%_, _<_, _≤_};
 ghost use lib.Bits.{bitXor};
 ghost use lib.Dec.{eqb};
 ghost use lib.ListN.{length};
+ghost use Rattle.bits.specs.Lists.{partOf};
 ghost use Rattle.bits.specs.Vectors.{bit, unit};
-ghost use Rattle.bundle.specs.Format.{partOf, tenEncodings};
-ghost use Rattle.bundle.specs.Search.{first};
+ghost use Rattle.bundle.specs.Format.{tenEncodings};
+ghost use Rattle.answers.specs.Search.{first};
 ghost use Rattle.judgement.specs.Judge.{noPermutation, noInverse, mixingBad};
-use bundle::found::Found;
+use answers::found::Found;
 
 // Image x is marked in `seen`, whose bit x says so.
 fn marked(seen: u64, x: u8) -> bool

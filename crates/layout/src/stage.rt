@@ -27,6 +27,9 @@ pub const SET_BYTES: usize = TABLES_BYTES;
 // The offset that is passed on where no lookup was made: behind all tables.
 pub const NOWHERE: usize = TABLES_BYTES;
 
+// The spread lookups of a stage or half, the first of its lookups: one for each standing byte.
+pub const SPREADS: usize = 16;
+
 // The lookups of the entry, which are as many as those of the exit, of a half and of a round.
 pub const ENTRY_LOOKUPS: usize = 496;
 

@@ -3,7 +3,6 @@ ghost use mathlib.Core.Logic.{_⊎_};
 ghost use mathlib.Core.Path.{_≡_};
 ghost use Prim.Native.Nat.{_+_, _-_, _*_, _≤_, _<_};
 ghost use lib.ListN.{length};
-ghost use Rattle.network.specs.Lookups.{xorArea};
 ghost use Rattle.network.specs.Order.{layerLookups};
 ghost use Rattle.network.specs.Read.{nibblePlace};
 ghost use Rattle.network.specs.Sizes.{layerBytes};
@@ -13,6 +12,7 @@ ghost use Rattle.lookups.specs.InPlace.{offsetLimit, Fits, Holds, XorIn,
 use crate::area;
 use layout::stage::ENTRY_LOOKUPS;
 use layout::stage::HALF_LOOKUPS;
+use layout::stage::SPREADS;
 use layout::stage::Stage;
 use layout::stage::source_of;
 use layout::stage::width_of;
@@ -70,7 +70,7 @@ pub fn lookup_in(
     ensures { λ r. ⌜ LookedUp (shapeAt (readsOf cipher) stage) j (now (table .entry)) from (now (standing .entry)) (now (area .entry)) r (now (standing .exit)) (now (area .exit)) ⌝ }
 {
     let width = width_of(stage);
-    if j < 16 {
+    if j < SPREADS {
         let i = source_of(cipher, stage, j);
         let word = area::spread(area, table, width, j, standing[i]);
         let at = from + word;
@@ -79,7 +79,7 @@ pub fn lookup_in(
             half: 0,
         };
     }
-    let e = xor_in(area, table, width, j - 16);
+    let e = xor_in(area, table, width, j - SPREADS);
     let read = xor_place(from, e);
     if j + 1 != lookups_of(width) {
         return read;
@@ -118,7 +118,7 @@ fn spread_all(
     let width = width_of(stage);
     let size = 256 * width;
     let mut p = 0;
-    while p < 16 {
+    while p < SPREADS {
         let i = source_of(cipher, stage, p);
         let start = from + p * size;
         let end = start + size;
@@ -134,7 +134,7 @@ fn xor_all(area: &mut [u8; 256], set: &[u8], from: usize, width: usize) -> usize
     ensures { λ r. ⌜ XorsMade width (now (set .entry)) from (now (area .entry)) r (now (area .exit)) ⌝ }
 {
     let start = from + 4096 * width;
-    let bytes = (lookups_of(width) - 16) / 2;
+    let bytes = (lookups_of(width) - SPREADS) / 2;
     let mut last = 0;
     let mut y = 0;
     while y < bytes {

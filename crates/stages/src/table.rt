@@ -156,14 +156,14 @@ pub fn write(
     requires { ⌜ (judge 10 (now bundle) ≡ Accepted) × Begins (inverseFor 10 (now bundle) s j) (now inverse) × (length (now keys) ≡ 176) × InRounds 10 s × (j < layerLookups (widthOf s)) × (length (now dst) ≡ sizeOf (widthOf s) j) ⌝ }
     ensures { λ _. ⌜ now (dst .exit) ≡ tableIn (codingsOf 10 (now (bundle .entry)) .encoding) (layerOf (partsFor cipher 10 (now (keys .entry))) (codingsOf 10 (now (bundle .entry))) 10 s) (numbersOf 10 s) j ⌝ }
 {
-    if j < 16 {
+    if j < stage::SPREADS {
         spread_table(cipher, bundle, keys, inverse, s, j, dst);
     } else {
         xor_table(
             bundle,
             stage::width_of(s),
             numbers::first_number(s),
-            j - 16,
+            j - stage::SPREADS,
             dst,
         );
     }

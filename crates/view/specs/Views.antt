@@ -7,7 +7,8 @@ use lib.Dec.{eqb, ltb}
 use lib.ListN.{length, take, drop}
 use denote.Ref.{RefT, now}
 use Rattle.answers.specs.Answers.{ifAccepted}
-use Rattle.bundle.specs.Format.{partSize, sectionLength, offset, frame, partOf, encodingPart, byteMatrixPart, columnMatrixPart, inputMatrixPart, outputMatrixPart}
+use Rattle.bits.specs.Lists.{partOf}
+use Rattle.bundle.specs.Format.{partSize, sectionLength, offset, frame, encodingPart, byteMatrixPart, columnMatrixPart, inputMatrixPart, outputMatrixPart}
 use Rattle.view.specs.declared.View.{View}
 use Rattle.view.specs.declared.part.Part.{Part}
 use Rattle.view.specs.declared.part.Part.the-variants.{Encoding, ByteMatrix, ColumnMatrix, InputMatrix, OutputMatrix}

@@ -1,4 +1,4 @@
--- Laws, not definitions: document 01's numbers, joined in one, can be read off again.
+-- Laws, not definitions: the documents' numbers, joined in one, can be read off again.
 -- Assumes nothing.
 use mathlib.Core.Bool.{Bool, true, false, not}
 use mathlib.Core.Path.{_≡_, refl}
@@ -11,7 +11,7 @@ use Rattle.answers.specs.declared.Answer.{Answer}
 use Rattle.answers.specs.declared.Answer.the-variants.{Accepted, Refused}
 use Rattle.answers.specs.declared.Refusal.{Refusal}
 use Rattle.answers.specs.declared.Refusal.the-variants.{KeyLength, BundleLength, Pair, Encoding, ByteMatrix, ColumnMatrix, InputMatrix}
-use Rattle.answers.specs.declared.Refusal.the-variants.{OutputMatrix, TableNumber, SetLength, BlockLength, Stop, Unfinished}
+use Rattle.answers.specs.declared.Refusal.the-variants.{OutputMatrix, TableNumber, SetLength, BlockLength, Stop, Unfinished, RecordLength}
 
 -- No cause has the number 0.
 positive : (r : Refusal) → 0 < causeOf r
@@ -28,6 +28,7 @@ positive SetLength = omega arith
 positive BlockLength = omega arith
 positive Stop = omega arith
 positive Unfinished = omega arith
+positive RecordLength = omega arith
 
 pub readable : Readable
 readable a h = record { cause-is = omega arith; second-is = omega arith; accepted = only a }

@@ -156,7 +156,7 @@ paste-packed n k f t g a s m fa fs lo hi mid =
         subst (λ (x : ℕ). getD (paste d a e m) x 0 ≡ getD (packed n g) x 0) (omega arith) (in-hi (i - (a + m)) (omega arith))
 
 -- ---- the nibbles of any byte list
-half-lt : (r x : ℕ) → x < 256 → half r x < 16
+pub half-lt : (r x : ℕ) → x < 256 → half r x < 16
 half-lt zero x h = omega arith
 half-lt (suc r) x h = omega arith
 
@@ -172,6 +172,16 @@ setNibble-bytes l q v b h = set-below 256 l (q / 2) _ b (new (eqb (q % 2) 0))
     new : (t : Bool) → cond t (pack v (at l (q / 2) % 16)) (pack (at l (q / 2) / 16) v) < 256
     new true = omega arith
     new false = omega (arith, b (q / 2))
+
+-- The nibble that was put stands at its place.
+pub nibble-set : (l : List ℕ) (q v : ℕ) → q / 2 < length l → v < 16 → nibble (setNibble l q v) q ≡ v
+unfolding nibble setNibble
+nibble-set l q v inside small =
+    ap (half (q % 2)) (getD-set-same l (q / 2) (new (eqb (q % 2) 0)) 0 inside)
+    ∙ ⊎-elim (λ p. rw (p .0) (omega arith)) (λ p. rw (p .0) (omega arith)) (parity q)
+  where
+    new : Bool → ℕ
+    new t = cond t (pack v (at l (q / 2) % 16)) (pack (at l (q / 2) / 16) v)
 
 pub nibble-even : (s : List ℕ) (i : ℕ) → nibble s (2 * i) ≡ at s i / 16
 unfolding nibble

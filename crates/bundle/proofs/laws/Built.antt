@@ -11,7 +11,7 @@ use lib.Seq.{drop-at, drop-drop, getD-append-add}
 use Rattle.bits.specs.Bytes.{Bytes, bytesOf}
 use Rattle.bits.specs.Encodings.{imagesOf, encodingBytes, plainEncoding}
 use Rattle.bits.specs.Groups.{group}
-use Rattle.bits.specs.Lists.{at, tabulate, concat}
+use Rattle.bits.specs.Lists.{at, tabulate, concat, partOf}
 use Rattle.bits.specs.Nibbles.{packed}
 use Rattle.bits.proofs.laws.Bytes.{length-bytesOf, at-bytesOf, bytesOf-bytes}
 use Rattle.bits.proofs.laws.Encodings.{encode-lt, plain-permutation}
@@ -25,7 +25,7 @@ use Rattle.matrices.proofs.laws.Stored.{length-matrixBytes, matrixBytes-bytes, 
 use Rattle.bundle.specs.Built.{bytesBefore, builtOffset, pairBytes, partBytes, sectionBytes, bundleOf, plainBundle}
 use Rattle.bundle.specs.Built.{PlainBytes, Square, Writable, Holds, Building, PlainBuilt}
 use Rattle.bundle.specs.Format.{encodings, byteMatrices, columnMatrices, partCount, partSize, sectionLength, shortest, longest}
-use Rattle.bundle.specs.Format.{numberAt, offset, stated, endBefore, PairRight, frame, sectionOf, partOf, partAt}
+use Rattle.bundle.specs.Format.{numberAt, offset, stated, endBefore, PairRight, frame, sectionOf, partAt}
 use Rattle.answers.specs.declared.Answer.the-variants.{Accepted}
 use Rattle.bundle.proofs.laws.Frame.{frame-accepted, section-is}
 

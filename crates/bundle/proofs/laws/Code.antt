@@ -17,17 +17,17 @@ use Rattle.bits.proofs.laws.Lists.{cut-is}
 use Rattle.bits.proofs.laws.Multiples.{product-le}
 use Rattle.bundle.specs.Format.{encodings, tenEncodings, byteMatrices, tenByteMatrices, columnMatrices, tenColumnMatrices, partCount, partSize}
 use Rattle.bundle.specs.Format.{sectionLength, shortest, longest, numberAt, offset, stated, endBefore, pairBad, lengthBad, frame, sectionOf, partAt}
-use Rattle.bundle.specs.Search.{first, refusedAt}
-use Rattle.bundle.specs.declared.found.Found.{Found}
-use Rattle.bundle.specs.declared.found.Found.the-variants.{At, Nothing}
+use Rattle.answers.specs.Search.{first, refusedAt}
+use Rattle.answers.specs.declared.found.Found.{Found}
+use Rattle.answers.specs.declared.found.Found.the-variants.{At, Nothing}
 use Rattle.answers.specs.Answers.{ifAccepted}
 use Rattle.answers.specs.declared.Answer.{Answer}
 use Rattle.answers.specs.declared.Answer.the-variants.{Accepted, Refused}
 use Rattle.answers.specs.declared.Refusal.{Refusal}
 use Rattle.answers.specs.declared.Refusal.the-variants.{BundleLength, Pair}
+use Rattle.answers.proofs.laws.Search.{found-refuses, found-passes}
 use Rattle.bundle.proofs.laws.Frame.{framed, right-good, range-good, section-is, section-none, section-fits}
 use Rattle.bundle.proofs.laws.Parts.{part-long}
-use Rattle.bundle.proofs.laws.Tests.{found-refuses, found-passes}
 
 -- ---- a section from 3 on holds one block matrix, and behind the fifth there is none
 block-size : (s : ℕ) → 3 ≤ s → partSize s ≡ 2048

@@ -11,16 +11,16 @@ use borrow.Author.Tests.{not-false, eqb-true, ltb-false, eq-eqb, le-ltb}
 use Rattle.bundle.specs.Format.{encodings, byteMatrices, columnMatrices, partCount, partSize, sectionLength, shortest, longest}
 use Rattle.bundle.specs.Format.{offset, stated, endBefore, PairRight, pairBad, lengthBad, frame, sectionOf}
 use Rattle.bundle.specs.Frames.{Sizes, InRange, Framed, Apart}
-use Rattle.bundle.specs.Search.{first, refusedAt}
-use Rattle.bundle.specs.declared.found.Found.{Found}
-use Rattle.bundle.specs.declared.found.Found.the-variants.{Nothing}
+use Rattle.answers.specs.Search.{first, refusedAt}
+use Rattle.answers.specs.declared.found.Found.{Found}
+use Rattle.answers.specs.declared.found.Found.the-variants.{Nothing}
 use Rattle.answers.specs.Answers.{refusedIf, andThen}
 use Rattle.answers.specs.declared.Answer.the-variants.{Accepted, Refused}
 use Rattle.answers.specs.declared.Refusal.{Refusal}
 use Rattle.answers.specs.declared.Refusal.the-variants.{BundleLength, Pair}
 use Rattle.answers.proofs.laws.Tests.{both, passed}
-use Rattle.bundle.proofs.laws.Search.{none-all, all-none}
-use Rattle.bundle.proofs.laws.Tests.{or-left, or-right, neither, none-found}
+use Rattle.answers.proofs.laws.Search.{none-all, all-none, none-found}
+use Rattle.bundle.proofs.laws.Tests.{or-left, or-right, neither}
 
 pub sizes : Sizes
 unfolding encodings byteMatrices columnMatrices partCount partSize sectionLength shortest longest

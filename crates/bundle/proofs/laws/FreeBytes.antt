@@ -9,19 +9,19 @@ use native.Mathlib.Omega.{arith}
 use lib.Dec.{ltb}
 use lib.ListN.{take, drop}
 use lib.Seq.{getD-take}
-use Rattle.bits.specs.Lists.{at}
+use Rattle.bits.specs.Lists.{at, partOf}
 use Rattle.bits.proofs.laws.Groups.{joined-same}
 use Rattle.bundle.specs.Format.{shortest, longest, numberAt, offset, stated, endBefore, pairBad, lengthBad}
-use Rattle.bundle.specs.Format.{frame, partSize, sectionOf, partOf, partAt}
+use Rattle.bundle.specs.Format.{frame, partSize, sectionOf, partAt}
 use Rattle.bundle.specs.FreeBytes.{SameButFree, FreeBytes}
-use Rattle.bundle.specs.Search.{refusedAt}
-use Rattle.bundle.specs.declared.found.Found.{Found}
+use Rattle.answers.specs.Search.{refusedAt}
+use Rattle.answers.specs.declared.found.Found.{Found}
 use Rattle.answers.specs.Answers.{refusedIf, andThen}
 use Rattle.answers.specs.declared.Answer.{Answer}
 use Rattle.answers.specs.declared.Answer.the-variants.{Accepted, Refused}
 use Rattle.answers.specs.declared.Refusal.the-variants.{BundleLength, Pair}
+use Rattle.answers.proofs.laws.Search.{first-same}
 use Rattle.bundle.proofs.laws.Frame.{framed, section-is, section-none}
-use Rattle.bundle.proofs.laws.Search.{first-same}
 
 module _ (nr : ℕ) (l l′ : List ℕ) (agree : SameButFree nr l l′) where
   -- ---- the pairs

@@ -8,13 +8,12 @@ use native.Mathlib.Omega.{arith}
 use lib.Bits.{bitXor}
 use Rattle.bits.specs.Bytes.{Bytes}
 use Rattle.bits.specs.Encodings.{imagesOf, encode, decode, Permutation}
-use Rattle.bits.specs.Lists.{at, tabulate, concat}
+use Rattle.bits.specs.Lists.{at, tabulate, concat, partOf}
 use Rattle.bits.specs.Nibbles.{pack, packed, nibble}
 use Rattle.bits.proofs.laws.Encodings.{decode-lt}
 use Rattle.bits.proofs.laws.Lists.{at-tabulate, at-past, length-tabulate, at-concat, length-concat, ext-at}
 use Rattle.bits.proofs.laws.Nibbles.{nibble-lt, nibble-even, nibble-odd, at-packed, length-packed, packed-ext}
-use Rattle.bundle.specs.Format.{partOf}
-use Rattle.bundle.proofs.laws.Parts.{part-bytes}
+use Rattle.bits.proofs.laws.Cuts.{part-bytes}
 use Rattle.entries.specs.Encodings.{encodingIn}
 
 -- The images of bytes are nibbles.

@@ -78,14 +78,16 @@ module _ (reads : ℕ → ℕ) (nr n : ℕ) (p : Place) (h : n < lookups nr) (e 
       ∙ ap (λ (k : ℕ). stateAt k s′ a′) (sym (add-one n))
 
   -- And so is the place that it read.
-  read-there : r .offset ≡ readNext reads nr (stateAt n s a) .offset
+  pub read-there : r ≡ readNext reads nr (stateAt n s a)
   read-there =
-      ap (λ (r : EntryPlace). r .offset)
-      (l .read
+      l .read
       ∙ ap (λ (p : Place). readIn (shapeAt reads (p .stage)) (p .index) (p .offset) s a) e
-      ∙ sym (by-stage nr .read-is reads n h (tableOffset nr n) s a))
+      ∙ sym (by-stage nr .read-is reads n h (tableOffset nr n) s a)
 
-  inside-there : InTable nr n (r .offset)
+  offset-there : r .offset ≡ readNext reads nr (stateAt n s a) .offset
+  offset-there = ap (λ (r : EntryPlace). r .offset) read-there
+
+  pub inside-there : InTable nr n (r .offset)
   inside-there =
       in-table nr n h r (subst (λ (p : Place). WithinTable (widthOf (p .stage)) (p .index) (p .offset) r) e (l .table))
 
@@ -107,7 +109,7 @@ module _ {reads : ℕ → ℕ} {nr count bytes : ℕ} (N : Sizes nr count bytes)
             ap (λ (x : ℕ). advance reads nr set x w) one
             ∙ ap (λ (t : List ℕ). lookup (shapes reads nr) t w) part
             ∙ looked-up reads nr n p inside e l;
-        offset = read-there reads nr n p inside e l ∙ ap (λ (x : ℕ). lastOffset reads nr set x w) (sym one);
+        offset = offset-there reads nr n p inside e l ∙ ap (λ (x : ℕ). lastOffset reads nr set x w) (sym one);
         inside = subst (λ (k : ℕ). InTable nr k (r .offset)) (let z : n ≡ n + 1 - 1 = omega arith in z) (inside-there reads nr n p inside e l);
         kept = l .kept;
         long = l .long;
@@ -282,7 +284,7 @@ module _ {nr count bytes : ℕ} (N : Sizes nr count bytes) (table : List ℕ) (w
         record {
           answer = a ∙ j;
           walk = f ∙ ap (holding (kept (w .cipher))) (sym (looked-up reads nr (w .count) p left e u)) ∙ left-new _ _ (held w) (sym j);
-          offset = g ∙ read-there reads nr (w .count) p left e u ∙ left-new _ _ (nowhere nr) (sym j);
+          offset = g ∙ offset-there reads nr (w .count) p left e u ∙ left-new _ _ (nowhere nr) (sym j);
           inside =
               λ more.
               rw g (subst (λ (k : ℕ). InTable nr k (r .offset)) (let z : w .count ≡ m .walk .count - 1 = omega (arith, ap (λ (v : Held). v .state .count) f) in z)

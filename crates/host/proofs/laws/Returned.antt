@@ -1,4 +1,4 @@
--- Laws, not definitions: the numbers that the calls for C return, and that both of document 01's numbers can be read off them.
+-- Laws, not definitions: the numbers that the calls for C return, and that both of the documents' numbers can be read off them.
 -- Assumes nothing.
 use mathlib.Core.Bool.{Bool, false, not}
 use mathlib.Core.List.{List}
@@ -11,18 +11,19 @@ use Rattle.answers.specs.Answers.{wantsLength, andThen}
 use Rattle.answers.specs.Numbers.{secondOf}
 use Rattle.answers.specs.declared.Refusal.{Refusal}
 use Rattle.answers.specs.declared.Refusal.the-variants.{KeyLength, BundleLength, Pair, Encoding, ByteMatrix, ColumnMatrix, InputMatrix, OutputMatrix}
-use Rattle.answers.specs.declared.Refusal.the-variants.{TableNumber, SetLength, BlockLength}
+use Rattle.answers.specs.declared.Refusal.the-variants.{TableNumber, SetLength, BlockLength, RecordLength}
 use Rattle.answers.proofs.laws.Numbers.{readable, Small, small-andThen, small-test, small-length}
+use Rattle.answers.specs.Search.{first, refusedAt}
+use Rattle.answers.proofs.laws.Search.{at-bad, by-refusedAt}
 use Rattle.aes.specs.Answers.{answerOf}
 use Rattle.bundle.specs.Format.{encodings, byteMatrices, columnMatrices, inputMatrixPart, outputMatrixPart, lengthBad, pairBad, frame}
-use Rattle.bundle.specs.Search.{first, refusedAt}
-use Rattle.bundle.proofs.laws.Search.{at-bad}
-use Rattle.bundle.proofs.laws.Tests.{by-refusedAt}
 use Rattle.judgement.specs.Judge.{noInverse, encodingBad, byteMatrixBad, columnMatrixBad}
 use Rattle.judgement.specs.Judge.{judgeEncodings, judgeByteMatrices, judgeColumnMatrices, judgeBlockMatrices, judge}
 use Rattle.external.specs.Calls.{answer}
 use Rattle.layout.specs.Stages.{lookups, setBytes, tableSize}
 use Rattle.tables.specs.Calls.{judgedFor, setAnswerFor, tableAnswerFor, judged, setAnswer, tableAnswer}
+use Rattle.records.specs.Record.{recordBytes}
+use Rattle.records.specs.Replay.{judgeRecord}
 use Rattle.host.specs.Returned.{Returned}
 use Rattle.host.specs.Walks.{walkAnswer}
 
@@ -95,6 +96,12 @@ walk-small : (set block answer : ℕ) → Small (walkAnswer set block answer)
 unfolding walkAnswer
 walk-small set block answer = small-andThen _ _ (small-length (setBytes 10) set SetLength (omega arith)) (blocks-small block answer)
 
+record-small : (set block rec : ℕ) → Small (judgeRecord 10 set block rec)
+unfolding judgeRecord
+record-small set block rec =
+    small-andThen _ _ (small-length (setBytes 10) set SetLength (omega arith))
+    (small-andThen _ _ (small-length 16 block BlockLength (omega arith)) (small-length (recordBytes 10) rec RecordLength (omega arith)))
+
 pub returned : Returned
 returned = record {
   judgements = λ l. readable _ (judge-small l .below);
@@ -103,4 +110,5 @@ returned = record {
   sets = λ key l memory. readable _ (set-small key l memory .below);
   singles = λ key l number memory. readable _ (table-small key l number memory .below);
   walks = λ set block answer. readable _ (walk-small set block answer .below);
+  records = λ set block rec. readable _ (record-small set block rec .below);
 }

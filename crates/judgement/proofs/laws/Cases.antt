@@ -7,16 +7,16 @@ use native.Mathlib.Omega.{arith}
 use Rattle.matrices.proofs.laws.Stored.{matrixOf-fits}
 use Rattle.bundle.specs.Format.{encodings, byteMatrices, lengthBad, pairBad, frame, byteMatrix, byteMatrixPart}
 use Rattle.bundle.specs.Frames.{Framed}
-use Rattle.bundle.specs.Search.{first, refusedAt}
+use Rattle.answers.specs.Search.{first, refusedAt}
 use Rattle.answers.specs.Answers.{andThen}
 use Rattle.answers.specs.Numbers.{causeOf}
 use Rattle.answers.specs.declared.Answer.{Answer}
 use Rattle.answers.specs.declared.Answer.the-variants.{Accepted, Refused}
 use Rattle.answers.specs.declared.Refusal.the-variants.{BundleLength, Pair, Encoding, ByteMatrix}
+use Rattle.answers.proofs.laws.Search.{by-refusedAt}
 use Rattle.answers.proofs.laws.Tests.{by-test}
 use Rattle.bundle.proofs.laws.Frame.{framed}
 use Rattle.bundle.proofs.laws.Parts.{at-bytes}
-use Rattle.bundle.proofs.laws.Tests.{by-refusedAt}
 use Rattle.judgement.specs.Cases.{NoneBelow4, List0, Byte159}
 use Rattle.judgement.specs.Judge.{judge}
 use Rattle.judgement.proofs.laws.Judgements.{only}

@@ -16,13 +16,12 @@ use lib.Seq.{getD-take, getD-drop}
 use borrow.Author.Tests.{eq-eqb, ne-eqb, eqb-false}
 use Rattle.bits.specs.Bytes.{Bytes}
 use Rattle.bits.specs.Encodings.{imagesOf, Permutation}
-use Rattle.bits.specs.Lists.{at}
+use Rattle.bits.specs.Lists.{at, partOf}
 use Rattle.bits.specs.Nibbles.{nibble}
 use Rattle.bits.specs.Vectors.{bit, unit}
 use Rattle.bits.proofs.laws.Images.{image-at, images-long}
 use Rattle.bits.proofs.laws.Nibbles.{nibble-lt, nibble-even, nibble-odd}
 use Rattle.bits.proofs.laws.Vectors.{bit-shift, bit-lt, bit-xor, bit-zero, bit-unit-same, bit-unit-other}
-use Rattle.bundle.specs.Format.{partOf}
 use Rattle.bundle.proofs.laws.Tests.{or-left, or-right, neither}
 use Rattle.judgement.specs.Judge.{among, repeats, noPermutation}
 

@@ -12,20 +12,19 @@ use Rattle.bundle.specs.Frames.{Framed}
 use Rattle.bundle.specs.FreeBytes.{SameParts}
 use Rattle.answers.specs.Answers.{refusedIf, andThen}
 use Rattle.answers.specs.Numbers.{causeOf}
-use Rattle.bundle.specs.Search.{first, refusedAt}
-use Rattle.bundle.specs.declared.found.Found.{Found}
-use Rattle.bundle.specs.declared.found.Found.the-variants.{Nothing}
+use Rattle.answers.specs.Search.{first, refusedAt}
+use Rattle.answers.specs.declared.found.Found.{Found}
+use Rattle.answers.specs.declared.found.Found.the-variants.{Nothing}
 use Rattle.answers.specs.declared.Answer.{Answer}
 use Rattle.answers.specs.declared.Answer.the-variants.{Accepted, Refused}
 use Rattle.answers.specs.declared.Refusal.{Refusal}
 use Rattle.answers.specs.declared.Refusal.the-variants.{KeyLength, BundleLength, Pair, Encoding, ByteMatrix, ColumnMatrix, InputMatrix}
-use Rattle.answers.specs.declared.Refusal.the-variants.{OutputMatrix, TableNumber, SetLength, BlockLength, Stop, Unfinished}
+use Rattle.answers.specs.declared.Refusal.the-variants.{OutputMatrix, TableNumber, SetLength, BlockLength, Stop, Unfinished, RecordLength}
 use Rattle.answers.proofs.laws.Tests.{by-test}
+use Rattle.answers.proofs.laws.Search.{clash, not-false-true, by-refusedAt, first-same, none-all, all-none, at-bad, bad-at}
 use Rattle.bundle.proofs.laws.Frame.{pair-good, right-good, length-good, range-good, pairs-all, framed, frame-accepted}
 use Rattle.bundle.proofs.laws.FreeBytes.{free-bytes}
 use Rattle.bundle.proofs.laws.Parts.{at-bytes, part-refused, part-behind, part-here, part-long}
-use Rattle.bundle.proofs.laws.Search.{first-same, none-all, all-none, at-bad, bad-at}
-use Rattle.bundle.proofs.laws.Tests.{clash, not-false-true, by-refusedAt}
 use Rattle.judgement.specs.Judge.{noPermutation, noInverse, mixingBad, encodingBad, byteMatrixBad, columnMatrixBad}
 use Rattle.judgement.specs.Judge.{judgeEncodings, judgeByteMatrices, judgeColumnMatrices, judgeBlockMatrices, judge}
 use Rattle.judgement.specs.Judgements.{GoodEncoding, GoodByteMatrix, GoodColumnMatrix, GoodInputMatrix, GoodOutputMatrix}
@@ -177,6 +176,7 @@ module _ (nr : ℕ) (l : List ℕ) (bytes : Bytes l) where
   why-judge (Refused BlockLength) W = absurd W
   why-judge (Refused Stop) W = absurd W
   why-judge (Refused Unfinished) W = absurd W
+  why-judge (Refused RecordLength) W = absurd W
 
 pub reasoned : Reasoned
 reasoned = why

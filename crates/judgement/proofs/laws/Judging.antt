@@ -6,17 +6,18 @@ use mathlib.Core.Path.{_≡_, refl, sym, ap, _∙_}
 use Prim.Native.Nat.{ℕ, _+_, _-_, _*_, _≤_, _<_}
 use native.Mathlib.Omega.{arith}
 use lib.ListN.{length, take, drop}
+use Rattle.bits.specs.Lists.{partOf}
 use Rattle.matrices.specs.Matrices.{matrixOf}
 use Rattle.inversion.specs.Elimination.{invert, hasInverse}
-use Rattle.bundle.specs.Format.{tenEncodings, partCount, partSize, sectionLength, frame, sectionOf, partOf, partAt, inputMatrixPart, outputMatrixPart}
-use Rattle.bundle.specs.Search.{first, refusedAt}
-use Rattle.bundle.specs.declared.found.Found.{Found}
+use Rattle.bundle.specs.Format.{tenEncodings, partCount, partSize, sectionLength, frame, sectionOf, partAt, inputMatrixPart, outputMatrixPart}
+use Rattle.answers.specs.Search.{first, refusedAt}
+use Rattle.answers.specs.declared.found.Found.{Found}
 use Rattle.answers.specs.declared.Answer.{Answer}
 use Rattle.answers.specs.declared.Answer.the-variants.{Accepted, Refused}
 use Rattle.answers.specs.declared.Refusal.{Refusal}
 use Rattle.answers.specs.declared.Refusal.the-variants.{Encoding, ByteMatrix, ColumnMatrix, InputMatrix, OutputMatrix}
 use Rattle.bundle.proofs.laws.Frame.{section-length}
-use Rattle.bundle.proofs.laws.Parts.{part-cut}
+use Rattle.bits.proofs.laws.Cuts.{part-cut}
 use Rattle.judgement.specs.Judge.{noPermutation, noInverse, mixingBad}
 use Rattle.judgement.specs.Judge.{judgeEncodings, judgeByteMatrices, judgeColumnMatrices, judgeBlockMatrices, judge}
 

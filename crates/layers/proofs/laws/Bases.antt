@@ -7,11 +7,11 @@ use native.Mathlib.Omega.{arith}
 use lib.ListN.{length}
 use Rattle.answers.specs.declared.Answer.the-variants.{Accepted}
 use Rattle.bits.specs.Bytes.{number, byte, placed}
-use Rattle.bits.specs.Lists.{at}
+use Rattle.bits.specs.Lists.{at, partOf}
 use Rattle.matrices.specs.Matrices.{product, matrixOf}
 use Rattle.matrices.specs.Rows.{rowsOf, stored}
 use Rattle.matrices.proofs.laws.Stored.{read-rows}
-use Rattle.bundle.specs.Format.{byteMatrices, partCount, partSize, sectionLength, frame, sectionOf, partOf, partAt, byteMatrix}
+use Rattle.bundle.specs.Format.{byteMatrices, partCount, partSize, sectionLength, frame, sectionOf, partAt, byteMatrix}
 use Rattle.bundle.proofs.laws.Frame.{section-length}
 use Rattle.layers.specs.Layers.{spreadWord}
 

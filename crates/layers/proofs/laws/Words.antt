@@ -9,7 +9,7 @@ use lib.ListN.{length, set}
 use lib.Pow.{pow-lt}
 use Rattle.bits.specs.Bytes.{number, byte}
 use Rattle.bits.specs.Groups.{joined}
-use Rattle.bits.specs.Lists.{at}
+use Rattle.bits.specs.Lists.{at, partOf}
 use Rattle.bits.specs.Vectors.{dot}
 use Rattle.bits.proofs.laws.Bytes.{byte-from-bottom}
 use Rattle.bits.proofs.laws.Filled.{Filled, filled-more}
@@ -19,8 +19,7 @@ use Rattle.matrices.specs.Rows.{rowsOf}
 use Rattle.matrices.proofs.laws.Matrices.{product-lt, product-rows}
 use Rattle.matrices.proofs.laws.Stored.{matrixOf-at}
 use Rattle.field.specs.Field.{mul}
-use Rattle.bundle.specs.Format.{partOf}
-use Rattle.bundle.proofs.laws.Parts.{part-length}
+use Rattle.bits.proofs.laws.Cuts.{part-length}
 
 pub shifted-one : (k : ℕ) → k < 8 → 1 * 2 ^ k % 2 ^ 8 ≡ 2 ^ k
 shifted-one k h = ap (λ (x : ℕ). x % 2 ^ 8) (one-mul (2 ^ k)) ∙ mod-eq-of-lt (pow-lt h)

@@ -22,6 +22,10 @@ pub record Sizes (nr count bytes : ℕ) : Type 0 where
   pub all-lookups : lookups nr ≡ count
   pub all-bytes : setBytes nr ≡ bytes
 
+-- By their own names.
+pub own-sizes : (nr : ℕ) → Sizes nr (lookups nr) (setBytes nr)
+own-sizes nr = record { all-lookups = refl; all-bytes = refl }
+
 pub tables-in-set : (nr : ℕ) → tablesBytes nr ≤ setBytes nr
 unfolding setBytes
 tables-in-set nr = le-refl (tablesBytes nr)

@@ -2,7 +2,8 @@
 -- name.
 -- Assumes nothing.
 use mathlib.Core.List.{List, [], _∷_, _++_, map, map-append, append-assoc}
-use mathlib.Core.Path.{_≡_, refl, sym, ap, ap₂, _∙_}
+use mathlib.Core.Logic.{⊎-elim, _⊎_}
+use mathlib.Core.Path.{_≡_, refl, sym, ap, ap₂, _∙_, subst}
 use Prim.Native.Nat.{ℕ, zero, suc, _+_, _-_, _*_, _/_, _%_, _<_}
 use native.Mathlib.Omega.{arith}
 use Rattle.network.specs.Numbers.{Numbers, encodingNumber, sumNumber, layerResults, nextNumbers, startNumbers, numbersAfter}
@@ -19,6 +20,9 @@ good-16 = record { wide = omega arith; most = omega arith; whole = refl }
 
 pub good-4 : GoodWidth 4
 good-4 = record { wide = omega arith; most = omega arith; whole = refl }
+
+pub either-good : (m : ℕ) → (m ≡ 4) ⊎ (m ≡ 16) → GoodWidth m
+either-good m k = ⊎-elim (λ e. subst GoodWidth (sym e) good-4) (λ e. subst GoodWidth (sym e) good-16) k
 
 pub lookups-16 : layerLookups 16 ≡ entryLookups
 unfolding layerLookups xors

@@ -10,7 +10,7 @@ use native.Mathlib.Decide.{ℕ-discrete, decLt}
 use native.Mathlib.Omega.{arith}
 use lib.Dec.{eqb}
 use borrow.Author.Tests.{eq-eqb, ne-eqb}
-use Rattle.network.specs.Order.{GoodWidth, xors, layerLookups, nibbleOf, turnOf, groupOf, addedOf, sumOf, place, added}
+use Rattle.network.specs.Order.{GoodWidth, xors, layerLookups, nibbleOf, turnOf, groupOf, addedOf, sumOf, place, sumPlace, added}
 
 pub at-div : (n w h : ℕ) → h < n → (w * n + h) / n ≡ w
 at-div n w h b = mul-add-div-right {m = n} (omega arith) w h ∙ ap (λ (x : ℕ). w + x) (div-eq-of-lt b) ∙ add-zero w
@@ -209,6 +209,10 @@ module _ (m : ℕ) (good : GoodWidth m) where
 
   pub added-word-lt : (x : ℕ) → x < xors m → sumOf m x + suc (addedOf m x) < 16
   added-word-lt x made = omega (arith, good, mul-le-mul-right m (group-lt x made), added-lt x)
+
+  -- XOR lookup x puts its nibble into the 512 of the area
+  pub sum-inside : (x : ℕ) → x < xors m → sumPlace m x < 512
+  sum-inside x made = place-lt (sumOf m x) (nibbleOf m x) (let n : sumOf m x < 16 = omega (arith, added-word-lt x made) in n) (nibble-in x)
 
   -- nothing is added to the word that is added
   pub added-to-added : (x y h : ℕ) → added m y (sumOf m x + suc (addedOf m x)) h ≡ 0

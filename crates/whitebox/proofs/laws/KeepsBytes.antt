@@ -11,7 +11,7 @@ use Rattle.bits.specs.Bytes.{Bytes}
 use Rattle.bits.specs.Lists.{at}
 use Rattle.bits.proofs.laws.Lists.{append-below, tabulate-below, zero-at}
 use Rattle.bits.proofs.laws.Nibbles.{nibble-lt, setNibble-bytes}
-use Rattle.bundle.proofs.laws.Parts.{take-bytes, drop-bytes}
+use Rattle.bits.proofs.laws.Cuts.{take-bytes, drop-bytes}
 use Rattle.network.specs.Lookups.{State, zeroArea, Shape, spreadArea, xorIndex, xorArea, sums, areaIn, lookupIn, lookupAt, lookup}
 use Rattle.network.specs.Order.{layerLookups, sumPlace}
 use Rattle.layout.specs.Stages.{shapes, tableSize, tableOffset}

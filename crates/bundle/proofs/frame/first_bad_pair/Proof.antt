@@ -1,10 +1,10 @@
--- `bundle::frame::first_bad_pair` meets its contract. The loop's invariant, `Searched` of `laws.Search`: none of the first i pairs is bad, and
+-- `bundle::frame::first_bad_pair` meets its contract. The loop's invariant, `Searched` of answers' `laws.Search`: none of the first i pairs is bad, and
 -- the search from i on has the answer of the search of all five. A bad pair is the first (`searched-here`), a good one is passed
 -- (`searched-next`), and behind the fifth there is none (`searched-all`). The measure is the number of pairs left.
 -- Assumes nothing.
 use Prim.Native.Nat.{_-_}
 use Rattle.bundle.specs.Format.{pairBad}
-use Rattle.bundle.proofs.laws.Search.{Searched, searched-none, searched-here, searched-next, searched-all}
+use Rattle.answers.proofs.laws.Search.{Searched, searched-none, searched-here, searched-next, searched-all}
 use native.Mathlib.Omega.{arith}
 use Rattle.bundle.proofs.frame.first_bad_pair.Statement.{statement}
 use Rattle.bundle.proofs.frame.first_bad_pair.Tie as tie

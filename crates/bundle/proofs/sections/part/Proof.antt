@@ -1,10 +1,10 @@
--- `bundle::sections::part` meets its contract. Each way out has a law of `laws.Parts`, whose premises are the tests on the way: a part of no bytes is
+-- `bundle::sections::part` meets its contract. Each way out has a law of bits' `laws.Cuts`, whose premises are the tests on the way: a part of no bytes is
 -- empty (`part-nothing`), behind the rest there is nothing (`part-past`), behind the whole parts stands the rest (`part-rest`), and a whole part is cut
 -- out of the section (`part-cut`). A part starts within the section (`part-starts`) and a whole one ends there (`part-ends`), so nothing wraps.
 -- Assumes nothing.
 use Prim.Native.Nat.{_+_, _*_, _≤_}
 use lib.ListN.{length}
-use Rattle.bundle.proofs.laws.Parts.{part-nothing, part-past, part-rest, part-starts, part-ends, part-cut}
+use Rattle.bits.proofs.laws.Cuts.{part-nothing, part-past, part-rest, part-starts, part-ends, part-cut}
 use native.Mathlib.Omega.{arith}
 use borrow.Author.Needs.{needs}
 use Rattle.bundle.proofs.sections.part.Statement.{statement}

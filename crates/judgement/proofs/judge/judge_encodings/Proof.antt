@@ -4,7 +4,7 @@
 -- Assumes nothing.
 use mathlib.Core.Path.{_∙_}
 use Rattle.answers.specs.declared.Refusal.the-variants.{Encoding}
-use Rattle.bundle.proofs.laws.Tests.{found-refuses, found-passes}
+use Rattle.answers.proofs.laws.Search.{found-refuses, found-passes}
 use Rattle.judgement.proofs.laws.Judging.{encodings-asked, encodings-judged}
 use borrow.Author.Needs.{needs}
 use Rattle.judgement.proofs.judge.judge_encodings.Statement.{statement}

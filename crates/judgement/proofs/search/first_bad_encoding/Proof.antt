@@ -1,4 +1,4 @@
--- `judgement::search::first_bad_encoding` meets its contract. The outer loop's invariant, `Searched` of bundle's `laws.Search`: each of the first n
+-- `judgement::search::first_bad_encoding` meets its contract. The outer loop's invariant, `Searched` of answers' `laws.Search`: each of the first n
 -- lists is a permutation, and the search from n on has the answer of the search of all. The inner loop's, `Imaged` of `laws.Encodings`: the images
 -- of the first i bytes of list n differ, and `seen` marks them. A byte that repeats an image makes list n bad (`imaged-here`), and so the first
 -- (`searched-here`); another is marked (`imaged-next`). Behind the eighth byte the list is good (`imaged-all`) and is passed (`searched-next`),
@@ -6,7 +6,7 @@
 -- Assumes nothing.
 use mathlib.Core.Path.{refl}
 use Prim.Native.Nat.{_+_, _-_, _*_}
-use Rattle.bundle.proofs.laws.Search.{Searched, searched-none, searched-here, searched-next, searched-all}
+use Rattle.answers.proofs.laws.Search.{Searched, searched-none, searched-here, searched-next, searched-all}
 use Rattle.judgement.proofs.laws.Encodings.{badIn, Imaged, imaged-none, imaged-here, imaged-next, imaged-all}
 use native.Mathlib.Omega.{arith}
 use Rattle.judgement.proofs.search.first_bad_encoding.Statement.{statement}

@@ -1,4 +1,4 @@
--- `judgement::search::first_singular` meets its contract. The loop's invariant, `Searched` of bundle's `laws.Search`: none of the first k matrices
+-- `judgement::search::first_singular` meets its contract. The loop's invariant, `Searched` of answers' `laws.Search`: none of the first k matrices
 -- is bad, and the search from k on has the answer of the search of all. What the code cuts out is matrix k (`mixing-cut` of `laws.Judging`):
 -- a bad one is the first (`searched-here`), another is passed (`searched-next`), and behind the last there is none (`searched-all`).
 -- Matrix k ends within the section (`fits`), so no product and no sum wraps; and the number of a matrix has 32 bits. The measure is the number of matrices left.
@@ -6,7 +6,7 @@
 use Prim.Native.Nat.{ℕ, _+_, _-_, _*_, _≤_, _<_}
 use lib.ListN.{length, length-take, length-drop}
 use Rattle.bits.proofs.laws.Multiples.{parts-within}
-use Rattle.bundle.proofs.laws.Search.{Searched, searched-none, searched-here, searched-next, searched-all}
+use Rattle.answers.proofs.laws.Search.{Searched, searched-none, searched-here, searched-next, searched-all}
 use Rattle.judgement.proofs.laws.Judging.{badMixingIn, mixing-cut}
 use native.Mathlib.Omega.{arith}
 use Rattle.judgement.proofs.search.first_singular.Statement.{statement}

@@ -1,4 +1,4 @@
--- Laws, not definitions: what the search for the first number finds, and a loop that searches.
+-- Laws, not definitions: what the search for the first number finds, a loop that searches, and the refusal for what it found.
 -- Assumes nothing.
 use mathlib.Core.Bool.{Bool, true, false}
 use mathlib.Core.Path.{_≡_, refl, sym, ap, ap₂, _∙_, subst}
@@ -6,10 +6,20 @@ use Prim.Native.Nat.{ℕ, zero, suc, _+_, _-_, _≤_, _<_}
 use native.Mathlib.Decide.{ℕ-discrete, decLt}
 use native.Mathlib.Numerals.{add-one}
 use native.Mathlib.Omega.{arith}
-use Rattle.bundle.specs.Search.{All, FirstBad, pick, firstFrom, first}
-use Rattle.bundle.specs.declared.found.Found.{Found}
-use Rattle.bundle.specs.declared.found.Found.the-variants.{At, Nothing}
-use Rattle.bundle.proofs.laws.Tests.{clash, not-false-true}
+use Rattle.answers.specs.Search.{All, FirstBad, pick, firstFrom, first, refusedAt}
+use Rattle.answers.specs.declared.Answer.{Answer}
+use Rattle.answers.specs.declared.Answer.the-variants.{Accepted, Refused}
+use Rattle.answers.specs.declared.Refusal.{Refusal}
+use Rattle.answers.specs.declared.found.Found.{Found}
+use Rattle.answers.specs.declared.found.Found.the-variants.{At, Nothing}
+
+-- ---- tests
+pub clash : (b : Bool) → b ≡ true → b ≡ false → ⊥
+clash b e f = let y : _≡_ {A = ℕ} 0 1 = cc in omega arith
+
+pub not-false-true : (b : Bool) → (b ≡ false → ⊥) → b ≡ true
+not-false-true true h = refl
+not-false-true false h = absurd (h refl)
 
 -- ---- what an answer says, from n on
 abbrev Says : ℕ → ℕ → (ℕ → Bool) → Found → Type 0
@@ -104,3 +114,20 @@ module _ {count n : ℕ} {p : ℕ → Bool} {r : Bool} (I : Searched count p n) 
 pub searched-all : {count n : ℕ} {p : ℕ → Bool} → Searched count p n → count ≤ n → Nothing ≡ first count p
 unfolding firstFrom
 searched-all {count} {n} I h = let k : count - n ≡ 0 = omega arith in sym (I .same ∙ rw k)
+
+-- ---- a search found f: refused for the number that it found, or accepted
+pub found-refuses : (f : Found) (r : ℕ → Refusal) (n : ℕ) → f ≡ At n → Refused (r n) ≡ refusedAt f r
+found-refuses f r n e = ap (λ (x : Found). refusedAt x r) (sym e)
+
+pub found-passes : (f : Found) (r : ℕ → Refusal) → f ≡ Nothing → Accepted ≡ refusedAt f r
+found-passes f r e = ap (λ (x : Found). refusedAt x r) (sym e)
+
+pub none-found : (f : Found) (r : ℕ → Refusal) → refusedAt f r ≡ Accepted → f ≡ Nothing
+none-found (At n) r e = let y : _≡_ {A = ℕ} 0 1 = cc in absurd (omega arith)
+none-found Nothing r e = refl
+
+-- What holds of each answer that can be given, holds of the one that is.
+pub by-refusedAt : (P : Answer → Type 0) (f : Found) (r : ℕ → Refusal) → ((n : ℕ) → f ≡ At n → P (Refused (r n))) → (f ≡ Nothing → P Accepted)
+    → P (refusedAt f r)
+by-refusedAt P (At n) r h k = h n refl
+by-refusedAt P Nothing r h k = k refl

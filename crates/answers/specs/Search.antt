@@ -1,11 +1,11 @@
 -- The first number that a test picks, looking forward; what it is without the search; and the refusal for it. Definitions only.
 use mathlib.Core.Bool.{Bool, true, false}
 use Prim.Native.Nat.{ℕ, zero, suc, _<_}
 use Rattle.answers.specs.declared.Answer.{Answer}
 use Rattle.answers.specs.declared.Answer.the-variants.{Accepted, Refused}
 use Rattle.answers.specs.declared.Refusal.{Refusal}
-use Rattle.bundle.specs.declared.found.Found.{Found}
-use Rattle.bundle.specs.declared.found.Found.the-variants.{At, Nothing}
+use Rattle.answers.specs.declared.found.Found.{Found}
+use Rattle.answers.specs.declared.found.Found.the-variants.{At, Nothing}
 
 abbrev pub pick : Bool → Found → Found → Found
 pick true a b = a

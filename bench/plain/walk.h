@@ -1,0 +1,70 @@
+/* The walk over a set, in one pass. Each lookup is told to a visitor as it is made; the compiler makes a walk for each visitor. */
+#ifndef WALK_H
+#define WALK_H
+
+#include "layers.h"
+
+#include <stdint.h>
+#include <string.h>
+
+#define INLINED static inline __attribute__((always_inline))
+
+typedef struct {
+    /* The offset within the set of the entry that was read, and its first byte or, of an XOR table's entry, its half-byte. False ends the walk. */
+    bool (*visit)(void *state, size_t offset, uint8_t value);
+    void *state;
+    const uint8_t *set;
+} visitor;
+
+INLINED bool told(visitor v, const uint8_t *entry, uint8_t value)
+{
+    return v.visit(v.state, (size_t)(entry - v.set), value);
+}
+
+/* One layer over its tables: standing is the block's bytes, as they are after it. The tables behind, or null where the visitor ends the walk. */
+INLINED const uint8_t *walk_layer(size_t word, bool inverse, kind k, const uint8_t *tables, uint8_t standing[16], visitor v)
+{
+    uint8_t area[256];
+    for (size_t p = 0; p < 16; p++) {
+        const uint8_t *entry = tables + word * standing[source(inverse, k, p)];
+        memcpy(area + word * p, entry, word);
+        if (!told(v, entry, *entry))
+            return NULL;
+        tables += 256 * word;
+    }
+    for (size_t group = 0; group < 16 / word; group++) {
+        uint8_t *sum = area + word * word * group;
+        for (size_t t = 1; t < word; t++)
+            for (size_t i = 0; i < word; i++) {
+                uint8_t a = sum[i], b = sum[word * t + i];
+                unsigned high = (a & 0xf0u) | b >> 4, low = (a & 15u) << 4 | (b & 15u);
+                const uint8_t *h = tables + high / 2, *l = tables + 128 + low / 2;
+                uint8_t x = *h >> (high % 2 ? 0 : 4) & 15, y = *l >> (low % 2 ? 0 : 4) & 15;
+                if (!told(v, h, x) || !told(v, l, y))
+                    return NULL;
+                sum[i] = (uint8_t)(x << 4 | y);
+                tables += 256;
+            }
+        memcpy(standing + word * group, sum, word);
+    }
+    return tables;
+}
+
+INLINED bool walk_layers(bool inverse, const uint8_t *set, uint8_t standing[16], visitor v)
+{
+    set = walk_layer(16, inverse, ENTRY, set, standing, v);
+    for (int r = 1; set != NULL && r < ROUNDS; r++) {
+        set = walk_layer(4, inverse, FIRST, set, standing, v);
+        if (set != NULL)
+            set = walk_layer(4, inverse, SECOND, set, standing, v);
+    }
+    return set != NULL && walk_layer(16, inverse, EXIT, set, standing, v) != NULL;
+}
+
+/* Whether the visitor let it reach its end. The cipher is asked for once, so that the compiler makes a walk for each with the row shift worked out. */
+INLINED bool walk(uint64_t cipher, const uint8_t *set, uint8_t standing[16], visitor v)
+{
+    return cipher == 0 ? walk_layers(false, set, standing, v) : walk_layers(true, set, standing, v);
+}
+
+#endif

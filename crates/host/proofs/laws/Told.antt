@@ -1,0 +1,78 @@
+-- Laws, not definitions: what the replay for C returns and leaves behind the pointer, and the statements of specs/Told.antt.
+-- Assumes nothing.
+use mathlib.Core.List.{List}
+use mathlib.Core.Path.{_≡_, refl, sym, ap, _∙_}
+use Prim.Native.Nat.{ℕ, _<_}
+use native.Mathlib.Omega.{arith}
+use lib.ListN.{length}
+use Rattle.answers.specs.Numbers.{numberOf}
+use Rattle.answers.specs.declared.Answer.the-variants as answer
+use Rattle.answers.specs.declared.Answer.the-variants.{Accepted}
+use Rattle.answers.specs.declared.Refusal.{Refusal}
+use Rattle.layout.specs.Stages.{lookups}
+use Rattle.layout.proofs.laws.Cases.{starred}
+use Rattle.whitebox.proofs.laws.Judged.{differ}
+use Rattle.records.specs.Contracts.{Replays}
+use Rattle.records.specs.Replay.{judgeRecord, answerOf, replayed}
+use Rattle.records.specs.Theorems.{Exact}
+use Rattle.records.specs.declared.replay.Verdict.{Verdict}
+use Rattle.records.specs.declared.replay.Verdict.the-variants.{Own, Differs, Refused}
+use Rattle.records.proofs.laws.Proved.{records-and-replays}
+use Rattle.host.specs.Told.{none, differsLeft, TellsExactly, RefusedKeeps}
+
+-- ---- the call, where the replay handed back v, and n is its answer's number: for each verdict, what is returned and what is left behind the pointer
+module _ (c : ℕ) (set block rec : List ℕ) {v : Verdict} (e : Replays c 10 set block rec v) {n : ℕ} (old : ℕ) where
+  by-verdict : (w : Verdict) → v ≡ w → n ≡ numberOf (answerOf w)
+      → (n ≡ numberOf (judgeRecord 10 (length set) (length block) (length rec))) × (differsLeft w old ≡ differsLeft (replayed c 10 set block rec) old)
+  by-verdict w f g =
+      let is : w ≡ replayed c 10 set block rec = sym f ∙ e in
+      (g ∙ ap numberOf (ap answerOf is ∙ records-and-replays .answers c 10 set block rec), ap (λ (v : Verdict). differsLeft v old) is)
+
+  pub replay-own : v ≡ Own → n ≡ numberOf Accepted
+      → (n ≡ numberOf (judgeRecord 10 (length set) (length block) (length rec))) × (none ≡ differsLeft (replayed c 10 set block rec) old)
+  replay-own = by-verdict Own
+
+  pub replay-differs : {k : ℕ} → v ≡ Differs k → n ≡ numberOf Accepted
+      → (n ≡ numberOf (judgeRecord 10 (length set) (length block) (length rec))) × (k ≡ differsLeft (replayed c 10 set block rec) old)
+  replay-differs {k} = by-verdict (Differs k)
+
+  pub replay-refused : {r : Refusal} → v ≡ Refused r → n ≡ numberOf (answer.Refused r)
+      → (n ≡ numberOf (judgeRecord 10 (length set) (length block) (length rec))) × (old ≡ differsLeft (replayed c 10 set block rec) old)
+  replay-refused {r} = by-verdict (Refused r)
+
+-- ---- what a host reads off
+-- A lookup's number is not the one that tells of none.
+below-none : (k : ℕ) → k < lookups 10 → k ≡ none → ⊥
+below-none k h e = omega (arith, starred .all-lookups)
+
+module _ (c : ℕ) (set block rec : List ℕ) (old : ℕ) (ok : judgeRecord 10 (length set) (length block) (length rec) ≡ Accepted) where
+  exact : Exact c 10 set block rec
+  exact = records-and-replays .exact c 10 set block rec ok
+
+  -- By the verdict v, which is no refusal.
+  own-told : (v : Verdict) → replayed c 10 set block rec ≡ v → differsLeft v old ≡ none → v ≡ Own
+  own-told Own e f = refl
+  own-told (Differs k) e f = absurd (below-none k (exact .first-only k e .below) f)
+  own-told (Refused r) e f = differ (sym ok ∙ sym (records-and-replays .answers c 10 set block rec) ∙ ap answerOf e)
+
+  lookup-told : (v : Verdict) → replayed c 10 set block rec ≡ v → (differsLeft v old ≡ none → ⊥) → v ≡ Differs (differsLeft v old)
+  lookup-told Own e f = absurd (f refl)
+  lookup-told (Differs k) e f = refl
+  lookup-told (Refused r) e f = differ (sym ok ∙ sym (records-and-replays .answers c 10 set block rec) ∙ ap answerOf e)
+
+pub tells-exactly : TellsExactly
+tells-exactly c set block rec old ok = record {
+  own-only = λ e. exact c set block rec old ok .own-only (own-told c set block rec old ok (replayed c 10 set block rec) refl e);
+  own-if = λ e. ap (λ (v : Verdict). differsLeft v old) (exact c set block rec old ok .own-if e);
+  first-only = λ e. exact c set block rec old ok .first-only _ (lookup-told c set block rec old ok (replayed c 10 set block rec) refl e);
+  first-if = λ k B. ap (λ (v : Verdict). differsLeft v old) (exact c set block rec old ok .first-if k B);
+}
+
+kept : (v : Verdict) (old : ℕ) → (answerOf v ≡ Accepted → ⊥) → differsLeft v old ≡ old
+kept Own old f = absurd (f refl)
+kept (Differs k) old f = absurd (f refl)
+kept (Refused r) old f = refl
+
+pub refused-keeps : RefusedKeeps
+refused-keeps c set block rec old f =
+    kept (replayed c 10 set block rec) old (λ e. f (sym (records-and-replays .answers c 10 set block rec) ∙ e))

@@ -1,0 +1,10 @@
+pub mod Entry
+pub mod Walking
+pub mod Judged
+pub mod Loops
+pub mod Calls
+pub mod Exact
+pub mod Accepted
+pub mod Written
+pub mod Values
+pub mod Proved
