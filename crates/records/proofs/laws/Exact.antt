@@ -42,10 +42,6 @@ module _ (c nr : ℕ) (set block : List ℕ) where
   record-entry k h = concat-row entrySize (entryAt c nr set block) (lookups nr) entries-long k h
 
 -- ---- entries and their bytes
--- A byte of entry k of a record.
-entry-byte : (rec : List ℕ) (k i : ℕ) → i < entrySize → at (entryIn rec k) i ≡ at rec (k * entrySize + i)
-entry-byte rec k i h = part-at entrySize rec k i h
-
 -- Entry k, of a record of n entries, is whole.
 entry-long : (rec : List ℕ) (n k : ℕ) → length rec ≡ n * entrySize → k < n → length (entryIn rec k) ≡ entrySize
 entry-long rec n k l h = part-length entrySize rec k (omega arith)
@@ -111,12 +107,12 @@ module _ (c nr : ℕ) (set block rec : List ℕ) (ok : judgeRecord nr (length se
   -- By its bytes.
   agrees : (k : ℕ) → k < lookups nr → Same k → Agrees c nr set block rec k
   agrees k h e i b =
-      sym (entry-byte rec k i b) ∙ ap (λ (l : List ℕ). at l i) (e ∙ sym (record-entry c nr set block k h)) ∙ entry-byte own k i b
+      sym (part-at entrySize rec k i b) ∙ ap (λ (l : List ℕ). at l i) (e ∙ sym (record-entry c nr set block k h)) ∙ part-at entrySize own k i b
 
   agreed : (k : ℕ) → k < lookups nr → Agrees c nr set block rec k → Same k
   agreed k h A =
       ext-at entrySize _ _ (entry-long rec (lookups nr) k long h) (entry-long own (lookups nr) k (record-long c nr set block) h)
-      (λ i b. entry-byte rec k i b ∙ A i b ∙ sym (entry-byte own k i b))
+      (λ i b. part-at entrySize rec k i b ∙ A i b ∙ sym (part-at entrySize own k i b))
       ∙ record-entry c nr set block k h
 
   first-only : (k : ℕ) → replayed c nr set block rec ≡ Differs k → FirstBad (lookups nr) (Agrees c nr set block rec) k

@@ -13,8 +13,8 @@ use Rattle.records.specs.Record.{entrySize, recordBytes}
 use Rattle.records.specs.Replay.{judgeRecord}
 
 module _ {nr count bytes : ℕ} (N : Sizes nr count bytes) (set block rec : ℕ) where
-  right : recordBytes nr ≡ count * entrySize
-  right = ap (λ (n : ℕ). n * entrySize) (N .all-lookups)
+  bytes-are : recordBytes nr ≡ count * entrySize
+  bytes-are = ap (λ (n : ℕ). n * entrySize) (N .all-lookups)
 
   pub bad-set : (set ≡ bytes → ⊥) → Refused SetLength ≡ judgeRecord nr set block rec
   unfolding judgeRecord
@@ -38,10 +38,10 @@ module _ {nr count bytes : ℕ} (N : Sizes nr count bytes) (set block rec : ℕ)
       by-last = second-decides _ _ (sym (length-right 16 block BlockLength f)) ∙ by-later
 
       pub bad-record : (rec ≡ count * entrySize → ⊥) → Refused RecordLength ≡ judgeRecord nr set block rec
-      bad-record n = length-wrong (recordBytes nr) rec RecordLength (λ g. n (g ∙ right)) ∙ by-last
+      bad-record n = length-wrong (recordBytes nr) rec RecordLength (λ g. n (g ∙ bytes-are)) ∙ by-last
 
       pub good : rec ≡ count * entrySize → Accepted ≡ judgeRecord nr set block rec
-      good g = length-right (recordBytes nr) rec RecordLength (g ∙ sym right) ∙ by-last
+      good g = length-right (recordBytes nr) rec RecordLength (g ∙ sym bytes-are) ∙ by-last
 
   -- Where it is accepted, the lengths are right.
   pub lengths-were : {a : Answer} → a ≡ judgeRecord nr set block rec → a ≡ Accepted → (set ≡ bytes) × (block ≡ 16) × (rec ≡ count * entrySize)
@@ -51,5 +51,5 @@ module _ {nr count bytes : ℕ} (N : Sizes nr count bytes) (set block rec : ℕ)
       let two = both _ _ (one .second) in (
         length-was (setBytes nr) set SetLength (one .first) ∙ N .all-bytes,
         length-was 16 block BlockLength (two .first),
-        length-was (recordBytes nr) rec RecordLength (two .second) ∙ right,
+        length-was (recordBytes nr) rec RecordLength (two .second) ∙ bytes-are,
       )
