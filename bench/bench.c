@@ -12,7 +12,7 @@
 #include <string.h>
 #include <time.h>
 
-enum { ROUNDS = 101, CIPHERS = 2, SPREAD_TABLE = 496, XOR_TABLE = 512, RECORDS = 25, ENTRY_BYTES = 5 };
+enum { ROUNDS = 101, CIPHERS = 2, SPREAD_TABLE = 496, XOR_TABLE = 512, RECORDS = 25, ENTRY_BYTES = 5, STRIDE = 7919 };
 
 static uint8_t key[TAZHIKKO_KEY_BYTES];
 static uint8_t bundle[TAZHIKKO_BUNDLE_MAX_BYTES];
@@ -94,6 +94,25 @@ static void record_next_plain(void) { record_plain(next()); }
 static void replay_next_ours(void) { replay_ours(next()); }
 static void replay_next_plain(void) { replay_plain(next()); }
 
+/* In strides, so that a call finds other rows than the one before; they share no factor with the catalogue's length, so every position has its turn. */
+static size_t next_position(void)
+{
+    static size_t position;
+    return position = (position + STRIDE) % TAZHIKKO_CATALOGUE_MATRICES;
+}
+
+static void entry_ours(void)
+{
+    size_t matrix;
+    tazhikko_catalogue_entry(next_position(), &matrix);
+}
+
+static void entry_plain(void)
+{
+    size_t matrix;
+    plain_catalogue_entry(next_position(), &matrix);
+}
+
 static const struct task {
     const char *what;
     uint64_t cipher;
@@ -107,6 +126,7 @@ static const struct task {
     {"walk a block", TAZHIKKO_FORWARD, walk_ours, walk_plain, 50},
     {"record a walk", TAZHIKKO_FORWARD, record_next_ours, record_next_plain, 2 * RECORDS},
     {"replay a record", TAZHIKKO_FORWARD, replay_next_ours, replay_next_plain, 2 * RECORDS},
+    {"an entry of the catalogue", TAZHIKKO_FORWARD, entry_ours, entry_plain, TAZHIKKO_CATALOGUE_MATRICES},
     {"inverse: make a set", TAZHIKKO_INVERSE, set_ours, set_plain, 1},
     {"inverse: one spread table", TAZHIKKO_INVERSE, spread_ours, spread_plain, 2},
     {"inverse: one XOR table", TAZHIKKO_INVERSE, xor_ours, xor_plain, 2},
@@ -189,6 +209,22 @@ static void check_records(void)
     }
 }
 
+/* What a refused call leaves too. */
+static void check_entry(size_t position)
+{
+    size_t ours = SIZE_MAX, plain = SIZE_MAX;
+    uint64_t refusal = tazhikko_catalogue_entry(position, &ours);
+    require(refusal == plain_catalogue_entry(position, &plain) && ours == plain, "entry of the catalogue");
+}
+
+/* Every position, and the first and the last that no matrix has. */
+static void check_entries(void)
+{
+    for (size_t position = 0; position <= TAZHIKKO_CATALOGUE_MATRICES; position++)
+        check_entry(position);
+    check_entry(SIZE_MAX);
+}
+
 static double seconds(void (*call)(void), int calls)
 {
     struct timespec from, to;
@@ -215,7 +251,7 @@ static void measure(void)
         }
     printf("%-26s %12s %12s %8s\n", "microseconds", "ours", "plain C", "ratio");
     for (size_t i = 0; i < COUNT; i++)
-        printf("%-26s %12.1f %12.1f %8.2f\n", TASKS[i].what, 1e6 * ours[i], 1e6 * plain[i], ours[i] / plain[i]);
+        printf("%-26s %12.2f %12.2f %8.2f\n", TASKS[i].what, 1e6 * ours[i], 1e6 * plain[i], ours[i] / plain[i]);
 }
 
 int main(void)
@@ -224,6 +260,7 @@ int main(void)
         return 2;
     bundle_len = fread(bundle, 1, sizeof bundle, stdin);
     check_judgements();
+    check_entries();
     for (cipher = 0; cipher < CIPHERS; cipher++) {
         check_tables();
         check_walks();

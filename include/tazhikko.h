@@ -15,8 +15,8 @@ extern "C" {
 
 /* The version of these calls: 10,000 times the major number, 100 times the minor one, and the patch. Where the major number is another, a
  * call takes or answers something else. Since version 2, make_set, make_table and walk name a cipher as their first argument; since 2.1 there are
- * record and replay. */
-#define TAZHIKKO_VERSION 20100
+ * record and replay, since 2.2 catalogue_entry. */
+#define TAZHIKKO_VERSION 20200
 
 /* The ciphers of a set and of a walk: 0 is the forward one and any other number the inverse one. No number is refused. */
 #define TAZHIKKO_FORWARD 0
@@ -33,21 +33,25 @@ extern "C" {
 /* Tables in a set. Tables 0 to 15 and 2512 to 2527 have 4096 bytes; of the 112 tables of a half round the first 16 have 1024; all others 128. */
 #define TAZHIKKO_TABLES 3008
 
+/* Matrices in the catalogue. */
+#define TAZHIKKO_CATALOGUE_MATRICES 20160
+
 /* What stands for none where a call tells a number through a pointer. */
 #define TAZHIKKO_NONE SIZE_MAX
 
 /* Why a call is refused; the lowest number that applies is given. */
-#define TAZHIKKO_KEY_LENGTH 1     /* the key is not of 16 bytes */
-#define TAZHIKKO_BUNDLE_LENGTH 2  /* the bundle is too short or too long */
-#define TAZHIKKO_SECTION 3        /* second number: the first bad pair, 0 to 4 */
-#define TAZHIKKO_ENCODING 4       /* second number: the first list that is no permutation */
-#define TAZHIKKO_BYTE_MATRIX 5    /* second number: the first byte matrix that has no inverse */
-#define TAZHIKKO_COLUMN_MATRIX 6  /* second number: the first column matrix that has no inverse */
-#define TAZHIKKO_BLOCK_MATRIX 7   /* second number: 0 input or both, 1 output only */
-#define TAZHIKKO_TABLE_NUMBER 8   /* the table number is above TAZHIKKO_TABLES - 1 */
-#define TAZHIKKO_SET_LENGTH 9     /* the set, or the single table, has the wrong length */
-#define TAZHIKKO_BLOCK_LENGTH 10  /* a block, in or out, is not of 16 bytes */
-#define TAZHIKKO_RECORD_LENGTH 13 /* a record is not of TAZHIKKO_RECORD_BYTES bytes */
+#define TAZHIKKO_KEY_LENGTH 1          /* the key is not of 16 bytes */
+#define TAZHIKKO_BUNDLE_LENGTH 2       /* the bundle is too short or too long */
+#define TAZHIKKO_SECTION 3             /* second number: the first bad pair, 0 to 4 */
+#define TAZHIKKO_ENCODING 4            /* second number: the first list that is no permutation */
+#define TAZHIKKO_BYTE_MATRIX 5         /* second number: the first byte matrix that has no inverse */
+#define TAZHIKKO_COLUMN_MATRIX 6       /* second number: the first column matrix that has no inverse */
+#define TAZHIKKO_BLOCK_MATRIX 7        /* second number: 0 input or both, 1 output only */
+#define TAZHIKKO_TABLE_NUMBER 8        /* the table number is above TAZHIKKO_TABLES - 1 */
+#define TAZHIKKO_SET_LENGTH 9          /* the set, or the single table, has the wrong length */
+#define TAZHIKKO_BLOCK_LENGTH 10       /* a block, in or out, is not of 16 bytes */
+#define TAZHIKKO_RECORD_LENGTH 13      /* a record is not of TAZHIKKO_RECORD_BYTES bytes */
+#define TAZHIKKO_CATALOGUE_POSITION 14 /* the position is above TAZHIKKO_CATALOGUE_MATRICES - 1 */
 
 #define TAZHIKKO_CAUSE(refusal) ((uint32_t)((refusal) >> 32))
 #define TAZHIKKO_SECOND(refusal) ((uint32_t)(refusal))
@@ -87,6 +91,11 @@ uint64_t tazhikko_record(
 uint64_t tazhikko_replay(
     uint64_t cipher, const uint8_t *set, size_t set_len, const uint8_t *block, size_t block_len, const uint8_t *record, size_t record_len,
     size_t *differs);
+
+/* The entry of the catalogue at a position, from 0. The catalogue has every 4 by 4 bit matrix that has an inverse, each once, in rising order of the
+ * 16-bit number that its rows make, row 0 highest, column 0 the top bit of a row: *matrix becomes that number. `matrix` must not be null; a refused
+ * call leaves *matrix as it was. */
+uint64_t tazhikko_catalogue_entry(size_t position, size_t *matrix);
 
 #ifdef __cplusplus
 }

@@ -1,5 +1,5 @@
 #!/usr/bin/env python3
-"""Builds examples/c/host.c and bench.c and compares what they print with OpenSSL and with tests/reference/.
+"""Builds the examples in C and compares what they print with OpenSSL and with tests/reference/.
 
 usage: rt staticlib host && tests/example.py
 """
@@ -16,8 +16,9 @@ import openssl_aes
 import tickets
 import wbref
 
-RULES = tickets.Rules(3)
+RULES = tickets.Rules(4)
 CIPHERS = ("forward", "inverse")
+MATRICES = 20160  # in the catalogue
 
 
 def build(folder, name):
@@ -98,11 +99,46 @@ def check_bench(rng, folder):
         check_walk(rng, folder, program, cipher, rng.randbytes(wbref.SET_LEN))
 
 
+# ---- mixing.c ------------------------------------------------------------------------------
+
+def joined(blocks):
+    """The rows of the matrix of four blocks, put together as text."""
+    digits = ["{:016b}".format(block) for block in blocks]
+    return [int(left[i : i + 4] + right[i : i + 4], 2) for left, right in (digits[:2], digits[2:]) for i in range(0, 16, 4)]
+
+
+def mixed(data):
+    """The first four blocks at the positions that these bytes name, without numbers that would favour some positions, whose matrix has an inverse."""
+    numbers = [int.from_bytes(data[i : i + 2], "big") for i in range(0, len(data) - 1, 2)]
+    blocks = [tickets.catalogue_at(n % MATRICES)[2] for n in numbers if n < 3 * MATRICES]
+    for at in range(0, len(blocks) - 3, 4):
+        rows = joined(blocks[at : at + 4])
+        if wbref.mat_inv(rows, 8) is not None:
+            return bytes(rows).hex().encode() + b"\n", 0
+    return b"", 2
+
+
+def block_invertible(rows):
+    """Whether the matrix has an inverse, and each of its four blocks."""
+    blocks = [[row >> shift & 15 for row in rows[top : top + 4]] for top in (0, 4) for shift in (4, 0)]
+    return wbref.mat_inv(rows, 8) is not None and all(wbref.mat_inv(block, 4) is not None for block in blocks)
+
+
+def check_mixing(rng, folder):
+    program = build(folder, "mixing")
+    for size in [*range(40), *[4000] * 60]:
+        data = rng.randbytes(size)
+        done = subprocess.run([program], input=data, stdout=subprocess.PIPE, stderr=subprocess.DEVNULL)
+        assert (done.stdout, done.returncode) == mixed(data), (done, mixed(data))
+        assert done.returncode or block_invertible(bytes.fromhex(done.stdout.decode())), done
+
+
 def main():
     rng = random.Random(16)
     with tempfile.TemporaryDirectory() as folder:
         check_host(rng, folder)
         check_bench(rng, folder)
+        check_mixing(rng, folder)
     print("examples: as OpenSSL and the reference")
 
 

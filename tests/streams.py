@@ -1,5 +1,5 @@
 #!/usr/bin/env python3
-"""Runs both programs where a read or a write fails: standard error says so, and what was written to standard output before stays.
+"""Runs the programs where a read or a write fails: standard error says so, and what was written to standard output before stays.
 
 usage: tests/streams.py [PROGRAMS]     PROGRAMS is the folder of the compiled programs, target/bin by default
 
@@ -21,8 +21,8 @@ NOT_READ = b"a read from standard input failed\n"
 NOT_WRITTEN = b"a write to standard output failed or was cut short\n"
 
 
-def sample(name):
-    with open(os.path.join(HERE, "..", "crates", "maker", name), "rb") as f:
+def sample(crate, name):
+    with open(os.path.join(HERE, "..", "crates", crate, name), "rb") as f:
         return f.read()
 
 
@@ -67,15 +67,17 @@ def unread(name, want):
 
 
 def main():
-    key_and_bundle, made = sample("stdin"), sample("stdout")
+    key_and_bundle, made, catalogue = sample("maker", "stdin"), sample("maker", "stdout"), sample("catalogue_list", "stdout")
     zeros = bytes(16 + SIZE)
-    for name, inputs in (("maker", (key_and_bundle, b"")), ("walker", (zeros, zeros[:-1], b""))):
+    for name, inputs in (("maker", (key_and_bundle, b"")), ("walker", (zeros, zeros[:-1], b"")), ("catalogue_list", (b"",))):
         for data in inputs:
             silent(name, data)
             full(name, data)
     cut("maker", key_and_bundle, made, 100000)
     cut("maker", key_and_bundle, made, SIZE - 1)
     cut("walker", zeros, b"0" * 32 + b"\n", 32)
+    cut("catalogue_list", b"", catalogue, 4096)
+    cut("catalogue_list", b"", catalogue, len(catalogue) - 1)
     unread("maker", b"refused 1 0\n")
     unread("walker", b"refused 10\n")
     print("streams: failures are told")

@@ -19,4 +19,7 @@ void plain_walk(uint64_t cipher, const uint8_t *set, const uint8_t *block, uint8
 void plain_record(uint64_t cipher, const uint8_t *set, const uint8_t *block, uint8_t *record);
 size_t plain_replay(uint64_t cipher, const uint8_t *set, const uint8_t *block, const uint8_t *record);
 
+/* The entry of the catalogue at a position: 0, or the refusal, which leaves *matrix. */
+uint64_t plain_catalogue_entry(size_t position, size_t *matrix);
+
 #endif

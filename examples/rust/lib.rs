@@ -11,6 +11,7 @@ mod tests;
 pub const SET_BYTES: usize = 770_048;
 pub const TABLES: usize = 3_008;
 pub const RECORD_BYTES: usize = 15_040;
+pub const CATALOGUE_MATRICES: usize = 20_160;
 
 /// What stands for no lookup where a call tells one through a pointer.
 const NONE: usize = usize::MAX;
@@ -43,6 +44,7 @@ pub enum Refusal {
     SetLength,
     BlockLength,
     RecordLength,
+    CataloguePosition,
 }
 
 /// A call for C that reads two slices and writes a third.
@@ -107,6 +109,7 @@ extern "C" {
         record_len: usize,
         differs: *mut usize,
     ) -> u64;
+    fn tazhikko_catalogue_entry(position: usize, matrix: *mut usize) -> u64;
 }
 
 /// The judgement of a bundle.
@@ -187,6 +190,15 @@ pub fn replay(cipher: Cipher, set: &[u8], block: &[u8], record: &[u8]) -> Result
     Ok(if differs == NONE { None } else { Some(differs) })
 }
 
+/// The entry of the catalogue at a position, from 0: the number that the rows of a 4 by 4 bit matrix make, row 0 highest, column 0 the top bit of a
+/// row. The catalogue has every such matrix that has an inverse, each once, in rising order of the numbers.
+pub fn catalogue_entry(position: usize) -> Result<u16, Refusal> {
+    let mut matrix = 0;
+    // SAFETY: a number that is borrowed alone.
+    answer(unsafe { tazhikko_catalogue_entry(position, &mut matrix) })?;
+    Ok(matrix as u16)
+}
+
 /// The length of a table, 0 for a number that no table has.
 pub fn table_bytes(number: usize) -> usize {
     match number {
@@ -228,6 +240,7 @@ fn answer(number: u64) -> Result<(), Refusal> {
         9 => Refusal::SetLength,
         10 => Refusal::BlockLength,
         13 => Refusal::RecordLength,
+        14 => Refusal::CataloguePosition,
         cause => unreachable!("the calls for C have no cause {cause}"),
     })
 }

@@ -1,4 +1,4 @@
-//! FIPS 197's published examples, through bundles built here by document 01's format, records of walks, and every refusal.
+//! FIPS 197's published examples, through bundles built here by document 01's format, records of walks, the catalogue, and every refusal.
 use super::*;
 
 /// FIPS 197, appendix C.1: key, block, cipher block.
@@ -121,6 +121,23 @@ fn replays() {
             recorded[at] ^= 0x10;
             assert_eq!(replay(cipher, &set, &BLOCK, &recorded), Ok(Some(at / 5)));
         }
+    }
+}
+
+/// A matrix has an inverse where it takes no vector but 0 to 0: some row shares an odd number of ones with each other vector.
+fn has_inverse(matrix: u16) -> bool {
+    (1..16).all(|vector: u16| (0..4).any(|row| (matrix >> (4 * row) & vector).count_ones() % 2 == 1))
+}
+
+#[test]
+fn the_catalogue() {
+    let matrices: Vec<u16> = (0..=u16::MAX).filter(|matrix| has_inverse(*matrix)).collect();
+    assert_eq!(matrices.len(), CATALOGUE_MATRICES);
+    for (position, matrix) in matrices.iter().enumerate() {
+        assert_eq!(catalogue_entry(position), Ok(*matrix));
+    }
+    for position in [20_160, 20_161, 65_536, 1 << 32, (1 << 32) + 5, 1 << 63, usize::MAX] {
+        assert_eq!(catalogue_entry(position), Err(Refusal::CataloguePosition));
     }
 }
 

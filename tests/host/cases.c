@@ -55,11 +55,17 @@ static uint32_t number(struct file *file)
     return (uint32_t)b[0] << 24 | (uint32_t)b[1] << 16 | (uint32_t)b[2] << 8 | b[3];
 }
 
+/* Two numbers as one, the higher half first. */
+static uint64_t wide(struct file *file)
+{
+    uint64_t high = number(file);
+    return high << 32 | number(file);
+}
+
 /* The number that a call returns: the cause, then the number returned with it. */
 static uint64_t returned(struct file *file)
 {
-    uint64_t cause = number(file);
-    return cause << 32 | number(file);
+    return wide(file);
 }
 
 static struct string string(struct file *file)
@@ -204,6 +210,17 @@ static void read_crossed(struct file file, struct cases *c)
     }
 }
 
+static void read_entries(struct file file, struct cases *c)
+{
+    for (; more(&file); c->entry_count++) {
+        c->entries = grown(c->entries, c->entry_count, sizeof *c->entries);
+        struct entry *e = &c->entries[c->entry_count];
+        e->position = wide(&file);
+        e->number = returned(&file);
+        e->matrix = number(&file);
+    }
+}
+
 struct cases read_cases(const char *folder)
 {
     struct cases c = {0};
@@ -217,5 +234,6 @@ struct cases read_cases(const char *folder)
     read_records(opened(folder, "records"), &c);
     read_replays(opened(folder, "replays"), &c);
     read_crossed(opened(folder, "crossed"), &c);
+    read_entries(opened(folder, "entries"), &c);
     return c;
 }

@@ -93,6 +93,13 @@ struct crossed {
     struct string bundles[2];
 };
 
+/* A position of the catalogue, the judgement of it, and the matrix there as the call tells it. */
+struct entry {
+    size_t position;
+    uint64_t number;
+    size_t matrix;
+};
+
 struct cases {
     struct bundle *bundles;
     struct judgement *judgements;
@@ -104,7 +111,9 @@ struct cases {
     struct record *records;
     struct replay *replays;
     struct crossed *crossed;
+    struct entry *entries;
     size_t bundle_count, judgement_count, place_count, coding_count, set_count, table_count, walks_count, record_count, replay_count, crossed_count;
+    size_t entry_count;
 };
 
 /* Ends the program where a file is missing or cut short. */

@@ -15,6 +15,7 @@ records      a number of a memory, in the order of walks; a cipher; a block; the
 replays      a number of a record, whose walk is replayed; the number of the record that is altered, its own or another; how many parts of it are
              changed, for each its start and, a string, what is there now; the first lookup that differs, or 2^32 - 1 for none
 crossed      two accepted bundles, the input coding of each the output coding of the other
+entries      a position, as two numbers, the higher half first; its judgement; the matrix at it, or 0 where it is refused
 A judgement is the two numbers of a refusal, the cause first, or 0 and 0. A cipher is 0, forward, or 1, inverse: the tests name the inverse one by any
 number but 0.
 """
@@ -30,7 +31,7 @@ import openssl_aes
 import tickets
 import wbref
 
-RULES = tickets.Rules(3)
+RULES = tickets.Rules(4)
 CIPHERS = (openssl_aes.encipher, openssl_aes.decipher)
 CODINGS = (("in", wbref.code), ("in", wbref.uncode), ("out", wbref.code), ("out", wbref.uncode))
 LONGEST = 65536
@@ -40,6 +41,7 @@ LOOKUPS = len(wbref.LOOKS)
 XORS = [n for n, look in enumerate(wbref.LOOKS) if not look.spread]
 ENTRY = 5  # bytes of a lookup in a record
 NONE = 2**32 - 1
+MATRICES = 20160  # in the catalogue
 ROUNDS = [496 + 224 * r for r in range(9)]
 FIRST_AND_LAST = [0, 15, 16, 495, 2512, 2527, 2528, 3007] + [n + k for n in ROUNDS for k in (0, 15, 16, 111, 112, 127, 128, 223)]
 
@@ -293,6 +295,25 @@ def crossed(rng, bundles):
         yield string(bundle) + string(other)
 
 
+# ---- positions of the catalogue ------------------------------------------------------------
+
+def beyond(rng):
+    """Positions that no matrix has: edges; those of which a part of the bits, or the rest of a division, is a position; any."""
+    yield from (MATRICES, MATRICES + 1, 2**16 - 1, 2**16, 2**32 - 1, 2**32, 2**32 + 5, 2**63, 2**64 - 1)
+    for k in range(15, 64):
+        yield 2**k + rng.randrange(min(2**k, MATRICES))
+        yield rng.randrange(2**k, 2 ** (k + 1))
+    for _ in range(20):
+        yield rng.randrange(1, 2**64 // MATRICES) * MATRICES + rng.randrange(MATRICES)
+
+
+def entries(rng):
+    """Every position that a matrix has, in order, then others."""
+    for position in [*range(MATRICES), *beyond(rng)]:
+        cause, second, matrix = tickets.catalogue_at(position)
+        yield position.to_bytes(8, "big") + number(cause) + number(second) + number(matrix or 0)
+
+
 def write(folder, name, rows):
     with open(os.path.join(folder, name), "wb") as f:
         f.writelines(rows)
@@ -316,6 +337,7 @@ def main():
     write(folder, "records", (r.row() for r in recorded))
     write(folder, "replays", replays(rng, recorded))
     write(folder, "crossed", crossed(rng, bundles[:3]))
+    write(folder, "entries", entries(rng))
 
 
 if __name__ == "__main__":

@@ -64,24 +64,30 @@ struct lent lend(const uint8_t *content, size_t right, enum shape shape, struct 
     return made(content, right, shaped_length(right, shape, chance), 1, chance);
 }
 
-static struct lent unwritten(size_t len, size_t step, struct chance *chance)
+static struct lent unwritten(struct lent lent)
 {
-    static const uint8_t none[1];
-    struct lent lent = made(none, 0, len, step, chance);
     VALGRIND_MAKE_MEM_UNDEFINED(lent.bytes, lent.len);
     return lent;
 }
 
 struct lent lend_to_write(size_t right, enum shape shape, struct chance *chance)
 {
+    static const uint8_t none[1];
     if (shape == NULL_SLICE)
         return (struct lent){0};
-    return unwritten(shaped_length(right, shape, chance), 1, chance);
+    return unwritten(made(none, 0, shaped_length(right, shape, chance), 1, chance));
+}
+
+struct lent lend_number_that_holds(size_t held, struct chance *chance)
+{
+    return unwritten(made((const uint8_t *)&held, sizeof held, sizeof held, sizeof held, chance));
 }
 
 struct lent lend_number(struct chance *chance)
 {
-    return unwritten(sizeof(size_t), sizeof(size_t), chance);
+    size_t any;
+    fill(chance, (uint8_t *)&any, sizeof any);
+    return lend_number_that_holds(any, chance);
 }
 
 static const struct judgement *refused(const struct cases *cases, struct chance *chance)

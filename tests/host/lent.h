@@ -29,7 +29,9 @@ struct lent lend(const uint8_t *content, size_t right, enum shape shape, struct 
 /* The same for memory that a call is to write: the content is random. */
 struct lent lend_to_write(size_t right, enum shape shape, struct chance *chance);
 
-/* Memory for a number that a call is to write through a pointer: it stands where a size_t may stand. */
+/* Memory for a number that a call is to write through a pointer: it stands where a size_t may stand. Before the call it holds this number, or a
+ * random one. */
+struct lent lend_number_that_holds(size_t held, struct chance *chance);
 struct lent lend_number(struct chance *chance);
 
 /* A bundle, and the judgement due. Its free bytes are random; in the shape ANY_LENGTH it is one of the cases that are refused. */

@@ -46,6 +46,8 @@ int main(int argc, char **argv)
     test_record_and_replay(&t);
     test_demand2(&t);
     test_round_trip(&t);
+    test_catalogue_entry(&t);
+    test_catalogue(&t);
     printf("%lu checks; %lu groups passed, %lu failed\n", t.totals.calls, t.totals.passed, t.totals.failed);
     return t.totals.failed == 0 ? 0 : 1;
 }

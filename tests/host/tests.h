@@ -37,5 +37,7 @@ void test_replay(struct tests *t);
 void test_record_and_replay(struct tests *t);
 void test_demand2(struct tests *t);
 void test_round_trip(struct tests *t);
+void test_catalogue_entry(struct tests *t);
+void test_catalogue(struct tests *t);
 
 #endif

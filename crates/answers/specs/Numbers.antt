@@ -6,7 +6,7 @@ use Rattle.answers.specs.declared.Answer.{Answer}
 use Rattle.answers.specs.declared.Answer.the-variants.{Accepted, Refused}
 use Rattle.answers.specs.declared.Refusal.{Refusal}
 use Rattle.answers.specs.declared.Refusal.the-variants.{KeyLength, BundleLength, Pair, Encoding, ByteMatrix, ColumnMatrix, InputMatrix}
-use Rattle.answers.specs.declared.Refusal.the-variants.{OutputMatrix, TableNumber, SetLength, BlockLength, Stop, Unfinished, RecordLength}
+use Rattle.answers.specs.declared.Refusal.the-variants.{OutputMatrix, TableNumber, SetLength, BlockLength, Stop, Unfinished, RecordLength, CataloguePosition}
 
 -- The number of the cause ("No.").
 abbrev pub causeOf : Refusal → ℕ
@@ -37,6 +37,8 @@ causeOf Stop = 11
 causeOf Unfinished = 12
 -- "A record of a length other than 15,040 gets number 13" (document 02, Ticket 3).
 causeOf RecordLength = 13
+-- "A position of 20,160 or more gets number 14" (document 02, Ticket 4).
+causeOf CataloguePosition = 14
 
 -- The number "returned with it": "first bad pair, 0–4", "first such list", "first such number", for block matrices "0 input or both, 1 output
 -- only", and else 0.
@@ -56,6 +58,7 @@ secondOf Stop = 0
 secondOf Unfinished = 0
 -- "With this and every later number 0 is returned" (document 02, Ticket 3).
 secondOf RecordLength = 0
+secondOf CataloguePosition = 0
 
 -- Both of an answer: 0 where the call is accepted.
 abbrev pub causeIn : Answer → ℕ

@@ -21,6 +21,7 @@ pub enum Refusal {
     Stop,
     Unfinished,
     RecordLength,
+    CataloguePosition,
 }
 
 pub enum Answer {
@@ -47,6 +48,7 @@ fn cause_of(r: Refusal) -> u32
         Refusal::Stop => 11,
         Refusal::Unfinished => 12,
         Refusal::RecordLength => 13,
+        Refusal::CataloguePosition => 14,
     }
 }
 
@@ -69,6 +71,7 @@ fn second_of(r: Refusal) -> u32
         Refusal::Stop => 0,
         Refusal::Unfinished => 0,
         Refusal::RecordLength => 0,
+        Refusal::CataloguePosition => 0,
     }
 }
 

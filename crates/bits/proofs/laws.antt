@@ -17,3 +17,4 @@ pub mod Nibbles
 pub mod Encodings
 pub mod Images
 pub mod Cuts
+pub mod Counts

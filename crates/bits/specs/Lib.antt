@@ -5,3 +5,4 @@ pub mod Bytes
 pub mod Nibbles
 pub mod Encodings
 pub mod Words
+pub mod Counts

@@ -16,7 +16,7 @@ use Rattle.answers.specs.declared.Answer.{Answer}
 use Rattle.answers.specs.declared.Answer.the-variants.{Accepted, Refused}
 use Rattle.answers.specs.declared.Refusal.{Refusal}
 use Rattle.answers.specs.declared.Refusal.the-variants.{KeyLength, BundleLength, Pair, Encoding, ByteMatrix, ColumnMatrix, InputMatrix}
-use Rattle.answers.specs.declared.Refusal.the-variants.{OutputMatrix, TableNumber, SetLength, BlockLength, Stop, Unfinished, RecordLength}
+use Rattle.answers.specs.declared.Refusal.the-variants.{OutputMatrix, TableNumber, SetLength, BlockLength, Stop, Unfinished, RecordLength, CataloguePosition}
 use Rattle.judgement.specs.Judge.{judge}
 
 -- ---- what each cause asks; for causes 2 and 3 see Frames.antt of crate bundle
@@ -80,6 +80,7 @@ Why nr l (Refused BlockLength) = ⊥
 Why nr l (Refused Stop) = ⊥
 Why nr l (Refused Unfinished) = ⊥
 Why nr l (Refused RecordLength) = ⊥
+Why nr l (Refused CataloguePosition) = ⊥
 
 -- ---- the theorems
 -- Every judgement is given for its reason, and no other has one: so the judgement is the only one that is right.

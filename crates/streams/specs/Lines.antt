@@ -1,7 +1,7 @@
--- The lines that the programs write, as lists of bytes: document 01, "Programs". The numbers are those of crate answers. Definitions only.
+-- The lines that the programs write, as lists of bytes: document 01, "Programs"; document 02, Ticket 4. The numbers are those of crate answers. Definitions only.
 use mathlib.Core.Bool.{cond}
 use mathlib.Core.List.{List, [], _∷_, _++_}
-use Prim.Native.Nat.{ℕ, zero, suc, _/_, _%_}
+use Prim.Native.Nat.{ℕ, zero, suc, _+_, _/_, _%_}
 use lib.Dec.{ltb}
 use Rattle.answers.specs.Numbers.{causeOf, secondOf}
 use Rattle.answers.specs.declared.Answer.{Answer}
@@ -9,7 +9,7 @@ use Rattle.answers.specs.declared.Answer.the-variants.{Accepted, Refused}
 use Rattle.answers.specs.declared.Refusal.{Refusal}
 use Rattle.bits.specs.Lists.{tabulate}
 use Rattle.bits.specs.Nibbles.{nibble}
-use Rattle.io.specs.Digits.{glyph}
+use Rattle.io.specs.Digits.{glyph, digits}
 
 -- ---- numbers and blocks as text
 -- The decimal digits of n, the most significant first, with no 0 in front of another digit. `most` bounds their number, and n + 1 is enough.
@@ -53,12 +53,19 @@ refusalLine r = causeText r ++ space ++ decimal (secondOf r) ++ newline
 unfoldable pub answerLine : List ℕ → List ℕ
 answerLine block = hexDigits block ++ newline
 
+-- The catalogue's program: "4 lowercase hex digits a line" (document 02, Ticket 4), the most significant first.
+abbrev pub matrixDigits : ℕ
+matrixDigits = 4
+
+unfoldable pub matrixLine : ℕ → List ℕ
+matrixLine v = digits 16 matrixDigits v ++ newline
+
 -- What a program writes by an answer: the text where it is accepted, else the line of the refusal.
 abbrev pub orLine : Answer → (Refusal → List ℕ) → List ℕ → List ℕ
 orLine Accepted line text = text
 orLine (Refused r) line text = line r
 
--- ---- room in the code: for a number of 32 bits, for `refused N`, and for every line
+-- ---- room in the code: for a number of 32 bits, for `refused N`, for every line of the maker and the walker, and for one of the catalogue
 abbrev pub numberRoom : ℕ
 numberRoom = 10
 
@@ -67,3 +74,6 @@ causeRoom = 18
 
 abbrev pub lineRoom : ℕ
 lineRoom = 33
+
+abbrev pub matrixRoom : ℕ
+matrixRoom = matrixDigits + 1

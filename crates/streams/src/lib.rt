@@ -1,3 +1,3 @@
-// The standard streams of the two programs: what they read, the lines that they write, and what is said where a read or a write fails.
+// The standard streams of the programs: what they read, the lines that they write, and what is said where a read or a write fails.
 pub mod line;
 pub mod stream;

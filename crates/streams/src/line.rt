@@ -1,9 +1,10 @@
-// The lines that the programs write, at the front of lent memory. Document 01, "Programs".
+// The lines that the programs write, at the front of lent memory. Document 01, "Programs"; document 02, Ticket 4.
 ghost use mathlib.Core.Path.{_≡_};
 ghost use Prim.Native.Nat.{_+_, _<_, _≤_};
 ghost use lib.ListN.{length};
 ghost use Rattle.io.specs.Digits.{glyph as Digits·glyph};
-ghost use Rattle.streams.specs.Lines.{lineRoom, causeRoom, numberRoom, decimal, hexDigits, causeText, causeLine, refusalLine, answerLine};
+ghost use Rattle.streams.specs.Lines.{lineRoom, causeRoom, numberRoom, matrixRoom};
+ghost use Rattle.streams.specs.Lines.{decimal, hexDigits, causeText, causeLine, refusalLine, answerLine, matrixLine};
 ghost use Rattle.streams.specs.Written.{Put, Written};
 use answers::Answer;
 use answers::Refusal;
@@ -11,8 +12,12 @@ use answers::cause;
 use answers::second;
 use bits::encoding::nibble;
 
-// Room for every line.
+// Room for every line of the maker and the walker, and for one of the catalogue, which has 4 digits.
 pub const ROOM: usize = 33;
+
+pub const MATRIX_ROOM: usize = MATRIX_DIGITS + 1;
+
+const MATRIX_DIGITS: usize = 4;
 
 // Writes a text from a place on. Where it ends.
 fn put(line: &mut [u8], from: usize, text: &[u8]) -> usize
@@ -94,5 +99,16 @@ pub fn answer_line(block: &[u8], line: &mut [u8]) -> usize
 {
     let digits = hex_digits(block);
     let end = put(line, 0, &digits);
+    put(line, end, b"\n")
+}
+
+// An entry of the catalogue: "4 lowercase hex digits a line". Its length.
+pub fn matrix_line(matrix: u16, line: &mut [u8]) -> usize
+    requires { ⌜ matrixRoom ≤ length (now line) ⌝ }
+    ensures { λ r. ⌜ Written (matrixLine matrix) (now (line .entry)) r (now (line .exit)) ⌝ }
+{
+    let mut digits = [0u8; 16];
+    let k = io::hex(matrix as u64, MATRIX_DIGITS, &mut digits);
+    let end = put(line, 0, &digits[..k]);
     put(line, end, b"\n")
 }

@@ -11,7 +11,7 @@ use Rattle.answers.specs.declared.Answer.{Answer}
 use Rattle.answers.specs.declared.Answer.the-variants.{Accepted, Refused}
 use Rattle.answers.specs.declared.Refusal.{Refusal}
 use Rattle.answers.specs.declared.Refusal.the-variants.{KeyLength, BundleLength, Pair, Encoding, ByteMatrix, ColumnMatrix, InputMatrix}
-use Rattle.answers.specs.declared.Refusal.the-variants.{OutputMatrix, TableNumber, SetLength, BlockLength, Stop, Unfinished, RecordLength}
+use Rattle.answers.specs.declared.Refusal.the-variants.{OutputMatrix, TableNumber, SetLength, BlockLength, Stop, Unfinished, RecordLength, CataloguePosition}
 
 -- No cause has the number 0.
 positive : (r : Refusal) → 0 < causeOf r
@@ -29,6 +29,7 @@ positive BlockLength = omega arith
 positive Stop = omega arith
 positive Unfinished = omega arith
 positive RecordLength = omega arith
+positive CataloguePosition = omega arith
 
 pub readable : Readable
 readable a h = record { cause-is = omega arith; second-is = omega arith; accepted = only a }

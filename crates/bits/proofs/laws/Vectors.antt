@@ -2,15 +2,15 @@
 -- Assumes nothing.
 use mathlib.Core.Logic.{_≢_}
 use mathlib.Core.Path.{_≡_, refl, sym, ap, ap₂, _∙_, subst}
-use Prim.Native.Nat.{ℕ, zero, suc, _+_, _-_, _*_, _/_, _%_, _^_, _<_}
-use native.Mathlib.Nat.{zero-lt-suc, pow-suc, zero-mul, one-mul, add-zero, mul-mod-left, mul-div-cancel, zero-div, div-one}
+use Prim.Native.Nat.{ℕ, zero, suc, _+_, _-_, _*_, _/_, _%_, _^_, _<_, min}
+use native.Mathlib.Nat.{zero-lt-suc, pow-suc, zero-mul, one-mul, mul-add, mul-suc, add-zero, mul-mod-left, mul-div-cancel, zero-div, div-one}
 use native.Mathlib.Omega.{arith}
-use lib.Bits.{bitAnd, bitXor, and-comm, and-high}
+use lib.Bits.{bitAnd, bitXor, and-comm, and-high, and-shr}
 use lib.Count.{ones, ones-cat}
-use lib.Pow.{pow-pos, pow-lt, shr-shr}
+use lib.Pow.{pow-pos, pow-lt, shr-shr, field, mod-mod-pow}
 use Rattle.bits.specs.Groups.{group}
 use Rattle.bits.specs.Vectors.{bit, vector, unit, dot, delta}
-use Rattle.bits.proofs.laws.Xor.{two, odd-lt, and-xor, ones-xor}
+use Rattle.bits.proofs.laws.Xor.{two, odd-lt, and-least, and-xor, ones-xor}
 use Rattle.bits.proofs.laws.Groups.{group-lt, group-xor, group-ext, joined-lt, group-joined}
 
 -- ---- the dot product
@@ -109,6 +109,31 @@ xor-small p q hp hq =
 
 pub bit-xor : (n i a b : ℕ) → bit n i (bitXor a b) ≡ (bit n i a + bit n i b) % 2
 bit-xor n i a b = group-xor 1 n i a b ∙ xor-small (bit n i a) (bit n i b) (bit-lt n i a) (bit-lt n i b)
+
+pub bit-and : (n i a b : ℕ) → bit n i (bitAnd a b) ≡ min (bit n i a) (bit n i b)
+bit-and n i a b =
+    let s = n - suc i in
+    bit-shift n i (bitAnd a b)
+    ∙ ap (λ (x : ℕ). x % 2) (and-shr a b s)
+    ∙ and-least (a / 2 ^ s) (b / 2 ^ s)
+    ∙ sym (ap₂ min (bit-shift n i a) (bit-shift n i b))
+
+-- Bit j of group i of a number of n groups of k bits is a bit of the number.
+pub bit-group : (k n i j v : ℕ) → i < n → j < k → bit k j (group k n i v) ≡ bit (k * n) (k * i + j) v
+unfolding group
+bit-group k n i j v hi hj =
+    let d = k * (n - suc i) in
+    let e = k - suc j in
+    let wide : k ≡ j + 1 + e = omega arith in
+    let long : k * n ≡ d + k * suc i = ap (λ (x : ℕ). k * x) (let q : n ≡ n - suc i + suc i = omega arith in q) ∙ mul-add k (n - suc i) (suc i) in
+    let below : d + e ≡ k * n - suc (k * i + j) = omega (arith, long, mul-suc k i) in
+    bit-shift k j (group k n i v)
+    ∙ ap (λ (x : ℕ). v / 2 ^ d % 2 ^ x / 2 ^ e % 2) wide
+    ∙ ap (λ (x : ℕ). x % 2) (field (v / 2 ^ d) (j + 1) e)
+    ∙ mod-mod-pow (v / 2 ^ d / 2 ^ e) j 1
+    ∙ ap (λ (x : ℕ). x % 2) (shr-shr v d e)
+    ∙ ap (λ (x : ℕ). v / 2 ^ x % 2) below
+    ∙ sym (bit-shift (k * n) (k * i + j) v)
 
 pub bit-zero : (n i : ℕ) → bit n i 0 ≡ 0
 bit-zero n i = bit-shift n i 0 ∙ ap (λ (x : ℕ). x % 2) (zero-div (2 ^ (n - suc i)))

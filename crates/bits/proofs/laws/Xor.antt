@@ -29,10 +29,12 @@ xor-half a b = xor-shr a b 1
 and-half : (a b : ℕ) → bitAnd a b / 2 ≡ bitAnd (a / 2) (b / 2)
 and-half a b = and-shr a b 1
 
+pub and-least : (a b : ℕ) → bitAnd a b % 2 ≡ min (a % 2) (b % 2)
+and-least a b = omega (arith, and-step a b)
+
 and-odd : (a b : ℕ) → bitAnd a b % 2 ≡ a % 2 * (b % 2)
 and-odd a b =
-    let e : bitAnd a b % 2 ≡ min (a % 2) (b % 2) = omega (arith, and-step a b) in
-    e ∙ two (λ x. min x (b % 2) ≡ x * (b % 2)) (omega arith) (omega (arith, odd-lt b)) (a % 2) (odd-lt a)
+    and-least a b ∙ two (λ x. min x (b % 2) ≡ x * (b % 2)) (omega arith) (omega (arith, odd-lt b)) (a % 2) (odd-lt a)
 
 same : (a b : ℕ) → a / 2 ≡ b / 2 → a % 2 ≡ b % 2 → a ≡ b
 same a b p q = omega arith

@@ -26,6 +26,7 @@ use Rattle.records.specs.Record.{recordBytes}
 use Rattle.records.specs.Replay.{judgeRecord}
 use Rattle.host.specs.Returned.{Returned}
 use Rattle.host.specs.Walks.{walkAnswer}
+use Rattle.host.proofs.laws.Entries.{entry-small}
 
 -- ---- The number returned with a cause has 32 bits.
 -- What a search among no more than 65,536 numbers finds.
@@ -111,4 +112,5 @@ returned = record {
   singles = λ key l number memory. readable _ (table-small key l number memory .below);
   walks = λ set block answer. readable _ (walk-small set block answer .below);
   records = λ set block rec. readable _ (record-small set block rec .below);
+  entries = λ position. readable _ (entry-small position .below);
 }

@@ -120,9 +120,13 @@ no-kernel n f v K u back =
     let e : v ≡ 0 = sym (back v (K .fits)) ∙ ap u (K .zeroed ∙ sym (product-zero n f)) ∙ back 0 (pow-pos n) in
     omega (arith, K .pos)
 
+-- Where the elimination finds no inverse, the matrix takes some vector other than 0 to 0.
+pub singular-kernel : (n : ℕ) (m : List ℕ) → RowsFit n (at m) → invert n m ≡ singular → (v : ℕ) × Kernel n (product n m) v
+singular-kernel n m fits e = subst (λ (r : Inversion). Good n (product n m) r) e (invert-good n m fits)
+
 pub refused : Refused
 refused n m fits e I =
-    let G : (v : ℕ) × Kernel n (product n m) v = subst (λ (r : Inversion). Good n (product n m) r) e (invert-good n m fits) in
+    let G = singular-kernel n m fits e in
     no-kernel n (at m) (G .0) (G .1) (I .0) (I .1)
 
 found : (r : Inversion) → (r ≡ singular → ⊥) → (b : List ℕ) × (r ≡ inverse b)

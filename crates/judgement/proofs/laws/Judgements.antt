@@ -19,7 +19,7 @@ use Rattle.answers.specs.declared.Answer.{Answer}
 use Rattle.answers.specs.declared.Answer.the-variants.{Accepted, Refused}
 use Rattle.answers.specs.declared.Refusal.{Refusal}
 use Rattle.answers.specs.declared.Refusal.the-variants.{KeyLength, BundleLength, Pair, Encoding, ByteMatrix, ColumnMatrix, InputMatrix}
-use Rattle.answers.specs.declared.Refusal.the-variants.{OutputMatrix, TableNumber, SetLength, BlockLength, Stop, Unfinished, RecordLength}
+use Rattle.answers.specs.declared.Refusal.the-variants.{OutputMatrix, TableNumber, SetLength, BlockLength, Stop, Unfinished, RecordLength, CataloguePosition}
 use Rattle.answers.proofs.laws.Tests.{by-test}
 use Rattle.answers.proofs.laws.Search.{clash, not-false-true, by-refusedAt, first-same, none-all, all-none, at-bad, bad-at}
 use Rattle.bundle.proofs.laws.Frame.{pair-good, right-good, length-good, range-good, pairs-all, framed, frame-accepted}
@@ -177,6 +177,7 @@ module _ (nr : ℕ) (l : List ℕ) (bytes : Bytes l) where
   why-judge (Refused Stop) W = absurd W
   why-judge (Refused Unfinished) W = absurd W
   why-judge (Refused RecordLength) W = absurd W
+  why-judge (Refused CataloguePosition) W = absurd W
 
 pub reasoned : Reasoned
 reasoned = why

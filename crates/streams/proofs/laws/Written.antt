@@ -1,19 +1,20 @@
 -- Laws, not definitions: texts that are put one behind the other into lent memory stand there as one.
 -- Assumes nothing.
-use mathlib.Core.List.{List, [], _++_}
+use mathlib.Core.List.{List, [], _++_, append-nil}
 use mathlib.Core.Path.{_≡_, refl, sym, ap, _∙_}
 use Prim.Native.Nat.{ℕ, _+_, _≤_, _<_}
 use native.Mathlib.Nat.{zero-add}
 use native.Mathlib.Omega.{arith}
-use lib.ListN.{length, set, take, drop, length-append, length-set}
+use lib.ListN.{length, set, take, drop, length-append, length-set, drop-of-length-le}
 use lib.Seq.{length-take-le, take-append-seam, drop-append-add, drop-drop, take-length, paste}
 use Rattle.io.specs.Counts.{Counts}
+use Rattle.io.specs.Digits.{digits}
 use Rattle.bits.specs.Lists.{at}
 use Rattle.bits.proofs.laws.Pasted.{Pasted, pasted-none, pasted-more, pasted-all}
 use Rattle.answers.specs.Numbers.{causeOf, secondOf}
 use Rattle.answers.specs.declared.Refusal.{Refusal}
-use Rattle.streams.specs.Lines.{word, space, newline, decimal, hexDigits, causeText, causeLine, refusalLine, answerLine}
-use Rattle.streams.specs.Lines.{numberRoom, causeRoom}
+use Rattle.streams.specs.Lines.{word, space, newline, decimal, hexDigits, causeText, causeLine, refusalLine, answerLine, matrixLine}
+use Rattle.streams.specs.Lines.{numberRoom, causeRoom, matrixDigits}
 use Rattle.streams.specs.Written.{Written, Put}
 
 -- ---- the loop that copies the text t to the place `from` on. Its invariant: i bytes are copied, and the memory d has become a, as long as it was.
@@ -69,6 +70,12 @@ written-counts {text} {held} {left} {end} w =
     let fits : end ≤ length left = omega (arith, w .ends) in
     (fits, sym (length-take-le end left fits))
 
+-- A text as long as the memory is all that is left.
+pub written-whole : {text held left : List ℕ} {end : ℕ} → Written text held end left → length text ≡ length left → left ≡ text
+written-whole {text} {held} {left} {end} w e =
+    let long : length left ≡ length text + length (drop end held) = ap length (w .bytes) ∙ length-append text (drop end held) in
+    w .bytes ∙ ap (λ (l : List ℕ). text ++ l) (drop-of-length-le (drop end held) {i = 0} (omega arith)) ∙ append-nil text
+
 -- ---- the lines
 -- `refused N`: the word, and a number n that is the cause's.
 pub cause-written : (r : Refusal) {n : ℕ} {held mid left : List ℕ} {from end : ℕ}
@@ -93,3 +100,11 @@ pub answer-line-written : (block : List ℕ) {digits held mid left : List ℕ} {
     → digits ≡ hexDigits block → Put digits held 0 from mid → Put newline mid from end left → Written (answerLine block) held end left
 unfolding answerLine
 answer-line-written block e p q = written-more (written-first (rw e at p)) q
+
+-- The four digits are the front of the library's array of digits.
+pub matrix-line-written : (v : ℕ) (out : List ℕ) {k : ℕ} {held mid left : List ℕ} {from end : ℕ}
+    → k ≡ matrixDigits → take k out ≡ digits 16 k v → Put (take k out) held 0 from mid → Put newline mid from end left → Written (matrixLine v) held end left
+unfolding matrixLine
+matrix-line-written v out {k} four e p q =
+    let d = e ∙ ap (λ (n : ℕ). digits 16 n v) four in
+    written-more (written-first (rw d at p)) q

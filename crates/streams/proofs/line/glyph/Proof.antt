@@ -1,6 +1,6 @@
--- `streams::line::glyph` meets its contract: each way out is a case of the library's `glyph` (`glyph-low`, `glyph-high` of `laws.Decimal`).
+-- `streams::line::glyph` meets its contract: each way out is a case of the library's `glyph` (`glyph-low`, `glyph-high` of `laws.Digits`).
 -- Assumes nothing.
-use Rattle.streams.proofs.laws.Decimal.{glyph-low, glyph-high}
+use Rattle.streams.proofs.laws.Digits.{glyph-low, glyph-high}
 use borrow.Author.Needs.{needs}
 use Rattle.streams.proofs.line.glyph.Statement.{statement}
 use Rattle.streams.proofs.line.glyph.Tie as tie

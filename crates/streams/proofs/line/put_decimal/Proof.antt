@@ -1,11 +1,11 @@
 -- `streams::line::put_decimal` meets its contract: the library gives the fewest digits that hold the number, and these are the number in
--- decimal (`number-put` of `laws.Decimal`). There are at most ten of them (`few-digits`).
+-- decimal (`number-put` of `laws.Digits`). There are at most ten of them (`few-digits`).
 -- Assumes nothing.
 use Prim.Native.Nat.{_≤_}
 use native.Mathlib.Omega.{arith}
 use lib.ListN.{length-take}
 use Rattle.streams.specs.Lines.{numberRoom}
-use Rattle.streams.proofs.laws.Decimal.{few-digits, number-put}
+use Rattle.streams.proofs.laws.Digits.{few-digits, number-put}
 use borrow.Author.Needs.{needs}
 use Rattle.streams.proofs.line.put_decimal.Statement.{statement}
 use Rattle.streams.proofs.line.put_decimal.Tie as tie

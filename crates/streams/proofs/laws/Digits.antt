@@ -1,4 +1,4 @@
--- Laws, not definitions: the fewest digits that hold a number, which the library writes, are the number in decimal.
+-- Laws, not definitions: the fewest digits that hold a number, which the library writes. In decimal they are the number; in hex those of a number of 16 bits are four.
 -- Assumes nothing.
 use mathlib.Core.Bool.{Bool, true, false, cond}
 use mathlib.Core.List.{List, [], _∷_, _++_}
@@ -11,7 +11,7 @@ use lib.Dec.{ltb}
 use lib.ListN.{length, take, length-take}
 use borrow.Author.Tests.{ltb-true, ltb-false, lt-ltb, le-ltb}
 use Rattle.io.specs.Digits.{glyph, digits, Fewest}
-use Rattle.streams.specs.Lines.{spelled, decimal, numberRoom}
+use Rattle.streams.specs.Lines.{spelled, decimal, numberRoom, matrixDigits}
 use Rattle.streams.specs.Written.{Put}
 
 -- ---- the digit of a number below 16: `0` to `9`, then `a` to `f`
@@ -58,15 +58,22 @@ decimal-digits : (n k : ℕ) → Fewest 10 1 n k → digits 10 k n ≡ decimal n
 unfolding decimal
 decimal-digits n k f = spelled-digits (suc n) n k (omega arith) f
 
--- A number of 32 bits has at most ten.
-pub few-digits : (n k : ℕ) → n < 2 ^ 32 → Fewest 10 1 n k → k ≤ numberRoom
-few-digits n k h f = by (ltb 10 k) refl
+-- The fewest are no more than any that hold the number.
+digits-most : (base least most n k : ℕ) → 1 < base → least ≤ most → n < base ^ most → Fewest base least n k → k ≤ most
+digits-most base least most n k b l h f = by (ltb most k) refl
   where
-    by : (b : Bool) → ltb 10 k ≡ b → k ≤ numberRoom
-    by false e = ltb-false 10 k e
+    by : (t : Bool) → ltb most k ≡ t → k ≤ most
+    by false e = ltb-false most k e
     by true e =
-        let more : 10 < k = ltb-true 10 k e in
-        absurd (omega (arith, f .2 (omega arith), pow-le-pow-right {n = 10} (omega arith) {i = 10} {j = k - 1} (omega arith)))
+        let more : most < k = ltb-true most k e in
+        absurd (omega (arith, f .2 (omega arith), pow-le-pow-right {n = base} (omega arith) {i = most} {j = k - 1} (omega arith)))
+
+-- Of a number of 32 bits at most ten in decimal; of one of 16 bits four in hex, where four at least are asked for.
+pub few-digits : (n k : ℕ) → n < 2 ^ 32 → Fewest 10 1 n k → k ≤ numberRoom
+few-digits n k h f = digits-most 10 1 numberRoom n k (omega arith) (omega arith) (omega arith) f
+
+pub four-digits : (n k : ℕ) → n < 2 ^ 16 → Fewest 16 matrixDigits n k → k ≡ matrixDigits
+four-digits n k h f = omega (arith, f .0, digits-most 16 matrixDigits matrixDigits n k (omega arith) (omega arith) h f)
 
 -- ---- the number that is put: the front of the library's array of digits
 pub number-put : (n k : ℕ) (out : List ℕ) {held : List ℕ} {from end : ℕ} {left : List ℕ}
