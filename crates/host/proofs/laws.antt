@@ -1,4 +1,5 @@
 pub mod Walks
+pub mod Pointers
 pub mod Told
 pub mod Entries
 pub mod Returned

@@ -12,14 +12,7 @@ use Rattle.answers.specs.declared.Answer.the-variants.{Accepted, Refused
 use Rattle.answers.specs.declared.Refusal.{Refusal}
 use Rattle.answers.specs.declared.found.Found.{Found}
 use Rattle.answers.specs.declared.found.Found.the-variants.{At, Nothing}
-
--- ---- tests
-pub clash : (b : Bool) → b ≡ true → b ≡ false → ⊥
-clash b e f = let y : _≡_ {A = ℕ} 0 1 = cc in omega arith
-
-pub not-false-true : (b : Bool) → (b ≡ false → ⊥) → b ≡ true
-not-false-true true h = refl
-not-false-true false h = absurd (h refl)
+use Rattle.answers.proofs.laws.Tests.{clash, not-false-true}
 
 -- ---- what an answer says, from n on
 abbrev Says : ℕ → ℕ → (ℕ → Bool) → Found → Type 0

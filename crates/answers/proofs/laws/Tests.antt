@@ -11,6 +11,22 @@ use Rattle.answers.specs.declared.Answer.{Answer}
 use Rattle.answers.specs.declared.Answer.the-variants.{Accepted, Refused}
 use Rattle.answers.specs.declared.Refusal.{Refusal}
 
+-- ---- a test, and an answer, is one or the other
+pub clash : (b : Bool) → b ≡ true → b ≡ false → ⊥
+clash b e f = let z : _≡_ {A = ℕ} 0 1 = cc in omega arith
+
+pub not-false-true : (b : Bool) → (b ≡ false → ⊥) → b ≡ true
+not-false-true true h = refl
+not-false-true false h = absurd (h refl)
+
+pub differ : {r : Refusal} {A : Type 0} → Accepted ≡ Refused r → A
+differ e = let z : _≡_ {A = ℕ} 0 1 = cc in absurd (omega arith)
+
+-- Only an accepted call has that reply.
+pub reply-was : (a : Answer) → replyOf a ≡ accepted → a ≡ Accepted
+reply-was Accepted e = refl
+reply-was (Refused r) e = let z : _≡_ {A = ℕ} 0 1 = cc in absurd (omega arith)
+
 -- ---- the first answer refuses, or it accepts and the second decides
 pub first-refuses : (a b : Answer) (r : Refusal) → a ≡ Refused r → Refused r ≡ andThen a b
 first-refuses a b r e = ap (λ (x : Answer). andThen x b) (sym e)

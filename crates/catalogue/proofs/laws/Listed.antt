@@ -8,7 +8,7 @@ use Prim.Native.Nat.{ℕ, _*_, _^_, _<_}
 use native.Mathlib.Decide.{decLt}
 use native.Mathlib.Omega.{arith}
 use lib.ListN.{length}
-use Rattle.answers.proofs.laws.Search.{clash}
+use Rattle.answers.proofs.laws.Tests.{clash}
 use Rattle.bits.specs.Lists.{at}
 use Rattle.bits.proofs.laws.Counts.{counted, counted-lt, length-chosen, Stands, stands-at, at-stands}
 use Rattle.matrices.specs.Matrices.{Invertible}

@@ -12,7 +12,7 @@ use Rattle.answers.specs.Answers.{accepted}
 use Rattle.answers.specs.declared.Answer.the-variants.{Accepted, Refused}
 use Rattle.answers.specs.declared.Refusal.{Refusal}
 use Rattle.answers.specs.declared.Refusal.the-variants.{SetLength, BlockLength, Stop, Unfinished}
-use Rattle.answers.proofs.laws.Tests.{left-new, left-old}
+use Rattle.answers.proofs.laws.Tests.{differ, reply-was, left-new, left-old}
 use Rattle.network.specs.Lookups.{State, stateAt, zeroArea, lookup, lookupIn}
 use Rattle.network.specs.Order.{layerLookups}
 use Rattle.network.specs.Read.{readIn}
@@ -29,7 +29,6 @@ use Rattle.whitebox.specs.Calls.{Held, holding, Call, toStop, oneLookup, starte
 use Rattle.whitebox.specs.Calls.{answer, reply, handed, passedOn, blockLeft}
 use Rattle.whitebox.specs.PlaceRead.{InTable}
 use Rattle.whitebox.proofs.laws.Judged as judged
-use Rattle.whitebox.proofs.laws.Judged.{differ, reply-was}
 use Rattle.whitebox.proofs.laws.Judged.{presented-wrong, presented-right, set-wrong, stop-right, none-left, table-wrong, table-right, block-wrong, count-wrong, count-right}
 use Rattle.whitebox.proofs.laws.Named.{refused-leaves}
 use Rattle.whitebox.proofs.laws.PlaceRead.{in-table, place-was-read}

@@ -4,6 +4,7 @@ use mathlib.Core.List.{List, map}
 use mathlib.Core.Path.{_≡_, sym, ap, _∙_}
 use Prim.Native.Nat.{ℕ, suc}
 use Rattle.answers.specs.Answers.{replyOf}
+use Rattle.answers.proofs.laws.Tests.{reply-was}
 use Rattle.round.specs.Key.{roundsOf}
 use Rattle.layout.specs.Stages.{lookups}
 use Rattle.whitebox.specs.Bundles.{madeSet}
@@ -12,7 +13,6 @@ use Rattle.whitebox.specs.Demand2.{walkedOver}
 use Rattle.whitebox.specs.Demand3.{Presented}
 use Rattle.whitebox.specs.PlainCount.{argsOf, plainCount, seen}
 use Rattle.whitebox.proofs.laws.Demands.{demand3-for}
-use Rattle.whitebox.proofs.laws.Judged.{reply-was}
 use Rattle.whitebox.proofs.laws.RoundTrip.{round-trip-for}
 use Rattle.evaluate.specs.Held.{held}
 use Rattle.evaluate.specs.Chains.{CallMade, callOf, servedIn, lastIn, Chain}

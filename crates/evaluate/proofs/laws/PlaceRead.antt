@@ -7,6 +7,7 @@ use native.Mathlib.Omega.{arith}
 use lib.ListN.{take, drop}
 use Rattle.answers.specs.Answers.{accepted, replyOf}
 use Rattle.answers.specs.declared.Answer.the-variants.{Accepted}
+use Rattle.answers.proofs.laws.Tests.{reply-was}
 use Rattle.network.specs.Lookups.{Shape, lookupIn}
 use Rattle.network.specs.Read.{lookupFrom}
 use Rattle.network.specs.Theorems.{WithinTable}
@@ -17,7 +18,6 @@ use Rattle.layout.specs.Stages.{shapeAt, tableOffset, stageOf, indexOf}
 use Rattle.layout.proofs.laws.Ranges.{by-stage}
 use Rattle.whitebox.specs.Calls.{Held, Call, placeRead, reply}
 use Rattle.whitebox.specs.PlaceRead.{InTable}
-use Rattle.whitebox.proofs.laws.Judged.{reply-was}
 use Rattle.whitebox.proofs.laws.PlaceRead.{in-table, place-was-read}
 use Rattle.evaluate.specs.Held.{held}
 use Rattle.evaluate.specs.Contracts.{Moves}

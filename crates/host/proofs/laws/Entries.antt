@@ -1,6 +1,6 @@
 -- Laws, not definitions: what the catalogue for C returns and leaves behind the pointer, and the statement of specs/Entries.antt.
 -- Assumes nothing.
-use mathlib.Core.Path.{_≡_, sym, ap, _∙_}
+use mathlib.Core.Path.{_≡_, ap}
 use Prim.Native.Nat.{ℕ}
 use native.Mathlib.Decide.{decLt}
 use native.Mathlib.Omega.{arith}
@@ -14,22 +14,17 @@ use Rattle.catalogue.specs.declared.Entry.{Entry}
 use Rattle.catalogue.specs.declared.Entry.the-variants.{Matrix, Refused}
 use Rattle.catalogue.proofs.laws.Proved.{entry-given, entry-refused}
 use Rattle.host.specs.Entries.{matrixLeft, EntriesTold}
+use Rattle.host.proofs.laws.Pointers.{told-by}
 
 -- ---- the call, where the catalogue handed back r, and n is its answer's number
 module _ (p : ℕ) {r : Entry} (e : r ≡ catalogueEntry p) {n : ℕ} (old : ℕ) where
-  by-entry : (s : Entry) → r ≡ s → n ≡ numberOf (entryAnswer s)
-      → (n ≡ numberOf (entryAnswer (catalogueEntry p))) × (matrixLeft s old ≡ matrixLeft (catalogueEntry p) old)
-  by-entry s f g =
-      let is : s ≡ catalogueEntry p = sym f ∙ e in
-      (g ∙ ap (λ (x : Entry). numberOf (entryAnswer x)) is, ap (λ (x : Entry). matrixLeft x old) is)
-
   pub entry-told : {v : ℕ} → r ≡ Matrix v → n ≡ numberOf Accepted
       → (n ≡ numberOf (entryAnswer (catalogueEntry p))) × (v ≡ matrixLeft (catalogueEntry p) old)
-  entry-told {v} = by-entry (Matrix v)
+  entry-told {v} f g = told-by entryAnswer (λ x. matrixLeft x old) (catalogueEntry p) (Matrix v) e f g
 
   pub entry-kept : {why : Refusal} → r ≡ Refused why → n ≡ numberOf (answer.Refused why)
       → (n ≡ numberOf (entryAnswer (catalogueEntry p))) × (old ≡ matrixLeft (catalogueEntry p) old)
-  entry-kept {why} = by-entry (Refused why)
+  entry-kept {why} f g = told-by entryAnswer (λ x. matrixLeft x old) (catalogueEntry p) (Refused why) e f g
 
 -- ---- what a host reads off
 pub entries-told : EntriesTold

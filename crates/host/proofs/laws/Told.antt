@@ -9,9 +9,9 @@ use Rattle.answers.specs.Numbers.{numberOf}
 use Rattle.answers.specs.declared.Answer.the-variants as answer
 use Rattle.answers.specs.declared.Answer.the-variants.{Accepted}
 use Rattle.answers.specs.declared.Refusal.{Refusal}
+use Rattle.answers.proofs.laws.Tests.{differ}
 use Rattle.layout.specs.Stages.{lookups}
 use Rattle.layout.proofs.laws.Cases.{starred}
-use Rattle.whitebox.proofs.laws.Judged.{differ}
 use Rattle.records.specs.Contracts.{Replays}
 use Rattle.records.specs.Replay.{judgeRecord, answerOf, replayed}
 use Rattle.records.specs.Theorems.{Exact}
@@ -19,14 +19,15 @@ use Rattle.records.specs.declared.replay.Verdict.{Verdict}
 use Rattle.records.specs.declared.replay.Verdict.the-variants.{Own, Differs, Refused}
 use Rattle.records.proofs.laws.Proved.{records-and-replays}
 use Rattle.host.specs.Told.{none, differsLeft, TellsExactly, RefusedKeeps}
+use Rattle.host.proofs.laws.Pointers.{told-by}
 
 -- ---- the call, where the replay handed back v, and n is its answer's number: for each verdict, what is returned and what is left behind the pointer
 module _ (c : ℕ) (set block rec : List ℕ) {v : Verdict} (e : Replays c 10 set block rec v) {n : ℕ} (old : ℕ) where
   by-verdict : (w : Verdict) → v ≡ w → n ≡ numberOf (answerOf w)
       → (n ≡ numberOf (judgeRecord 10 (length set) (length block) (length rec))) × (differsLeft w old ≡ differsLeft (replayed c 10 set block rec) old)
   by-verdict w f g =
-      let is : w ≡ replayed c 10 set block rec = sym f ∙ e in
-      (g ∙ ap numberOf (ap answerOf is ∙ records-and-replays .answers c 10 set block rec), ap (λ (v : Verdict). differsLeft v old) is)
+      let T = told-by answerOf (λ v. differsLeft v old) (replayed c 10 set block rec) w e f g in
+      (T .0 ∙ ap numberOf (records-and-replays .answers c 10 set block rec), T .1)
 
   pub replay-own : v ≡ Own → n ≡ numberOf Accepted
       → (n ≡ numberOf (judgeRecord 10 (length set) (length block) (length rec))) × (none ≡ differsLeft (replayed c 10 set block rec) old)

@@ -20,8 +20,8 @@ use Rattle.answers.specs.declared.Answer.the-variants.{Accepted, Refused}
 use Rattle.answers.specs.declared.Refusal.{Refusal}
 use Rattle.answers.specs.declared.Refusal.the-variants.{KeyLength, BundleLength, Pair, Encoding, ByteMatrix, ColumnMatrix, InputMatrix}
 use Rattle.answers.specs.declared.Refusal.the-variants.{OutputMatrix, TableNumber, SetLength, BlockLength, Stop, Unfinished, RecordLength, CataloguePosition}
-use Rattle.answers.proofs.laws.Tests.{by-test}
-use Rattle.answers.proofs.laws.Search.{clash, not-false-true, by-refusedAt, first-same, none-all, all-none, at-bad, bad-at}
+use Rattle.answers.proofs.laws.Tests.{clash, not-false-true, by-test}
+use Rattle.answers.proofs.laws.Search.{by-refusedAt, first-same, none-all, all-none, at-bad, bad-at}
 use Rattle.bundle.proofs.laws.Frame.{pair-good, right-good, length-good, range-good, pairs-all, framed, frame-accepted}
 use Rattle.bundle.proofs.laws.FreeBytes.{free-bytes}
 use Rattle.bundle.proofs.laws.Parts.{at-bytes, part-refused, part-behind, part-here, part-long}

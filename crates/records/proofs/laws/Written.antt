@@ -9,7 +9,7 @@ use lib.ListN.{length, take, List·getD-append}
 use lib.Seq.{take-append-seam}
 use Rattle.answers.specs.declared.Answer.{Answer}
 use Rattle.answers.specs.declared.Answer.the-variants.{Accepted}
-use Rattle.answers.proofs.laws.Tests.{left-back}
+use Rattle.answers.proofs.laws.Tests.{reply-was, left-back}
 use Rattle.bits.specs.Bytes.{Bytes, numberOf, bytesOf}
 use Rattle.bits.specs.Lists.{at}
 use Rattle.bits.specs.Nibbles.{half}
@@ -22,7 +22,7 @@ use Rattle.layout.specs.Stages.{lookups, indexOf}
 use Rattle.layout.proofs.laws.Lookup.{own-sizes}
 use Rattle.whitebox.specs.Calls.{Held, toStop, judgeStop, readNext, placeRead, answer}
 use Rattle.whitebox.specs.PlaceRead.{InTable}
-use Rattle.whitebox.proofs.laws.Judged.{reply-was, stop-right}
+use Rattle.whitebox.proofs.laws.Judged.{stop-right}
 use Rattle.whitebox.proofs.laws.Named.{reads-kept}
 use Rattle.evaluate.specs.Held.{held}
 use Rattle.evaluate.specs.Contracts.{Opens, Moves}

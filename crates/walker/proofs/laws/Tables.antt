@@ -9,7 +9,7 @@ use lib.ListN.{length, take, length-take}
 use lib.Seq.{take-append-le}
 use Rattle.answers.specs.declared.Answer.the-variants.{Accepted, Refused}
 use Rattle.answers.specs.declared.Refusal.{Refusal}
-use Rattle.answers.proofs.laws.Tests.{left-old}
+use Rattle.answers.proofs.laws.Tests.{differ, left-old}
 use Rattle.layout.specs.Ciphers.{readsOf}
 use Rattle.layout.specs.Stages.{lookups, tableSize, placeOf}
 use Rattle.layout.specs.declared.stage.Place.{Place}
@@ -17,7 +17,7 @@ use Rattle.layout.proofs.laws.Lookup.{stands}
 use Rattle.layout.proofs.laws.Ranges.{by-stage}
 use Rattle.whitebox.specs.Calls.{Held, judgeOne, oneLookup, answer, handed, lastWalk}
 use Rattle.whitebox.proofs.laws.Calls.{one-handed, step-count}
-use Rattle.whitebox.proofs.laws.Judged.{differ, accepted-was, refused-was}
+use Rattle.whitebox.proofs.laws.Judged.{accepted-was, refused-was}
 use Rattle.evaluate.specs.Held.{held}
 use Rattle.evaluate.specs.Contracts.{Moves}
 use Rattle.evaluate.specs.declared.walk.Move.{Move}

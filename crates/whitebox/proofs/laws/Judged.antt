@@ -1,18 +1,17 @@
 -- Laws, not definitions: what start, moves and fetch are answered, by the tests of document 01's table "Turned down", one law for each outcome.
 -- Assumes nothing.
 use mathlib.Core.Bool.{Bool, _||_}
-use mathlib.Core.Path.{_≡_, refl, sym, _∙_}
+use mathlib.Core.Path.{_≡_, sym, _∙_}
 use Prim.Native.Nat.{ℕ, _≤_, _<_}
 use native.Mathlib.Decide.{ℕ-discrete, decLt}
 use native.Mathlib.Omega.{arith}
 use lib.Dec.{ltb}
 use borrow.Author.Tests.{lt-ltb, le-ltb}
-use Rattle.answers.specs.Answers.{accepted, replyOf, refusedIf, wantsLength}
-use Rattle.answers.specs.declared.Answer.{Answer}
+use Rattle.answers.specs.Answers.{refusedIf, wantsLength}
 use Rattle.answers.specs.declared.Answer.the-variants.{Accepted, Refused}
 use Rattle.answers.specs.declared.Refusal.{Refusal}
 use Rattle.answers.specs.declared.Refusal.the-variants.{SetLength, BlockLength, Stop, Unfinished}
-use Rattle.answers.proofs.laws.Tests.{first-refuses, second-decides, test-refuses, test-passes, length-wrong, length-right, length-was}
+use Rattle.answers.proofs.laws.Tests.{differ, first-refuses, second-decides, test-refuses, test-passes, length-wrong, length-right, length-was}
 use Rattle.layout.specs.Stages.{lookups, setBytes, tableSize}
 use Rattle.whitebox.specs.Calls.{judgeStart, judgeStop, judgeOne, judgeFetch}
 
@@ -69,15 +68,6 @@ module _ (nr len count : ℕ) where
 
     pub table-right : len ≡ tableSize nr count → Accepted ≡ judgeOne nr len count
     table-right l = length-right _ len SetLength l ∙ table-decides
-
--- An answer is not both.
-pub differ : {r : Refusal} {A : Type 0} → Accepted ≡ Refused r → A
-differ e = let z : _≡_ {A = ℕ} 0 1 = cc in absurd (omega arith)
-
--- Only an accepted call has that reply.
-pub reply-was : (a : Answer) → replyOf a ≡ accepted → a ≡ Accepted
-reply-was Accepted e = refl
-reply-was (Refused r) e = let z : _≡_ {A = ℕ} 0 1 = cc in absurd (omega arith)
 
 -- What a move of one lookup was lent, by what it was answered.
 pub record Right (nr len n : ℕ) : Type 0 where
