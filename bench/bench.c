@@ -145,10 +145,34 @@ static void require(int same, const char *what)
     }
 }
 
-/* A good bundle, and that bundle with one bit turned over: in each byte of the five pairs, then in every 97th byte. */
+static int judged(uint64_t due) { return tazhikko_judge_bundle(bundle, bundle_len) == due && plain_judge_bundle(bundle, bundle_len) == due; }
+
+static size_t section_start(size_t section)
+{
+    const uint8_t *pair = bundle + 8 * section;
+    return (size_t)pair[0] << 24 | (size_t)pair[1] << 16 | (size_t)pair[2] << 8 | pair[3];
+}
+
+/* The good bundle with the identity, of n rows, as byte or column matrix of a number: it has an inverse, its blocks beside the diagonal have none. */
+static void check_identity(size_t section, uint32_t number, size_t n, uint64_t cause)
+{
+    uint8_t kept[32 * 32 / 8];
+    size_t bytes = n * n / 8;
+    uint8_t *matrix = bundle + section_start(section) + bytes * number;
+    memcpy(kept, matrix, bytes);
+    memset(matrix, 0, bytes);
+    for (size_t i = 0; i < n; i++)
+        matrix[n / 8 * i + i / 8] = (uint8_t)(0x80 >> i % 8);
+    require(judged(cause << 32 | number), "judgement of a bad block");
+    memcpy(matrix, kept, bytes);
+}
+
+/* A good bundle, that bundle with a bad block, and with one bit turned over: in each byte of the five pairs, then in every 97th byte. */
 static void check_judgements(void)
 {
-    require(tazhikko_judge_bundle(bundle, bundle_len) == 0 && plain_judge_bundle(bundle, bundle_len) == 0, "a good bundle");
+    require(judged(0), "a good bundle");
+    check_identity(1, 159, 8, TAZHIKKO_BYTE_MATRIX);
+    check_identity(2, 35, 32, TAZHIKKO_COLUMN_MATRIX);
     for (size_t at = 0; at < bundle_len; at += at < 48 ? 1 : 97) {
         uint8_t kept = bundle[at];
         bundle[at] ^= 0x10;

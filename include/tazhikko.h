@@ -15,8 +15,9 @@ extern "C" {
 
 /* The version of these calls: 10,000 times the major number, 100 times the minor one, and the patch. Where the major number is another, a
  * call takes or answers something else. Since version 2, make_set, make_table and walk name a cipher as their first argument; since 2.1 there are
- * record and replay, since 2.2 catalogue_entry. */
-#define TAZHIKKO_VERSION 20200
+ * record and replay, since 2.2 catalogue_entry. Since version 3, a bundle is refused also where an aligned 4 by 4 block of a byte or column matrix
+ * has no inverse. */
+#define TAZHIKKO_VERSION 30000
 
 /* The ciphers of a set and of a walk: 0 is the forward one and any other number the inverse one. No number is refused. */
 #define TAZHIKKO_FORWARD 0
@@ -44,9 +45,9 @@ extern "C" {
 #define TAZHIKKO_BUNDLE_LENGTH 2       /* the bundle is too short or too long */
 #define TAZHIKKO_SECTION 3             /* second number: the first bad pair, 0 to 4 */
 #define TAZHIKKO_ENCODING 4            /* second number: the first list that is no permutation */
-#define TAZHIKKO_BYTE_MATRIX 5         /* second number: the first byte matrix that has no inverse */
-#define TAZHIKKO_COLUMN_MATRIX 6       /* second number: the first column matrix that has no inverse */
-#define TAZHIKKO_BLOCK_MATRIX 7        /* second number: 0 input or both, 1 output only */
+#define TAZHIKKO_BYTE_MATRIX 5         /* second number: the first byte matrix that has no inverse, or one of whose aligned 4 by 4 blocks has none */
+#define TAZHIKKO_COLUMN_MATRIX 6       /* second number: the first column matrix that has no inverse, or one of whose aligned 4 by 4 blocks has none */
+#define TAZHIKKO_BLOCK_MATRIX 7        /* the input or the output matrix has no inverse; second number: 0 input or both, 1 output only */
 #define TAZHIKKO_TABLE_NUMBER 8        /* the table number is above TAZHIKKO_TABLES - 1 */
 #define TAZHIKKO_SET_LENGTH 9          /* the set, or the single table, has the wrong length */
 #define TAZHIKKO_BLOCK_LENGTH 10       /* a block, in or out, is not of 16 bytes */

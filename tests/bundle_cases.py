@@ -1,5 +1,5 @@
 #!/usr/bin/env python3
-"""Makes crates/bundle_cases/stdin and stdout from the reference (tests/reference/wbref.py), never from the project's own code.
+"""Makes crates/bundle_cases/stdin and stdout from the reference (tests/reference/), never from the project's own code.
 
 usage: tests/bundle_cases.py           write both files
        tests/bundle_cases.py --check   compare them with what the reference says
@@ -16,8 +16,11 @@ import sys
 
 HERE = os.path.dirname(os.path.abspath(__file__))
 sys.path.insert(0, os.path.join(HERE, "reference"))
-import wbref  # noqa: E402
+import mixing
+import tickets
+import wbref
 
+RULES = mixing.Rules(5)
 TARGET = os.path.join(HERE, "..", "crates", "bundle_cases")
 ROOM = 65537
 SHORTEST = 40 + sum(wbref.lengths())
@@ -36,7 +39,7 @@ class Cases:
         self.orders += bytes([kind, k]) + a.to_bytes(3, "big") + n.to_bytes(3, "big")
 
     def say(self, cause):
-        self.expected.append("%d %d" % (cause or (0, 0)))
+        self.expected.append("%d %d" % cause)
 
     def put(self, at, data):
         self.order(0, 0, at, len(data))
@@ -49,7 +52,7 @@ class Cases:
     def verdict(self, length):
         key = bytes(self.mem[:length])
         if key not in self.judged:
-            self.judged[key] = wbref.judge_bundle(key)
+            self.judged[key] = RULES.judge(key)
         return self.judged[key]
 
     def judge(self, length):
@@ -71,10 +74,9 @@ class Cases:
     def part(self, length, k, n):
         far = n % 8 << 61
         section, number = (k, n if k < 3 else 0) if k < 5 else (k - 5, far)
-        cause = self.verdict(length)
         data = bytes(self.mem[:length])
         out = b""
-        if not (cause and cause[0] in (2, 3)) and number < wbref.lengths()[section] // SIZES[section]:
+        if self.verdict(length)[0] not in (2, 3) and number < wbref.lengths()[section] // SIZES[section]:
             at = wbref.pairs(data)[section][0] + SIZES[section] * number
             out = data[at:at + SIZES[section]]
         for kind in (2, 3):
@@ -84,10 +86,12 @@ class Cases:
     def code(self, length, k, block, room):
         self.order(4, k, length, 256 * len(block) + room)
         self.orders += block
-        cause = self.verdict(length) or ((10, 0) if len(block) != 16 or room != 16 else None)
+        cause = self.verdict(length)
+        if cause == (0, 0) and (len(block) != 16 or room != 16):
+            cause = (10, 0)
         self.say(cause)
         out = b"\x5a" * room
-        if cause is None:
+        if cause == (0, 0):
             side, call = CALLS[k]
             out = call(wbref.Bundle(bytes(self.mem[:length])), side, block)
         self.expected.append(out.hex())
@@ -129,10 +133,6 @@ def bad_lists(bundle, n):
     yield (list_at(bundle, n), bytes(8))
 
 
-def matrix_bytes(rows, n):
-    return b"".join(r.to_bytes(n // 8, "big") for r in rows)
-
-
 def matrices(rng, n, rows):
     """Matrices made from one that has an inverse: most have none, some of them with no zero row and no two equal rows."""
     a, b = rng.sample(range(n), 2)
@@ -149,7 +149,7 @@ def matrices(rng, n, rows):
     column = [r & ~(1 << (n - 1 - a)) for r in rows]
     across = [1 << i for i in range(n)]
     for m in (alike, empty, summed, last, column, across, list(reversed(rows)), [0] * n):
-        yield matrix_bytes(m, n)
+        yield mixing.to_bytes(m, n)
 
 
 def matrix_cases(c, rng, length):
@@ -219,12 +219,15 @@ def refused_codes(c, rng, length):
         c.code(length, k, rng.randbytes(15), 16)
 
 
-def make():
-    c = Cases()
-    rng = random.Random(3)
+def turned_down(c, rng, length, *changes):
+    """Parts and calls under a bundle that these changes make a bad one."""
+    c.with_changes(changes, lambda: few_parts(c, length))
+    c.with_changes(changes, lambda: refused_codes(c, rng, length))
 
-    # A bundle without gaps, of the shortest length, and free bytes behind it.
-    c.load(wbref.random_bundle(0))
+
+def without_gaps(c, rng):
+    """A bundle of the shortest length, and free bytes behind it."""
+    c.load(wbref.build_bundle(tickets.random_sections(rng)))
     for length in (SHORTEST - 1, SHORTEST, SHORTEST + 1, 65535, 65536, 65537, 0, 1, 39, 40, 41, 58000):
         c.judge(length)
     pair_cases(c, SHORTEST)
@@ -232,6 +235,8 @@ def make():
         for fault in bad_lists(bytes(c.mem), n):
             c.judge_with(SHORTEST, fault)
     matrix_cases(c, rng, SHORTEST)
+    for changes in mixing.changes(rng, c.mem):
+        c.judge_with(SHORTEST, *changes)
     several_faults(c, SHORTEST)
     part_cases(c, SHORTEST)
     code_cases(c, rng, SHORTEST)
@@ -242,16 +247,18 @@ def make():
     few_parts(c, 0)
     refused_codes(c, rng, SHORTEST - 1)
     o, n = wbref.pairs(c.mem)[2]
-    c.with_changes([pair(2, o, n + 1)], lambda: few_parts(c, SHORTEST))
-    c.with_changes([pair(2, o, n + 1)], lambda: refused_codes(c, rng, SHORTEST))
-    b = wbref.Bundle(bytes(c.mem))
-    starts = [list_at(c.mem, 6047)] + b.start[1:]
+    turned_down(c, rng, SHORTEST, pair(2, o, n + 1))
+    starts = [list_at(c.mem, 6047)] + wbref.Bundle(bytes(c.mem)).start[1:]
     for at, data in zip(starts, (bytes(8), bytes(8), bytes(128), bytes(2048), bytes(2048))):
-        c.with_changes([(at, data)], lambda: few_parts(c, SHORTEST))
-        c.with_changes([(at, data)], lambda: refused_codes(c, rng, SHORTEST))
+        turned_down(c, rng, SHORTEST, (at, data))
+    for section, number in ((1, 159), (2, 35)):
+        m = mixing.Matrices(c.mem, section)
+        turned_down(c, rng, SHORTEST, m.put(number, mixing.any_bad_block(rng, m.n)))
 
-    # A bundle with gaps, whose free bytes are not read.
-    bundle = wbref.random_bundle(1)
+
+def with_gaps(c, rng):
+    """A bundle whose free bytes are not read; then its last section at the end of the longest bundle."""
+    bundle = wbref.build_bundle(tickets.random_sections(rng), (1000, 900, 7, 800, 600, 500))
     c.load(bundle)
     for length in (len(bundle) - 1, len(bundle), 65536, 65537):
         c.judge(length)
@@ -259,15 +266,40 @@ def make():
     several_faults(c, len(bundle))
     part_cases(c, len(bundle))
     code_cases(c, rng, len(bundle))
-
-    # The plain bundle, its last section at the end of the longest bundle.
-    c.load(wbref.build_bundle(wbref.plain_sections(), (0, 0, 0, 0, 65536 - SHORTEST, 0)))
+    o, n = wbref.pairs(c.mem)[4]
+    end = 65536 - n
+    c.put(end, bytes(c.mem[o : o + n]))
+    c.put(*pair(4, end, n))
     c.judge(65536)
     c.judge(65535)
-    o, n = wbref.pairs(c.mem)[4]
-    c.judge_with(65536, pair(4, o + 1, n))
-    c.judge_with(65537, pair(4, o + 1, n))
+    c.judge_with(65536, pair(4, end + 1, n))
+    c.judge_with(65537, pair(4, end + 1, n))
     code_cases(c, rng, 65536)
+
+
+def plain(c, rng):
+    """The plain bundle, which is refused for its byte matrix 0, behind its pairs and lists and before its output matrix; with its last section moved too, and with the
+    first of its matrices good."""
+    c.load(wbref.build_bundle(wbref.plain_sections()))
+    for length in (SHORTEST - 1, SHORTEST, 65536):
+        c.judge(length)
+    refused_codes(c, rng, SHORTEST)
+    o, n = wbref.pairs(c.mem)[4]
+    for fault in (pair(4, o, n + 1), (list_at(c.mem, 6047), bytes(8)), (o, bytes(n))):
+        c.judge_with(SHORTEST, fault)
+    c.judge_with(65536, (65536 - n, bytes(c.mem[o : o + n])), pair(4, 65536 - n, n))
+    _, narrow, wide, _, _ = wbref.Bundle(bytes(c.mem)).start
+    _, byte_matrices, column_matrices, _, _ = tickets.random_sections(rng)
+    for bytes_good, columns_good in ((159, 0), (160, 0), (160, 35), (160, 36)):
+        c.judge_with(SHORTEST, (narrow, byte_matrices[: 8 * bytes_good]), (wide, column_matrices[: 128 * columns_good]))
+
+
+def make():
+    c = Cases()
+    rng = random.Random(3)
+    without_gaps(c, rng)
+    with_gaps(c, rng)
+    plain(c, rng)
     return bytes(c.orders), "".join(line + "\n" for line in c.expected).encode()
 
 

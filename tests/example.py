@@ -3,6 +3,7 @@
 
 usage: rt staticlib host && tests/example.py
 """
+import itertools
 import os
 import random
 import subprocess
@@ -12,13 +13,13 @@ import tempfile
 HERE = os.path.dirname(os.path.abspath(__file__))
 ROOT = os.path.join(HERE, "..")
 sys.path.insert(0, os.path.join(HERE, "reference"))
+import mixing
 import openssl_aes
 import tickets
 import wbref
 
-RULES = tickets.Rules(4)
+RULES = tickets.Rules(5)
 CIPHERS = ("forward", "inverse")
-MATRICES = 20160  # in the catalogue
 
 
 def build(folder, name):
@@ -47,21 +48,24 @@ def refused(cause, second):
 # ---- host.c --------------------------------------------------------------------------------
 
 def enciphered(key, bundle, block):
-    """Document 01's lowest cause, or OpenSSL's cipher block and the block that OpenSSL reads from it."""
-    refusal = (1, 0) if len(key) != 16 else wbref.judge_bundle(bundle) or ((10, 0) if len(block) != 16 else None)
-    if refusal:
-        return refused(*refusal)
+    """The lowest cause, or OpenSSL's cipher block and the block that OpenSSL reads from it."""
+    cause = RULES.keyed(key, bundle)
+    if cause == (0, 0) and len(block) != 16:
+        cause = (10, 0)
+    if cause != (0, 0):
+        return refused(*cause)
     cipher_block = openssl_aes.encipher(key, block)
     return b"%s\n%s\n" % (cipher_block.hex().encode(), openssl_aes.decipher(key, cipher_block).hex().encode()), 0
 
 
 def check_host(rng, folder):
     program = build(folder, "host")
-    for seed in range(4):
-        key, bundle, block = rng.randbytes(16), wbref.random_bundle(seed), rng.randbytes(16)
-        at = wbref.pairs(bundle)[0][0] + 8 * rng.randrange(6048)
-        faulty = bundle[:at] + bytes(8) + bundle[at + 8 :]
-        for k, b, x in ((key, bundle, block), (key[1:], faulty, block), (key, faulty, block), (key, bundle, block + b"\x00"), (key, bundle, b"")):
+    for _ in range(4):
+        key, bundle, block = rng.randbytes(16), tickets.random_bundle(rng), rng.randbytes(16)
+        faulty = mixing.changed(bundle, [(wbref.pairs(bundle)[0][0] + 8 * rng.randrange(6048), bytes(8))])
+        bad_block = mixing.changed(bundle, [mixing.Matrices(bundle, 2).put(rng.randrange(36), mixing.any_bad_block(rng, 32))])
+        given = [(key, bundle, block), (key[1:], faulty, block), (key, faulty, block), (key, bad_block, block), (key, bundle, block + b"\x00"), (key, bundle, b"")]
+        for k, b, x in given:
             got = run(folder, program, key=k, bundle=b, block=x)
             assert got == enciphered(k, b, x), (got, enciphered(k, b, x))
 
@@ -95,42 +99,61 @@ def check_walk(rng, folder, program, cipher, memory):
 def check_bench(rng, folder):
     program = build(folder, "bench")
     for cipher in range(len(CIPHERS)):
-        check_walk(rng, folder, program, cipher, tickets.Maker(cipher, rng.randbytes(16), wbref.random_bundle(cipher)).tables())
+        check_walk(rng, folder, program, cipher, tickets.Maker(cipher, rng.randbytes(16), tickets.random_bundle(rng)).tables())
         check_walk(rng, folder, program, cipher, rng.randbytes(wbref.SET_LEN))
 
 
 # ---- mixing.c ------------------------------------------------------------------------------
 
-def joined(blocks):
-    """The rows of the matrix of four blocks, put together as text."""
-    digits = ["{:016b}".format(block) for block in blocks]
-    return [int(left[i : i + 4] + right[i : i + 4], 2) for left, right in (digits[:2], digits[2:]) for i in range(0, 16, 4)]
+def positions(data):
+    """The positions that these bytes name, two bytes each, without numbers that would favour some; with each, how many bytes are used up to it."""
+    for at in range(0, len(data) - 1, 2):
+        number = int.from_bytes(data[at : at + 2], "big")
+        if number < 3 * mixing.MATRICES:
+            yield number % mixing.MATRICES, at + 2
+
+
+def joined(blocks, n):
+    """The matrix of these blocks, put together as text: row r of a block is its hex digit r."""
+    digits = ["%04x" % block for block in blocks]
+    strips = [digits[at : at + n // 4] for at in range(0, len(digits), n // 4)]
+    return bytes.fromhex("".join(block[r] for strip in strips for r in range(4) for block in strip))
 
 
 def mixed(data):
-    """The first four blocks at the positions that these bytes name, without numbers that would favour some positions, whose matrix has an inverse."""
-    numbers = [int.from_bytes(data[i : i + 2], "big") for i in range(0, len(data) - 1, 2)]
-    blocks = [tickets.catalogue_at(n % MATRICES)[2] for n in numbers if n < 3 * MATRICES]
-    for at in range(0, len(blocks) - 3, 4):
-        rows = joined(blocks[at : at + 4])
-        if wbref.mat_inv(rows, 8) is not None:
-            return bytes(rows).hex().encode() + b"\n", 0
-    return b"", 2
+    """The matrices that the bytes give, of each width the first of its blocks that have an inverse, and how many bytes they use; or nothing."""
+    drawn, out, used = positions(data), b"", 0
+    for n in [8] * 160 + [32] * 36:
+        matrix = None
+        while matrix is None or wbref.mat_inv(wbref.mat_rows(matrix, n), n) is None:
+            some = list(itertools.islice(drawn, (n // 4) ** 2))
+            if len(some) < (n // 4) ** 2:
+                return b"", 0
+            matrix, used = joined([tickets.catalogue_at(position)[2] for position, _ in some], n), some[-1][1]
+        out += matrix
+    return out, used
 
 
-def block_invertible(rows):
-    """Whether the matrix has an inverse, and each of its four blocks."""
-    blocks = [[row >> shift & 15 for row in rows[top : top + 4]] for top in (0, 4) for shift in (4, 0)]
-    return wbref.mat_inv(rows, 8) is not None and all(wbref.mat_inv(block, 4) is not None for block in blocks)
+def drawn_from(program, data):
+    done = subprocess.run([program], input=data, stdout=subprocess.PIPE, stderr=subprocess.DEVNULL)
+    return done.stdout, done.returncode
+
+
+def accepted_in_a_bundle(matrices):
+    sections = wbref.plain_sections()
+    sections[1:3] = matrices[: len(sections[1])], matrices[len(sections[1]) :]
+    return RULES.judge(wbref.build_bundle(sections)) == (0, 0)
 
 
 def check_mixing(rng, folder):
     program = build(folder, "mixing")
-    for size in [*range(40), *[4000] * 60]:
-        data = rng.randbytes(size)
-        done = subprocess.run([program], input=data, stdout=subprocess.PIPE, stderr=subprocess.DEVNULL)
-        assert (done.stdout, done.returncode) == mixed(data), (done, mixed(data))
-        assert done.returncode or block_invertible(bytes.fromhex(done.stdout.decode())), done
+    for _ in range(6):
+        data = rng.randbytes(60000)
+        matrices, used = mixed(data)
+        assert drawn_from(program, data) == drawn_from(program, data[:used]) == (matrices, 0)
+        assert accepted_in_a_bundle(matrices)
+        for size in (0, 1, 8, rng.randrange(used), used - 1):
+            assert drawn_from(program, data[:size]) == (b"", 2)
 
 
 def main():

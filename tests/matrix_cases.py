@@ -6,7 +6,7 @@ import sys
 
 HERE = os.path.dirname(os.path.abspath(__file__))
 sys.path.insert(0, os.path.join(HERE, "reference"))
-import wbref  # noqa: E402
+import wbref
 
 FOLDER = os.path.join(HERE, "..", "crates", "matrix_cases")
 rng = random.Random(197)

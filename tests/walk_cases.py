@@ -27,7 +27,7 @@ sys.path.insert(0, os.path.join(HERE, "reference"))
 import tickets
 import wbref
 
-RULES = tickets.Rules(2)
+RULES = tickets.Rules(5)
 LAST = len(wbref.LOOKS)
 # The counts at which a stage or half ends: behind each last XOR lookup.
 ENDS = [n + 1 for n, look in enumerate(wbref.LOOKS) if not look.spread and look.last]

@@ -1,5 +1,5 @@
 #!/usr/bin/env python3
-"""Runs the program walker and compares it with the reference, tests/reference/wbref.py.
+"""Runs the program walker and compares it with the reference, tests/reference/.
 
 usage: tests/walker.py [WALKER]     WALKER is the compiled program, target/bin/walker by default
 
@@ -12,6 +12,7 @@ import sys
 
 HERE = os.path.dirname(os.path.abspath(__file__))
 sys.path.insert(0, os.path.join(HERE, "reference"))
+import tickets
 import wbref
 
 SIZE = wbref.SET_LEN
@@ -29,7 +30,7 @@ def same(data, line):
 
 def made(seed):
     """A set that the reference makes enciphers, under the outer codings."""
-    key, bundle = wbref.random_key(seed), wbref.random_bundle(seed)
+    key, bundle = wbref.random_key(seed), tickets.random_bundle(random.Random(seed))
     tables, b = wbref.make_set(key, bundle), wbref.Bundle(bundle)
     for n in range(3):
         block = random.Random(1000 * seed + n).randbytes(16)

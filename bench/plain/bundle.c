@@ -33,27 +33,38 @@ uint64_t find_sections(const uint8_t *bundle, size_t len, const uint8_t *section
     return 0;
 }
 
+/* Whether each aligned 4 by 4 block of an n by n matrix has an inverse. */
+static bool blocks_invertible(int n, const uint32_t *matrix)
+{
+    for (int i = 0; i < n; i += 4)
+        for (int shift = 0; shift < n; shift += 4)
+            if (!is_invertible4(matrix[i] >> shift & 15, matrix[i + 1] >> shift & 15, matrix[i + 2] >> shift & 15, matrix[i + 3] >> shift & 15))
+                return false;
+    return true;
+}
+
 uint64_t plain_judge_bundle(const uint8_t *bundle, size_t bundle_len)
 {
     const uint8_t *sections[SECTIONS];
-    uint32_t rows[32], inverse[32];
-    vector128 inverse128[128];
+    uint32_t rows[32];
     uint64_t refusal = find_sections(bundle, bundle_len, sections);
     if (refusal != 0)
         return refusal;
     for (uint32_t i = 0; i < LISTS; i++)
         if (!is_permutation(sections[0] + 8 * i))
             return refused(4, i);
-    for (uint32_t i = 0; i < BYTE_MATRICES; i++)
-        if (!invert8(sections[1] + 8 * i, inverse))
+    for (uint32_t i = 0; i < BYTE_MATRICES; i++) {
+        load_matrix8(sections[1] + 8 * i, rows);
+        if (!blocks_invertible(8, rows) || !is_invertible32(8, rows))
             return refused(5, i);
+    }
     for (uint32_t i = 0; i < COLUMN_MATRICES; i++) {
         load_matrix32(sections[2] + 128 * i, rows);
-        if (!invert32(32, rows, inverse))
+        if (!blocks_invertible(32, rows) || !is_invertible32(32, rows))
             return refused(6, i);
     }
     for (uint32_t i = 0; i < 2; i++)
-        if (!invert128(sections[3 + i], inverse128))
+        if (!is_invertible128(sections[3 + i]))
             return refused(7, i);
     return 0;
 }

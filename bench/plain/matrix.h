@@ -133,12 +133,63 @@ static inline void load_matrix32(const uint8_t *matrix, uint32_t rows[32])
         rows[i] = load32(matrix + 4 * i);
 }
 
+static inline void load_matrix8(const uint8_t *matrix, uint32_t rows[8])
+{
+    for (int i = 0; i < 8; i++)
+        rows[i] = matrix[i];
+}
+
 static inline bool invert8(const uint8_t *matrix, uint32_t inverse[8])
 {
     uint32_t rows[8];
-    for (int i = 0; i < 8; i++)
-        rows[i] = matrix[i];
+    load_matrix8(matrix, rows);
     return invert32(8, rows, inverse);
+}
+
+/* Whether a matrix of n <= 32 rows has an inverse: the elimination on the matrix alone, in column k only of the rows behind row k. The rows are used up. */
+static inline bool is_invertible32(int n, uint32_t *rows)
+{
+    for (int k = 0; k < n; k++) {
+        uint32_t bit = (uint32_t)1 << (n - 1 - k);
+        int p = k;
+        while (p < n && !(rows[p] & bit))
+            p++;
+        if (p == n)
+            return false;
+        uint32_t pivot = rows[p];
+        rows[p] = rows[k];
+        for (int i = k + 1; i < n; i++)
+            rows[i] ^= rows[i] & bit ? pivot : 0;
+    }
+    return true;
+}
+
+static inline bool is_invertible128(const uint8_t *matrix)
+{
+    vector128 rows[128];
+    load_matrix128(matrix, rows);
+    for (int k = 0; k < 128; k++) {
+        int p = k;
+        while (p < 128 && !has_bit(rows[p], k))
+            p++;
+        if (p == 128)
+            return false;
+        vector128 pivot = rows[p];
+        rows[p] = rows[k];
+        for (int i = k + 1; i < 128; i++) {
+            uint64_t mask = -(uint64_t)has_bit(rows[i], k);
+            rows[i].high ^= pivot.high & mask;
+            rows[i].low ^= pivot.low & mask;
+        }
+    }
+    return true;
+}
+
+/* A 4 by 4 matrix of these rows: each is outside the span of those before it. */
+static inline bool is_invertible4(uint32_t a, uint32_t b, uint32_t c, uint32_t d)
+{
+    uint32_t ab = a ^ b, ac = a ^ c, bc = b ^ c, abc = ab ^ c;
+    return a && b && ab && c && ac && bc && abc && d && d != a && d != b && d != ab && d != c && d != ac && d != bc && d != abc;
 }
 
 #endif

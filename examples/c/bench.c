@@ -14,8 +14,8 @@
 
 #include <string.h>
 
-#if TAZHIKKO_VERSION / 10000 != 2 || TAZHIKKO_VERSION < 20100
-#error "this program is written for version 2.1 of the calls"
+#if TAZHIKKO_VERSION / 10000 != 3
+#error "this program is written for version 3 of the calls"
 #endif
 
 static int record(uint64_t cipher, const struct input *set, const struct input *block)

@@ -11,8 +11,8 @@
  * Where a call is refused, `refused N I` is printed: the cause, and the number returned with it. */
 #include "input.h"
 
-#if TAZHIKKO_VERSION / 10000 != 2
-#error "this program is written for version 2 of the calls"
+#if TAZHIKKO_VERSION / 10000 != 3
+#error "this program is written for version 3 of the calls"
 #endif
 
 /* What the cipher makes of a block, by a set of the key and the bundle. */

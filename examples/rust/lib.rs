@@ -34,9 +34,9 @@ pub enum Refusal {
     Section(u32),
     /// The first encoding that is no permutation.
     Encoding(u32),
-    /// The first byte matrix that has no inverse.
+    /// The first byte matrix that has no inverse, or one of whose aligned 4 by 4 blocks has none.
     ByteMatrix(u32),
-    /// The first column matrix that has no inverse.
+    /// The first column matrix of which the same is true.
     ColumnMatrix(u32),
     /// 0 for the input matrix or both, 1 for the output matrix only.
     BlockMatrix(u32),

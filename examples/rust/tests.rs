@@ -9,6 +9,9 @@ const CIPHER: Block = [0x69, 0xc4, 0xe0, 0xd8, 0x6a, 0x7b, 0x04, 0x30, 0xd8, 0xc
 const STARTS: [usize; 5] = [40, 48_424, 49_704, 54_312, 56_360];
 const LENGTHS: [usize; 5] = [48_384, 1_280, 4_608, 2_048, 2_048];
 
+/// The powers of a generator of the field of 16 elements.
+const POWERS: [u8; 15] = [1, 2, 4, 8, 3, 6, 12, 11, 5, 10, 7, 14, 15, 13, 9];
+
 /// Ones on the diagonal and, where the matrix is not plain, left of it too: it has an inverse, and that is another matrix.
 fn matrix(width: usize, plain: bool) -> Vec<u8> {
     let mut bytes = vec![0; width * width / 8];
@@ -22,22 +25,34 @@ fn matrix(width: usize, plain: bool) -> Vec<u8> {
     bytes
 }
 
-/// The plain bundle, or one whose encoding n turns the nibbles by n + 1.
+/// Row r of block i, j is power ij + r. So each block has an inverse, and up to a factor the blocks are a Vandermonde matrix over the field: the whole has one.
+fn mixing(width: usize) -> Vec<u8> {
+    let row_of_block = |row: usize, j: usize| POWERS[(row / 4 * j + row % 4) % 15];
+    let byte = |row: usize, k: usize| row_of_block(row, 2 * k) << 4 | row_of_block(row, 2 * k + 1);
+    (0..width).flat_map(|row| (0..width / 8).map(move |k| byte(row, k))).collect()
+}
+
+/// Byte and column matrices by `mixing`. Where the bundle is plain, its encodings and its other matrices change nothing; else encoding n turns the nibbles by n + 1.
 fn bundle(plain: bool) -> Vec<u8> {
     let image = |list: usize, x: usize| ((x + if plain { 0 } else { list + 1 }) % 16) as u8;
     let mut bytes: Vec<u8> = STARTS.iter().zip(LENGTHS).flat_map(|(o, n)| [(*o as u32).to_be_bytes(), (n as u32).to_be_bytes()].concat()).collect();
     bytes.extend((0..6_048 * 8).map(|i| image(i / 8, i % 8 * 2) << 4 | image(i / 8, i % 8 * 2 + 1)));
-    for (width, count) in [(8, 160), (32, 36), (128, 2)] {
-        bytes.extend(matrix(width, plain).repeat(count));
+    for (matrix, count) in [(mixing(8), 160), (mixing(32), 36), (matrix(128, plain), 2)] {
+        bytes.extend(matrix.repeat(count));
     }
     bytes
 }
 
-/// The bundle with zeros written over one part.
-fn without(at: usize, len: usize) -> Vec<u8> {
+/// A good bundle with other bytes from a place on.
+fn with(at: usize, part: &[u8]) -> Vec<u8> {
     let mut bytes = bundle(true);
-    bytes[at..at + len].fill(0);
+    bytes[at..at + part.len()].copy_from_slice(part);
     bytes
+}
+
+/// A good bundle with zeros written over one part.
+fn without(at: usize, len: usize) -> Vec<u8> {
+    with(at, &vec![0; len])
 }
 
 #[test]
@@ -152,6 +167,21 @@ fn faulty_bundles() {
     assert_eq!(judge_bundle(&without(STARTS[2] + 128 * 35, 128)), Err(Refusal::ColumnMatrix(35)));
     assert_eq!(judge_bundle(&without(STARTS[3], 4_096)), Err(Refusal::BlockMatrix(0)));
     assert_eq!(judge_bundle(&without(STARTS[4], 2_048)), Err(Refusal::BlockMatrix(1)));
+}
+
+/// A matrix that changes nothing has an inverse, but its blocks beside the diagonal have none. The plain bundle is refused for its first one. The input and the
+/// output matrix may be such; here the input matrix is a permutation with at most one 1 in a block, so no block of it has an inverse.
+#[test]
+fn bad_blocks() {
+    let plain = [matrix(8, true).repeat(160), matrix(32, true).repeat(36)].concat();
+    assert_eq!(judge_bundle(&with(STARTS[1], &plain)), Err(Refusal::ByteMatrix(0)));
+    assert_eq!(judge_bundle(&with(STARTS[1] + 8 * 159, &matrix(8, true))), Err(Refusal::ByteMatrix(159)));
+    assert_eq!(judge_bundle(&with(STARTS[2] + 128 * 35, &matrix(32, true))), Err(Refusal::ColumnMatrix(35)));
+    let scattered: Vec<u8> = (0..128).flat_map(|row| (1_u128 << (row % 4 * 32 + row / 4)).to_be_bytes()).collect();
+    assert_eq!(judge_bundle(&with(STARTS[3], &scattered)), Ok(()));
+    let bundle = with(STARTS[1] + 8 * 159, &matrix(8, false));
+    assert_eq!(make_set(Cipher::Forward, &KEY, &bundle), Err(Refusal::ByteMatrix(159)));
+    assert_eq!(encode_input(&bundle, &BLOCK), Err(Refusal::ByteMatrix(159)));
 }
 
 #[test]

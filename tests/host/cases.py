@@ -27,11 +27,12 @@ import sys
 HERE = os.path.dirname(os.path.abspath(__file__))
 sys.path[:0] = [os.path.join(HERE, ".."), os.path.join(HERE, "..", "reference")]
 import bundle_cases
+import mixing
 import openssl_aes
 import tickets
 import wbref
 
-RULES = tickets.Rules(4)
+RULES = mixing.Rules(5)
 CIPHERS = (openssl_aes.encipher, openssl_aes.decipher)
 CODINGS = (("in", wbref.code), ("in", wbref.uncode), ("out", wbref.code), ("out", wbref.uncode))
 LONGEST = 65536
@@ -41,7 +42,6 @@ LOOKUPS = len(wbref.LOOKS)
 XORS = [n for n, look in enumerate(wbref.LOOKS) if not look.spread]
 ENTRY = 5  # bytes of a lookup in a record
 NONE = 2**32 - 1
-MATRICES = 20160  # in the catalogue
 ROUNDS = [496 + 224 * r for r in range(9)]
 FIRST_AND_LAST = [0, 15, 16, 495, 2512, 2527, 2528, 3007] + [n + k for n in ROUNDS for k in (0, 15, 16, 111, 112, 127, 128, 223)]
 
@@ -55,7 +55,7 @@ def string(data):
 
 
 def judged(bundle):
-    cause, second = wbref.judge_bundle(bundle) or (0, 0)
+    cause, second = RULES.judge(bundle)
     return number(cause) + number(second)
 
 
@@ -66,14 +66,20 @@ def random_gaps(rng, total):
     return [b - a for a, b in zip([0] + cuts, cuts + [total])]
 
 
+def plain_but_mixing(rng):
+    """The plain bundle's sections but for byte and column matrices, which have to be others in an accepted bundle."""
+    plain, drawn = wbref.plain_sections(), tickets.random_sections(rng)
+    return plain[:1] + drawn[1:3] + plain[3:]
+
+
 def accepted(rng):
-    """Bundles with their gaps: the plain one, a shortest one, a longest one, three of lengths between."""
+    """Bundles with their gaps: one with plain lists and outer codings, a shortest one, a longest one, three of lengths between."""
     none = [0] * 6
-    yield wbref.build_bundle(wbref.plain_sections()), none
-    yield wbref.build_bundle(wbref.random_sections(rng)), none
+    yield wbref.build_bundle(plain_but_mixing(rng)), none
+    yield wbref.build_bundle(tickets.random_sections(rng)), none
     for total in [FREE] + [rng.randrange(1, FREE) for _ in range(3)]:
         gaps = random_gaps(rng, total)
-        yield wbref.build_bundle(wbref.random_sections(rng), gaps), gaps
+        yield wbref.build_bundle(tickets.random_sections(rng), gaps), gaps
 
 
 def bundle_row(bundle, gaps):
@@ -131,13 +137,6 @@ def flips(rng, bundle):
             yield [(at, bytes([bundle[at] ^ 1 << rng.randrange(8)]))]
 
 
-def changed(bundle, changes):
-    out = bytearray(bundle)
-    for at, data in changes:
-        out[at : at + len(data)] = data
-    return bytes(out)
-
-
 def judgements(rng, bundle):
     """The bundle at other lengths, every single fault, two faults at once of all causes, flipped bits."""
     lengths = [1, 39, 40, 41, 58407, 58408, len(bundle) - 1, len(bundle), len(bundle) + 1, LONGEST, LONGEST + 1, rng.randrange(LONGEST)]
@@ -146,7 +145,22 @@ def judgements(rng, bundle):
     by_cause = faults(rng, bundle)
     both = [rng.choice(a) + rng.choice(b) for a in by_cause for b in by_cause]
     for changes in sum(by_cause, []) + both + list(flips(rng, bundle)):
-        yield changed(bundle, changes)
+        yield mixing.changed(bundle, changes)
+
+
+def plain(rng):
+    """The plain bundle, without gaps and with some."""
+    for gaps in ([0] * 6, random_gaps(rng, FREE), random_gaps(rng, rng.randrange(1, FREE))):
+        yield wbref.build_bundle(wbref.plain_sections(), gaps)
+
+
+def all_judgements(rng, bundles):
+    """The plain bundle, every accepted one with its changes, and the last with mixing matrices of every kind."""
+    yield from plain(rng)
+    for bundle in bundles:
+        yield from judgements(rng, bundle)
+    for changes in mixing.changes(rng, bundles[-1]):
+        yield mixing.changed(bundles[-1], changes)
 
 
 # ---- blocks, tables, walks -----------------------------------------------------------------
@@ -179,7 +193,7 @@ class Set:
 
 
 def sets(rng, bundles):
-    """The whole sets of the first bundles for both ciphers; the plain one with the key of zeros."""
+    """The whole sets of the first bundles for both ciphers; the first one with the key of zeros."""
     keys = [bytes(16)] + [rng.randbytes(16) for _ in range(1, WHOLE)]
     with multiprocessing.Pool() as pool:
         return pool.starmap(Set, [(n, bundles[n], cipher, key) for n, key in enumerate(keys) for cipher in range(2)])
@@ -273,14 +287,14 @@ def replays(rng, made):
     for n, record in enumerate(made):
         for m, changes in [(n, c) for c in alterations(rng, n, record.own)] + [(n ^ 1, []), (n ^ 2, [])]:
             parts = b"".join(number(start) + string(part) for start, part in changes)
-            yield number(n) + number(m) + number(len(changes)) + parts + number(record.replayed(changed(made[m].own, changes)))
+            yield number(n) + number(m) + number(len(changes)) + parts + number(record.replayed(mixing.changed(made[m].own, changes)))
 
 
 # ---- crossed bundles -----------------------------------------------------------------------
 
 def across(rng, bundle):
     """Another bundle, whose input coding is the output coding of this one, and the other way round."""
-    sections = wbref.random_sections(rng)
+    sections = tickets.random_sections(rng)
     lists, _, _, before, behind = [bundle[offset : offset + length] for offset, length in wbref.pairs(bundle)]
     outer = 32 * 8
     sections[0] = lists[-outer:] + sections[0][outer:-outer] + lists[:outer]
@@ -299,17 +313,17 @@ def crossed(rng, bundles):
 
 def beyond(rng):
     """Positions that no matrix has: edges; those of which a part of the bits, or the rest of a division, is a position; any."""
-    yield from (MATRICES, MATRICES + 1, 2**16 - 1, 2**16, 2**32 - 1, 2**32, 2**32 + 5, 2**63, 2**64 - 1)
+    yield from (mixing.MATRICES, mixing.MATRICES + 1, 2**16 - 1, 2**16, 2**32 - 1, 2**32, 2**32 + 5, 2**63, 2**64 - 1)
     for k in range(15, 64):
-        yield 2**k + rng.randrange(min(2**k, MATRICES))
+        yield 2**k + rng.randrange(min(2**k, mixing.MATRICES))
         yield rng.randrange(2**k, 2 ** (k + 1))
     for _ in range(20):
-        yield rng.randrange(1, 2**64 // MATRICES) * MATRICES + rng.randrange(MATRICES)
+        yield rng.randrange(1, 2**64 // mixing.MATRICES) * mixing.MATRICES + rng.randrange(mixing.MATRICES)
 
 
 def entries(rng):
     """Every position that a matrix has, in order, then others."""
-    for position in [*range(MATRICES), *beyond(rng)]:
+    for position in [*range(mixing.MATRICES), *beyond(rng)]:
         cause, second, matrix = tickets.catalogue_at(position)
         yield position.to_bytes(8, "big") + number(cause) + number(second) + number(matrix or 0)
 
@@ -328,7 +342,7 @@ def main():
     made, others = sets(rng, bundles), unfilled(rng)
     recorded = list(records(rng, [s.bytes for s in made] + others))
     write(folder, "bundles", (bundle_row(*b) for b in pool))
-    write(folder, "judgements", (string(b) + judged(b) for bundle in bundles[1:4] for b in judgements(rng, bundle)))
+    write(folder, "judgements", (string(b) + judged(b) for b in all_judgements(rng, bundles[1:4])))
     write(folder, "places", (number(look.off) + number(look.size) for look in wbref.LOOKS))
     write(folder, "codings", codings(rng, bundles))
     write(folder, "sets", (s.row() for s in made))

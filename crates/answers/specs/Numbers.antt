@@ -18,9 +18,9 @@ causeOf BundleLength = 2
 causeOf (Pair i) = 3
 -- "list no permutation"
 causeOf (Encoding n) = 4
--- "byte matrix has no inverse"
+-- "byte matrix has no inverse", or one of its blocks has none (document 02, Ticket 5)
 causeOf (ByteMatrix n) = 5
--- "column matrix has none"
+-- "column matrix has none", or one of its blocks
 causeOf (ColumnMatrix n) = 6
 -- "block matrix has none"
 causeOf InputMatrix = 7

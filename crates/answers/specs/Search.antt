@@ -20,6 +20,14 @@ firstFrom (suc k) n p = let r = firstFrom k (suc n) p in pick (p n) (At n) r
 unfoldable pub first : ℕ → (ℕ → Bool) → Found
 first count p = firstFrom count 0 p
 
+-- A search found something: some number below a count is picked.
+abbrev pub isFound : Found → Bool
+isFound (At n) = true
+isFound Nothing = false
+
+abbrev pub someBelow : ℕ → (ℕ → Bool) → Bool
+someBelow count p = isFound (first count p)
+
 -- All numbers below a count are good; and n is the first that is not.
 abbrev pub All : ℕ → (ℕ → Type 0) → Type 0
 All count Good = (i : ℕ) → i < count → Good i

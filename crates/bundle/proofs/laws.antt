@@ -1,4 +1,3 @@
-pub mod Tests
 pub mod Frame
 pub mod Parts
 pub mod FreeBytes

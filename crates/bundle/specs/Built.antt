@@ -8,7 +8,7 @@ use Rattle.answers.specs.declared.Answer.the-variants.{Accepted}
 use Rattle.bits.specs.Bytes.{Bytes, bytesOf}
 use Rattle.bits.specs.Encodings.{encodingBytes, plainEncoding}
 use Rattle.bits.specs.Lists.{at, concat}
-use Rattle.matrices.specs.Matrices.{identity, RowsFit, matrixBytes}
+use Rattle.matrices.specs.Matrices.{identity, Square, matrixBytes}
 use Rattle.bundle.specs.Format.{encodings, byteMatrices, columnMatrices, partCount, sectionLength, shortest, longest, frame}
 use Rattle.bundle.specs.Format.{encodingOf, byteMatrix, columnMatrix, inputMatrix, outputMatrix}
 
@@ -42,9 +42,13 @@ module _ (nr : ℕ) (E B C : ℕ → List ℕ) (I O : List ℕ) where
   unfoldable pub bundleOf : List ℕ
   bundleOf = concat 5 (pairBytes nr) ++ concat 5 sectionBytes
 
+-- One that is plain but for its byte matrices B 0, .. and column matrices C 0, ..: its lists, its input and its output matrix change nothing.
+abbrev pub plainBut : ℕ → (ℕ → List ℕ) → (ℕ → List ℕ) → List ℕ
+plainBut nr B C = bundleOf nr (λ n. plainEncoding) B C (identity 128) (identity 128)
+
 -- "The plain bundle has lists and matrices that change nothing."
 unfoldable pub plainBundle : ℕ → List ℕ
-plainBundle nr = bundleOf nr (λ n. plainEncoding) (λ n. identity 8) (λ n. identity 32) (identity 128) (identity 128)
+plainBundle nr = plainBut nr (λ n. identity 8) (λ n. identity 32)
 
 -- Byte by byte: its first 40 bytes for ten rounds, its lists and its byte matrices.
 pub record PlainBytes : Type 0 where
@@ -58,14 +62,10 @@ pub record PlainBytes : Type 0 where
   pub byte-matrix : matrixBytes 1 (identity 8) ≡ 0x80 ∷ 0x40 ∷ 0x20 ∷ 0x10 ∷ 0x08 ∷ 0x04 ∷ 0x02 ∷ 0x01 ∷ []
 
 -- ---- what a built bundle is
--- A list of 16 nibbles, and a matrix of n rows of n bits: what the format has room for.
+-- A list of 16 nibbles: what the format has room for.
 pub record Nibbles16 (e : List ℕ) : Type 0 where
   pub long : length e ≡ 16
   pub below : (v : ℕ) → at e v < 16
-
-pub record Square (n : ℕ) (m : List ℕ) : Type 0 where
-  pub long : length m ≡ n
-  pub fits : RowsFit n (at m)
 
 module _ (nr : ℕ) (E B C : ℕ → List ℕ) (I O : List ℕ) where
   pub record Writable : Type 0 where
@@ -90,9 +90,13 @@ module _ (nr : ℕ) (E B C : ℕ → List ℕ) (I O : List ℕ) where
     pub framed : frame nr (bundleOf nr E B C I O) ≡ Accepted
     pub holds : Holds (bundleOf nr E B C I O)
 
+-- The lists, the input and the output matrix of l change nothing, and its byte and column matrices are B 0, .. and C 0, ..
+abbrev pub PlainBut : ℕ → (ℕ → List ℕ) → (ℕ → List ℕ) → List ℕ → Type 0
+PlainBut nr B C l = Holds nr (λ n. plainEncoding) B C (identity 128) (identity 128) l
+
 -- The lists and matrices of l change nothing.
 abbrev pub Plain : ℕ → List ℕ → Type 0
-Plain nr l = Holds nr (λ n. plainEncoding) (λ n. identity 8) (λ n. identity 32) (identity 128) (identity 128) l
+Plain nr l = PlainBut nr (λ n. identity 8) (λ n. identity 32) l
 
 -- For every number of rounds for which the shortest bundle is not too long: ten are such a number.
 abbrev pub Building : Type 0

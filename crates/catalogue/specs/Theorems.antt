@@ -8,24 +8,19 @@ use Rattle.answers.specs.declared.Refusal.{Refusal}
 use Rattle.answers.specs.declared.Refusal.the-variants.{CataloguePosition}
 use Rattle.bits.specs.Lists.{at}
 use Rattle.bits.specs.Vectors.{bit}
-use Rattle.matrices.specs.Matrices.{RowsFit, Invertible}
+use Rattle.matrices.specs.Matrices.{Square, Invertible}
 use Rattle.inversion.specs.Inverses.{UndoesBothWays}
 use Rattle.catalogue.specs.Catalogue.{numberOfRows, rowsOfNumber, catalogueOf, side, catalogue, catalogueLength, catalogueEntry, entryAnswer}
 use Rattle.catalogue.specs.declared.Entry.the-variants.{Matrix, Refused}
 
 module _ (n : ℕ) where
   -- ---- numbers and matrices, n by n
-  -- A matrix of n rows of n bits.
-  pub record Square (m : List ℕ) : Type 0 where
-    pub long : length m ≡ n
-    pub fits : RowsFit n (at m)
-
   -- Numbers of n * n bits and matrices correspond one to one, and bit j of row i is bit n * i + j of the number, from the top: by rows, not by columns.
   pub record Numbered : Type 0 where
-    pub number-fits : (m : List ℕ) → Square m → numberOfRows n m < 2 ^ (n * n)
-    pub rows-fit : (v : ℕ) → Square (rowsOfNumber n v)
+    pub number-fits : (m : List ℕ) → Square n m → numberOfRows n m < 2 ^ (n * n)
+    pub rows-fit : (v : ℕ) → Square n (rowsOfNumber n v)
     pub there : (v : ℕ) → v < 2 ^ (n * n) → numberOfRows n (rowsOfNumber n v) ≡ v
-    pub back : (m : List ℕ) → Square m → rowsOfNumber n (numberOfRows n m) ≡ m
+    pub back : (m : List ℕ) → Square n m → rowsOfNumber n (numberOfRows n m) ≡ m
     pub by-rows : (v i j : ℕ) → i < n → j < n → bit n j (at (rowsOfNumber n v) i) ≡ bit (n * n) (n * i + j) v
 
   -- ---- the list
@@ -45,7 +40,7 @@ module _ (n : ℕ) where
     pub number : at (catalogueOf n) position ≡ numberOfRows n m
 
   abbrev pub Complete : Type 0
-  Complete = (m : List ℕ) → Square m → Invertible n m → ListedAt m
+  Complete = (m : List ℕ) → Square n m → Invertible n m → ListedAt m
 
   -- The numbers rise, so each is there once.
   abbrev pub Rising : Type 0

@@ -1,10 +1,10 @@
 // The catalogue of small matrices: the 4 by 4 bit matrices that have an inverse, in rising order of the number that their rows make (document 02, Ticket 4). The
-// one at a position is found row by row: no scan over all numbers.
+// one at a position is found row by row: no scan over all numbers. And the test of one matrix, by its number.
 ghost use mathlib.Core.Path.{_≡_};
 ghost use Prim.Native.Nat.{_<_};
 ghost use Rattle.bits.specs.Counts.{sumBelow};
 ghost use Rattle.bits.specs.Lists.{at};
-ghost use Rattle.catalogue.specs.Catalogue.{side, catalogue, catalogueLength, catalogueEntry};
+ghost use Rattle.catalogue.specs.Catalogue.{side, isInvertible, catalogue, catalogueLength, catalogueEntry};
 ghost use Rattle.catalogue.specs.Kernels.{vectors, kernelWith, completions, ways, NextRow};
 use answers::Refusal;
 
@@ -17,12 +17,14 @@ pub enum Entry {
 // How many matrices there are, how many rows each has, and how many values a row can have.
 pub const MATRICES: usize = 20160;
 
-const SIDE: usize = 4;
+pub const SIDE: usize = 4;
 
-const VECTORS: usize = 16;
+pub const VECTORS: usize = 16;
 
-// The kernel of no row: it has all vectors.
+// The kernel of no row, which has all vectors; and the smallest, which has the vector 0 alone.
 const WHOLE: u16 = 0xffff;
+
+const ALONE: u16 = 0x8000;
 
 // The kernel of each row: bit w of it, from the top, is set where the row takes the vector w to 0.
 const KERNELS: [u16; VECTORS] = [
@@ -54,6 +56,17 @@ fn kernel_with(kernel: u16, row: usize) -> u16
     ensures { λ r. ⌜ r ≡ kernelWith kernel row ⌝ }
 {
     kernel & KERNELS[row]
+}
+
+// The matrix whose rows make a number has an inverse: all its rows together take no vector but 0 to 0.
+pub fn is_invertible(number: u16) -> bool
+    ensures { λ r. ⌜ r ≡ isInvertible side number ⌝ }
+{
+    let v = number as usize;
+    let first = kernel_with(WHOLE, v / VECTORS / VECTORS / VECTORS);
+    let second = kernel_with(first, v / VECTORS / VECTORS % VECTORS);
+    let third = kernel_with(second, v / VECTORS % VECTORS);
+    kernel_with(third, v % VECTORS) == ALONE
 }
 
 // `WAYS`, where this many rows are still to choose.

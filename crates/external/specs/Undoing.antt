@@ -3,7 +3,7 @@ use mathlib.Core.List.{List}
 use mathlib.Core.Path.{_≡_}
 use Prim.Native.Nat.{ℕ}
 use Rattle.bits.specs.Bytes.{Bytes, Block}
-use Rattle.bundle.specs.Built.{Plain}
+use Rattle.bundle.specs.Built.{PlainBut}
 use Rattle.judgement.specs.Judge.{judge}
 use Rattle.answers.specs.declared.Answer.the-variants.{Accepted}
 use Rattle.external.specs.Coding.{encodeInput, decodeInput, outputFirst, tenOutputFirst, encodeOutput, decodeOutput}
@@ -24,10 +24,10 @@ pub record Undone (nr : ℕ) (l x : List ℕ) : Type 0 where
 abbrev pub Undoing : Type 0
 Undoing = (nr : ℕ) (l : List ℕ) → Bytes l → judge nr l ≡ Accepted → (x : List ℕ) → Block x → Undone nr l x
 
--- A plain bundle's codings of a block change nothing.
+-- A bundle whose lists, input and output matrix change nothing codes a block as itself.
 pub record Unchanged (nr : ℕ) (l x : List ℕ) : Type 0 where
   pub input : encodeInput nr l x ≡ x
   pub output : encodeOutput nr l x ≡ x
 
 abbrev pub PlainCoding : Type 0
-PlainCoding = (nr : ℕ) (l : List ℕ) → Plain nr l → (x : List ℕ) → Block x → Unchanged nr l x
+PlainCoding = (nr : ℕ) (l : List ℕ) (B C : ℕ → List ℕ) → PlainBut nr B C l → (x : List ℕ) → Block x → Unchanged nr l x

@@ -6,8 +6,9 @@ ghost use lib.ListN.{length};
 ghost use Rattle.bits.specs.Lists.{tabulate};
 ghost use Rattle.matrices.specs.Matrices.{identity};
 ghost use Rattle.matrices.specs.Rows.{rowsOf, stored};
-ghost use Rattle.inversion.specs.Elimination.{addRow, pivotBy, clearBy, pivotFrom, columns};
+ghost use Rattle.inversion.specs.Elimination.{addRow, pivotBy, clearBy, columns};
 ghost use Rattle.inversion.specs.Work.{leftAt, rightAt, lefts, rights, addedTo, ended};
+use crate::search;
 use bits::vector;
 use matrices::matrix::row;
 use matrices::matrix::set_row;
@@ -72,21 +73,6 @@ fn pivot(work: &mut [u64], n: usize, k: usize, p: usize)
     add_row(work, k, p, 1 - b);
 }
 
-// The first row from k on that has bit k on the left; n where none has.
-fn find(work: &[u64], n: usize, k: usize) -> usize
-    requires { ⌜ (n ≤ 128) × (4 * n ≤ length (now work)) × (k < n) ⌝ }
-    ensures { λ r. ⌜ r ≡ pivotFrom n k (leftAt (now (work .entry))) (n - k) k ⌝ }
-{
-    let mut i = k;
-    while i < n {
-        if vector::digit(row(work, 2 * i), n - 1 - k) == 1 {
-            return i;
-        }
-        i += 1;
-    }
-    n
-}
-
 // The elimination of n columns; false where one has no pivot.
 pub fn eliminate(work: &mut [u64], n: usize) -> bool
     requires { ⌜ (n ≤ 128) × (4 * n ≤ length (now work)) ⌝ }
@@ -94,7 +80,7 @@ pub fn eliminate(work: &mut [u64], n: usize) -> bool
 {
     let mut k = 0;
     while k < n {
-        let p = find(work, n, k);
+        let p = search::find(work, 2, n, k);
         if p == n {
             return false;
         }

@@ -1,5 +1,6 @@
 // The inverse of a bit matrix of up to 128 rows, by elimination. The definitions are those of specs/.
 mod elimination;
+pub mod search;
 
 ghost use mathlib.Core.Path.{_≡_};
 ghost use Prim.Native.Nat.{_*_, _≤_};

@@ -12,6 +12,7 @@ use Rattle.inversion.specs.Elimination.{invert, hasInverse}
 use Rattle.bits.specs.Encodings.{imagesOf}
 use Rattle.bits.specs.Lists.{at}
 use Rattle.matrices.specs.Matrices.{matrixOf}
+use Rattle.blocks.specs.Blocks.{someBlockBad}
 use Rattle.bundle.specs.Format.{encodings, byteMatrices, columnMatrices, frame, encodingPart, byteMatrixPart, columnMatrixPart, inputMatrixPart, outputMatrixPart}
 
 -- ---- tests
@@ -33,9 +34,9 @@ noPermutation p = repeats 16 0 (at (imagesOf p))
 unfoldable pub noInverse : ℕ → List ℕ → Bool
 noInverse w p = not (hasInverse (invert (8 * w) (matrixOf w p)))
 
--- The test of byte and column matrices, the mixing bijections, of 8 w rows.
+-- The test of byte and column matrices, the mixing bijections, of 8 w rows: it "or one of these blocks has no inverse" (document 02, Ticket 5).
 unfoldable pub mixingBad : ℕ → List ℕ → Bool
-mixingBad w p = noInverse w p
+mixingBad w p = noInverse w p || someBlockBad (2 * w) (matrixOf w p)
 
 -- By number, of a bundle.
 abbrev pub encodingBad : ℕ → List ℕ → ℕ → Bool
@@ -52,11 +53,11 @@ columnMatrixBad nr l n = mixingBad 4 (columnMatrixPart nr l n)
 unfoldable pub judgeEncodings : ℕ → List ℕ → Answer
 judgeEncodings nr l = refusedAt (first (encodings nr) (encodingBad nr l)) Encoding
 
--- Cause 5, "byte matrix has no inverse", with the "first such number".
+-- Cause 5, "byte matrix has no inverse", which now covers its blocks, with the "first such number".
 unfoldable pub judgeByteMatrices : ℕ → List ℕ → Answer
 judgeByteMatrices nr l = refusedAt (first (byteMatrices nr) (byteMatrixBad nr l)) ByteMatrix
 
--- Cause 6, "column matrix has none", with the "first such number".
+-- Cause 6, "column matrix has none", in the same way, with the "first such number".
 unfoldable pub judgeColumnMatrices : ℕ → List ℕ → Answer
 judgeColumnMatrices nr l = refusedAt (first (columnMatrices nr) (columnMatrixBad nr l)) ColumnMatrix
 

@@ -6,6 +6,7 @@ use lib.ListN.{length, take, drop}
 use Rattle.bits.specs.Bytes.{Bytes}
 use Rattle.bits.specs.Encodings.{Permutation}
 use Rattle.matrices.specs.Matrices.{Invertible}
+use Rattle.blocks.specs.Theorems.{BlockInvertible, Unfit}
 use Rattle.bundle.specs.Format.{encodings, byteMatrices, columnMatrices, partCount, partSize, offset, PairRight}
 use Rattle.bundle.specs.Format.{partAt, encodingOf, byteMatrix, columnMatrix, inputMatrix, outputMatrix}
 use Rattle.bundle.specs.Frames.{InRange, Framed}
@@ -20,19 +21,16 @@ use Rattle.answers.specs.declared.Refusal.the-variants.{OutputMatrix, TableNumb
 use Rattle.judgement.specs.Judge.{judge}
 
 -- ---- what each cause asks; for causes 2 and 3 see Frames.antt of crate bundle
--- Causes 5 and 6, of byte and column matrices, the mixing bijections, of 8 w rows: some map undoes the product by the matrix.
-abbrev pub Mixing : ℕ → List ℕ → Type 0
-Mixing w m = Invertible (8 * w) m
-
--- Cause 4: list n is a permutation. Causes 5 and 6: the matrix mixes. Cause 7: some map undoes the product by it.
+-- Cause 4: list n is a permutation. Causes 5 and 6, of the mixing bijections (document 02, Ticket 5): byte matrix n, of 2 by 2 blocks, and column matrix n, of 8 by 8,
+-- are block invertible. Cause 7: some map undoes the product by the matrix.
 abbrev pub GoodEncoding : ℕ → List ℕ → ℕ → Type 0
 GoodEncoding nr l n = Permutation (encodingOf nr l n)
 
 abbrev pub GoodByteMatrix : ℕ → List ℕ → ℕ → Type 0
-GoodByteMatrix nr l n = Mixing 1 (byteMatrix nr l n)
+GoodByteMatrix nr l n = BlockInvertible 2 (byteMatrix nr l n)
 
 abbrev pub GoodColumnMatrix : ℕ → List ℕ → ℕ → Type 0
-GoodColumnMatrix nr l n = Mixing 4 (columnMatrix nr l n)
+GoodColumnMatrix nr l n = BlockInvertible 8 (columnMatrix nr l n)
 
 abbrev pub GoodInputMatrix : ℕ → List ℕ → Type 0
 GoodInputMatrix nr l = Invertible 128 (inputMatrix nr l)
@@ -48,6 +46,12 @@ GoodByteMatrices nr l = All (byteMatrices nr) (GoodByteMatrix nr l)
 
 abbrev pub GoodColumnMatrices : ℕ → List ℕ → Type 0
 GoodColumnMatrices nr l = All (columnMatrices nr) (GoodColumnMatrix nr l)
+
+-- Of the matrices m 0, m 1, .., each of q by q blocks, n is the first that is unfit: "it or one of these blocks has no inverse", "still with the first such number".
+pub record FirstUnfit (count q : ℕ) (m : ℕ → List ℕ) (n : ℕ) : Type 0 where
+  pub below : n < count
+  pub before : All n (λ i. BlockInvertible q (m i))
+  pub here : Unfit q (m n)
 
 -- ---- why a judgement is given
 -- Accepted: no cause applies.
@@ -65,9 +69,9 @@ Why nr l Accepted = Sound nr l
 Why nr l (Refused BundleLength) = InRange nr l → ⊥
 Why nr l (Refused (Pair i)) = InRange nr l × FirstBad 5 (PairRight nr l) i
 Why nr l (Refused (Encoding n)) = Framed nr l × FirstBad (encodings nr) (GoodEncoding nr l) n
-Why nr l (Refused (ByteMatrix n)) = Framed nr l × GoodEncodings nr l × FirstBad (byteMatrices nr) (GoodByteMatrix nr l) n
+Why nr l (Refused (ByteMatrix n)) = Framed nr l × GoodEncodings nr l × FirstUnfit (byteMatrices nr) 2 (byteMatrix nr l) n
 Why nr l (Refused (ColumnMatrix n)) =
-    Framed nr l × GoodEncodings nr l × GoodByteMatrices nr l × FirstBad (columnMatrices nr) (GoodColumnMatrix nr l) n
+    Framed nr l × GoodEncodings nr l × GoodByteMatrices nr l × FirstUnfit (columnMatrices nr) 8 (columnMatrix nr l) n
 Why nr l (Refused InputMatrix) =
     Framed nr l × GoodEncodings nr l × GoodByteMatrices nr l × GoodColumnMatrices nr l × (GoodInputMatrix nr l → ⊥)
 Why nr l (Refused OutputMatrix) =
@@ -93,6 +97,13 @@ Only = (nr : ℕ) (l : List ℕ) → Bytes l → (j : Answer) → Why nr l j →
 -- A bundle of bytes is accepted exactly if it is sound.
 abbrev pub AcceptedExactly : Type 0
 AcceptedExactly = (nr : ℕ) (l : List ℕ) → Bytes l → (judge nr l ≡ Accepted → Sound nr l) × (Sound nr l → judge nr l ≡ Accepted)
+
+-- It is refused exactly for the refusal's reason. So, with no lower cause and no such matrix before it, a byte or column "matrix is refused exactly if it or one of
+-- these blocks has no inverse".
+abbrev pub RefusedExactly : Type 0
+RefusedExactly =
+    (nr : ℕ) (l : List ℕ) → Bytes l → (r : Refusal)
+    → (judge nr l ≡ Refused r → Why nr l (Refused r)) × (Why nr l (Refused r) → judge nr l ≡ Refused r)
 
 -- ---- parts
 -- Part n of section s lies in the bundle: "handed back as that part, not copied; it is empty for a list number above 6,047 or a bundle

@@ -1,4 +1,5 @@
 pub mod Judge
 pub mod Judgements
+pub mod Marks
 pub mod Cases
 pub mod Witness

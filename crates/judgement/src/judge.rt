@@ -30,7 +30,7 @@ fn first_bad_matrix(bundle: &[u8], s: usize, w: usize) -> Found
     requires { ⌜ (frame 10 (now bundle) ≡ Accepted) × (s < 5) × (w ≤ 16) × (partSize s ≡ 8 * w * w) ⌝ }
     ensures { λ r. ⌜ r ≡ first (partCount 10 s) (λ n. mixingBad w (partAt 10 (now (bundle .entry)) s n)) ⌝ }
 {
-    search::first_singular(
+    search::first_bad_mixing(
         sections::section(bundle, s),
         w,
         layout::part_size(s),

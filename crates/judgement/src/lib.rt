@@ -1,3 +1,4 @@
 // The judgement of a bundle. The definitions are those of specs/.
 pub mod judge;
+mod marks;
 mod search;

@@ -3,6 +3,7 @@
 use mathlib.Core.List.{List}
 use mathlib.Core.Path.{_≡_}
 use Prim.Native.Nat.{ℕ, _+_, _*_, _^_, _<_}
+use lib.ListN.{length}
 use Rattle.bits.specs.Bytes.{number, bytesOf}
 use Rattle.bits.specs.Lists.{at, tabulate, concat}
 use Rattle.bits.specs.Vectors.{vector, unit, dot}
@@ -22,6 +23,11 @@ identity n = tabulate n (unit n)
 -- The first n rows are vectors of n bits.
 abbrev pub RowsFit : ℕ → (ℕ → ℕ) → Type 0
 RowsFit n f = (i : ℕ) → i < n → f i < 2 ^ n
+
+-- A matrix of n rows of n bits.
+pub record Square (n : ℕ) (m : List ℕ) : Type 0 where
+  pub long : length m ≡ n
+  pub fits : RowsFit n (at m)
 
 -- The map u undoes the map m on every vector of n bits.
 abbrev pub Undoes : ℕ → (ℕ → ℕ) → (ℕ → ℕ) → Type 0

@@ -7,8 +7,8 @@ use Rattle.bits.specs.Lists.{at}
 use Rattle.matrices.specs.Matrices.{product}
 use Rattle.field.specs.Field.{mul}
 use Rattle.field.specs.Sbox.{sboxOf}
-use Rattle.bundle.specs.Built.{Plain}
-use Rattle.judgement.specs.Cases.{List0, Byte159}
+use Rattle.bundle.specs.Built.{Plain, plainBundle}
+use Rattle.judgement.specs.Cases.{List0, Byte159, Faulty159}
 use Rattle.layout.specs.Stages.{shifted, tableOffset, lookups, indexOf}
 use Rattle.whitebox.specs.Bundles.{madeTable}
 
@@ -30,6 +30,9 @@ pub record Starred : Type 0 where
   pub table-3007 : tableOffset 10 3007 ≡ 769920
   -- "Rows 01, 02, 04 .. 80 hex, times 80 hex: 01."
   pub reversed : product 8 (0x01 ∷ 0x02 ∷ 0x04 ∷ 0x08 ∷ 0x10 ∷ 0x20 ∷ 0x40 ∷ 0x80 ∷ []) 0x80 ≡ 0x01
+  -- A plain bundle is refused (`PlainRefused` of crate judgement), so no call makes its tables: these two "stay as cases of the definitions" (document 02, Ticket 5). There
+  -- is such a bundle.
+  pub plain : PlainBundle (plainBundle 10)
   -- "Plain bundle, XOR table: first byte 01, last byte 10 (hex)." Every XOR table, of either cipher: those from the 17th lookup of a
   -- stage or half on.
   pub xor-table : (c : ℕ) (key l : List ℕ) → PlainBundle l → (k : ℕ) → k < lookups 10 → 16 ≤ indexOf 10 k
@@ -40,5 +43,6 @@ pub record Starred : Type 0 where
       (at t 0 ≡ 0xc6) × (at t 1 ≡ 0x63) × (at t 2 ≡ 0x63) × (at t 3 ≡ 0xa5)
   -- "List 0 sends 0 and 1 to 0, no lower cause applies: refused, 4 with 0."
   pub list-0 : List0
-  -- "Two equal rows in byte matrix 159, the only fault: refused, 5 with 159."
+  -- "Two equal rows in byte matrix 159, the only fault: refused, 5 with 159." There is such a bundle.
   pub byte-159 : Byte159
+  pub faulty-159 : Faulty159

@@ -6,7 +6,7 @@ use Prim.Native.Nat.{ℕ, zero, suc, _+_, _-_, _≤_, _<_}
 use native.Mathlib.Decide.{ℕ-discrete, decLt}
 use native.Mathlib.Numerals.{add-one}
 use native.Mathlib.Omega.{arith}
-use Rattle.answers.specs.Search.{All, FirstBad, pick, firstFrom, first, refusedAt}
+use Rattle.answers.specs.Search.{All, FirstBad, pick, firstFrom, first, isFound, someBelow, refusedAt}
 use Rattle.answers.specs.declared.Answer.{Answer}
 use Rattle.answers.specs.declared.Answer.the-variants.{Accepted, Refused}
 use Rattle.answers.specs.declared.Refusal.{Refusal}
@@ -82,6 +82,36 @@ module _ (count : ℕ) (p : ℕ → Bool) (Good : ℕ → Type 0) (to : (i : ℕ
   pub bad-at : (n : ℕ) → FirstBad count Good n → first count p ≡ At n
   bad-at n B =
       is (At n) (omega arith, omega (arith, B .below), not-false-true (p n) (λ e. B .here (to n e)), λ i h j. from i (B .before i j))
+
+-- ---- whether one is picked
+module _ (count : ℕ) (p : ℕ → Bool) where
+  abbrev Unpicked : ℕ → Type 0
+  Unpicked i = p i ≡ false
+
+  pub none-picked : someBelow count p ≡ false → All count Unpicked
+  none-picked = by (first count p) refl
+    where
+      by : (f : Found) → first count p ≡ f → isFound f ≡ false → All count Unpicked
+      by (At n) e t = let y : _≡_ {A = ℕ} 0 1 = cc in absurd (omega arith)
+      by Nothing e t = none-all count p Unpicked (λ i h. h) (λ i h. h) e
+
+  pub all-passed : All count Unpicked → someBelow count p ≡ false
+  all-passed none = ap isFound (all-none count p Unpicked (λ i h. h) (λ i h. h) none)
+
+  -- One that is picked.
+  pub record Picked : Type 0 where
+    pub number : ℕ
+    pub below : number < count
+    pub picked : p number ≡ true
+
+  pub some-picked : someBelow count p ≡ true → Picked
+  some-picked = by (first count p) refl
+    where
+      by : (f : Found) → first count p ≡ f → isFound f ≡ true → Picked
+      by (At n) e t =
+          let found = at-bad count p Unpicked (λ i h. h) (λ i h. h) n e in
+          record { number = n; below = found .below; picked = not-false-true (p n) (found .here) }
+      by Nothing e t = let y : _≡_ {A = ℕ} 0 1 = cc in absurd (omega arith)
 
 -- ---- a loop that searches: none of the first n numbers is picked, and what is left has the answer of the whole
 pub record Searched (count : ℕ) (p : ℕ → Bool) (n : ℕ) : Type 0 where

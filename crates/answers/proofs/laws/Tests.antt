@@ -1,6 +1,6 @@
 -- Laws, not definitions: an answer of several causes, one after the other, by what the code's tests found.
 -- Assumes nothing.
-use mathlib.Core.Bool.{Bool, true, false, not}
+use mathlib.Core.Bool.{Bool, true, false, not, _||_}
 use mathlib.Core.Path.{_≡_, refl, sym, ap, _∙_}
 use Prim.Native.Nat.{ℕ}
 use lib.Dec.{eqb}
@@ -18,6 +18,23 @@ clash b e f = let z : _≡_ {A = ℕ} 0 1 = cc in omega arith
 pub not-false-true : (b : Bool) → (b ≡ false → ⊥) → b ≡ true
 not-false-true true h = refl
 not-false-true false h = absurd (h refl)
+
+pub denied-true : (b : Bool) → not b ≡ false → b ≡ true
+denied-true true e = refl
+denied-true false e = let y : _≡_ {A = ℕ} 0 1 = cc in absurd (omega arith)
+
+-- One test or another.
+pub or-left : (a b : Bool) → (a || b) ≡ false → a ≡ false
+or-left true b e = e
+or-left false b e = refl
+
+pub or-right : (a b : Bool) → (a || b) ≡ false → b ≡ false
+or-right true b e = let y : _≡_ {A = ℕ} 0 1 = cc in absurd (omega arith)
+or-right false b e = e
+
+pub neither : (a b : Bool) → a ≡ false → b ≡ false → (a || b) ≡ false
+neither true b e f = e
+neither false b e f = f
 
 pub differ : {r : Refusal} {A : Type 0} → Accepted ≡ Refused r → A
 differ e = let z : _≡_ {A = ℕ} 0 1 = cc in absurd (omega arith)

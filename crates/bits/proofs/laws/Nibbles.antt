@@ -11,7 +11,8 @@ use native.Mathlib.Omega.{arith}
 use lib.Dec.{eqb}
 use lib.ListN.{length, getD, set, take, drop, length-set, length-drop, List·getD-append}
 use lib.Seq.{ext-getD, getD-set-same, getD-set-other, getD-take, getD-drop, getD-append-add, paste, length-paste, length-take-le, length-paste-head}
-use Rattle.bits.specs.Bytes.{Bytes}
+use Rattle.bits.specs.Bytes.{Bytes, number}
+use Rattle.bits.specs.Groups.{joined}
 use Rattle.bits.specs.Lists.{at}
 use Rattle.bits.specs.Nibbles.{pack, half, nibble, setNibble, packed}
 use Rattle.bits.proofs.laws.Lists.{length-tabulate, at-tabulate, tabulate-below, set-below}
@@ -196,6 +197,20 @@ nibble-odd s i =
     let p : (2 * i + 1) % 2 ≡ 1 = omega arith in
     let q : (2 * i + 1) / 2 ≡ i = omega arith in
     rw (p, q)
+
+-- A number of n bytes is that of their nibbles.
+pub number-nibbles : (s : List ℕ) (a n : ℕ) → number n (λ i. at s (a + i)) ≡ joined 4 (2 * n) (λ q. nibble s (2 * a + q))
+unfolding joined
+number-nibbles s a zero = refl
+number-nibbles s a (suc n) =
+    let nibbles : ℕ → ℕ = λ q. nibble s (2 * a + q) in
+    let two : 2 * suc n ≡ suc (suc (2 * n)) = omega arith in
+    let even : 2 * a + 2 * n ≡ 2 * (a + n) = omega arith in
+    let odd : 2 * a + suc (2 * n) ≡ 2 * (a + n) + 1 = omega arith in
+    let high : nibble s (2 * a + 2 * n) ≡ at s (a + n) / 16 = ap (nibble s) even ∙ nibble-even s (a + n) in
+    let low : nibble s (2 * a + suc (2 * n)) ≡ at s (a + n) % 16 = ap (nibble s) odd ∙ nibble-odd s (a + n) in
+    let before = number-nibbles s a n in
+    omega arith ∙ sym (ap (λ (k : ℕ). joined 4 k nibbles) two)
 
 -- A byte list is its nibbles, packed.
 pub packed-nibbles : (n : ℕ) (s : List ℕ) → length s ≡ n → packed n (nibble s) ≡ s

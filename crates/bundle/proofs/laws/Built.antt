@@ -19,11 +19,11 @@ use Rattle.bits.proofs.laws.Groups.{joined-same, joined-group}
 use Rattle.bits.proofs.laws.Images.{length-encodingBytes, encodingBytes-bytes, images-written}
 use Rattle.bits.proofs.laws.Lists.{append-below, concat-below, length-concat, at-concat}
 use Rattle.bits.proofs.laws.Offsets.{offset-mono, concat-length, concat-part, concat-row}
-use Rattle.matrices.specs.Matrices.{identity, matrixOf, matrixBytes}
-use Rattle.matrices.proofs.laws.Matrices.{identity-length, identity-fits}
+use Rattle.matrices.specs.Matrices.{identity, Square, matrixOf, matrixBytes}
+use Rattle.matrices.proofs.laws.Matrices.{identity-square}
 use Rattle.matrices.proofs.laws.Stored.{length-matrixBytes, matrixBytes-bytes, matrixOf-bytes}
 use Rattle.bundle.specs.Built.{bytesBefore, builtOffset, pairBytes, partBytes, sectionBytes, bundleOf, plainBundle}
-use Rattle.bundle.specs.Built.{PlainBytes, Square, Writable, Holds, Building, PlainBuilt}
+use Rattle.bundle.specs.Built.{PlainBytes, Writable, Holds, Built, Building, PlainBuilt}
 use Rattle.bundle.specs.Format.{encodings, byteMatrices, columnMatrices, partCount, partSize, sectionLength, shortest, longest}
 use Rattle.bundle.specs.Format.{numberAt, offset, stated, endBefore, PairRight, frame, sectionOf, partAt}
 use Rattle.answers.specs.declared.Answer.the-variants.{Accepted}
@@ -200,24 +200,30 @@ building nr E B C I O fits w = record {
   holds = holds nr E B C I O fits w;
 }
 
--- ---- the plain bundle
-plain-square : (n : ℕ) → Square n (identity n)
-plain-square n = record { long = identity-length n; fits = identity-fits n }
+-- ---- a bundle that is plain but for its byte and column matrices, and the plain bundle
+module _ (nr : ℕ) (B C : ℕ → List ℕ) (byte-squares : (n : ℕ) → Square 8 (B n)) (column-squares : (n : ℕ) → Square 32 (C n)) where
+  pub but-writable : Writable nr (λ n. plainEncoding) B C (identity 128) (identity 128)
+  but-writable = record {
+    lists = λ n h. record { long = plain-permutation .long; below = encode-lt plain-permutation };
+    bytes = λ n h. byte-squares n;
+    columns = λ n h. column-squares n;
+    input = identity-square 128;
+    output = identity-square 128;
+  }
 
-pub plain-writable : (nr : ℕ) → Writable nr (λ n. plainEncoding) (λ n. identity 8) (λ n. identity 32) (identity 128) (identity 128)
-plain-writable nr = record {
-  lists = λ n h. record { long = plain-permutation .long; below = encode-lt plain-permutation };
-  bytes = λ n h. plain-square 8;
-  columns = λ n h. plain-square 32;
-  input = plain-square 128;
-  output = plain-square 128;
-}
+  pub but-built : shortest nr ≤ longest nr → Built nr (λ n. plainEncoding) B C (identity 128) (identity 128)
+  but-built fits = building nr _ _ _ _ _ fits but-writable
+
+plain-whole : (nr : ℕ) → shortest nr ≤ longest nr → Built nr (λ n. plainEncoding) (λ n. identity 8) (λ n. identity 32) (identity 128) (identity 128)
+plain-whole nr = but-built nr _ _ (λ n. identity-square 8) (λ n. identity-square 32)
 
 pub plain-built : PlainBuilt
 unfolding plainBundle
-plain-built nr fits =
-    let built = building nr _ _ _ _ _ fits (plain-writable nr) in
-    (built .all-bytes, built .holds)
+plain-built nr fits = let built = plain-whole nr fits in (built .all-bytes, built .holds)
+
+pub plain-frame : (nr : ℕ) → shortest nr ≤ longest nr → frame nr (plainBundle nr) ≡ Accepted
+unfolding plainBundle
+plain-frame nr fits = plain-whole nr fits .framed
 
 pub plain-bytes : PlainBytes
 plain-bytes = record {

@@ -18,9 +18,8 @@ use Rattle.answers.specs.Answers.{refusedIf, andThen}
 use Rattle.answers.specs.declared.Answer.the-variants.{Accepted, Refused}
 use Rattle.answers.specs.declared.Refusal.{Refusal}
 use Rattle.answers.specs.declared.Refusal.the-variants.{BundleLength, Pair}
-use Rattle.answers.proofs.laws.Tests.{both, passed}
+use Rattle.answers.proofs.laws.Tests.{both, passed, or-left, or-right, neither}
 use Rattle.answers.proofs.laws.Search.{none-all, all-none, none-found}
-use Rattle.bundle.proofs.laws.Tests.{or-left, or-right, neither}
 
 pub sizes : Sizes
 unfolding encodings byteMatrices columnMatrices partCount partSize sectionLength shortest longest

@@ -150,3 +150,15 @@ passing-number v h =
     ∙ ap (λ (k : ℕ). eqb k alone)
     (same-rows _ _ _ _ (at m) (omega (arith, number-row v 0 (omega arith))) (omega (arith, number-row v 1 (omega arith)))
     (omega (arith, number-row v 2 (omega arith))) (omega (arith, number-row v 3 (omega arith))))
+
+-- As the code tests a number: a, b, c and d are the kernels of its first row, of the first two, of three and of all.
+pub number-tested : (v : ℕ) {a b c d : ℕ} → v < 2 ^ (side * side) → a ≡ kernelWith whole (v / vectors / vectors / vectors)
+    → b ≡ kernelWith a (v / vectors / vectors % vectors) → c ≡ kernelWith b (v / vectors % vectors) → d ≡ kernelWith c (v % vectors)
+    → eqb d alone ≡ isInvertible side v
+unfolding passing
+number-tested v {a} {b} {c} {d} h ea eb ec ed =
+    let row₀ : v / vectors ^ 3 ≡ v / vectors / vectors / vectors = omega arith in
+    let row₁ : v % vectors ^ 3 / vectors ^ 2 ≡ v / vectors / vectors % vectors = omega arith in
+    let row₂ : v % vectors ^ 3 % vectors ^ 2 / vectors ^ 1 ≡ v / vectors % vectors = omega arith in
+    let row₃ : v % vectors ^ 3 % vectors ^ 2 % vectors ^ 1 / vectors ^ 0 ≡ v % vectors = omega arith in
+    sym (passing-number v h ∙ rw (row₀, row₁, row₂, row₃, ← ea, ← eb, ← ec, ← ed))

@@ -10,8 +10,9 @@ use Rattle.bits.specs.Vectors.{bit}
 use Rattle.bits.proofs.laws.Groups.{group-lt, joined-lt, group-joined, joined-group, joined-same}
 use Rattle.bits.proofs.laws.Lists.{at-tabulate, length-tabulate, ext-at}
 use Rattle.bits.proofs.laws.Vectors.{bit-group}
+use Rattle.matrices.specs.Matrices.{Square}
 use Rattle.catalogue.specs.Catalogue.{numberOfRows, rowsOfNumber, side}
-use Rattle.catalogue.specs.Theorems.{Square, Numbered}
+use Rattle.catalogue.specs.Theorems.{Numbered}
 
 module _ (n : ℕ) where
   pub row-at : (v i : ℕ) → i < n → at (rowsOfNumber n v) i ≡ group n n i v

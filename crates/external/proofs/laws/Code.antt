@@ -24,9 +24,9 @@ use Rattle.bits.proofs.laws.Lists.{tabulate-ext}
 use Rattle.bits.proofs.laws.Nibbles.{nibble-even, nibble-odd, length-packed}
 use Rattle.matrices.specs.Matrices.{product, Invertible, matrixOf}
 use Rattle.matrices.specs.Rows.{rowsOf, stored}
-use Rattle.matrices.proofs.laws.Stored.{read-rows}
+use Rattle.matrices.proofs.laws.Stored.{read-rows, matrixOf-fits}
 use Rattle.inversion.specs.Elimination.{invert, inverseOf, hasInverse, withInverse}
-use Rattle.inversion.proofs.laws.Inverses.{has-inverse, inverse-left}
+use Rattle.inversion.proofs.laws.Inverses.{invertible-passes, inverse-left}
 use Rattle.bundle.specs.Format.{encodingOf, frame, partAt, inputMatrixPart, outputMatrixPart}
 use Rattle.bundle.proofs.laws.Code.{block-room}
 use Rattle.bundle.proofs.laws.Parts.{at-bytes}
@@ -151,7 +151,7 @@ module _ (nr : ℕ) (l : List ℕ) (s : ℕ) (h : 3 ≤ s) (k : s < 5) (p : List
   matrix-room a = block-room nr l s (both (frame nr l) _ a .first) h k p e
 
 part-has : (p q : List ℕ) → p ≡ q → Bytes q → Invertible 128 (matrixOf 16 q) → hasInverse (invert 128 (matrixOf 16 p)) ≡ true
-part-has p q e bytes I = rw e (has-inverse 16 q bytes I)
+part-has p q e bytes I = rw e (invertible-passes 128 (matrixOf 16 q) (matrixOf-fits 16 q bytes) I)
 
 module _ (nr : ℕ) (l : List ℕ) {p : List ℕ} where
   pub input-long : p ≡ inputMatrixPart nr l → judge nr l ≡ Accepted → 2048 ≤ length p

@@ -176,7 +176,7 @@ plain-by E first m plain e x B =
 
 pub plain-coding : PlainCoding
 unfolding encodeInput encodeOutput
-plain-coding nr l plain x B = record {
+plain-coding nr l bytes columns plain x B = record {
   input = plain-by (encodingOf nr l) 0 (inputMatrix nr l) (λ q b. plain .lists (0 + q) (omega (arith, input-room nr))) (plain .input) x B;
   output =
       plain-by (encodingOf nr l) (outputFirst nr) (outputMatrix nr l) (λ q b. plain .lists (outputFirst nr + q) (omega (arith, output-room nr))) (plain .output) x B;

@@ -11,7 +11,7 @@ returns : tie.Need-returns
 returns c =
     let inverted : tie.After-invert = search in
     let read : tie.After-read = search in
-    read-inverted _ _ _ _ _ _ _ (omega arith) (read .read .ensures) (inverted .invert .ensures)
+    read-inverted _ _ _ _ _ (omega arith) (read .read .ensures) _ _ (inverted .invert .ensures)
 
 -- ---- the needs that the search closes
 slice-aggregate-read : tie.Need-slice-aggregate-read

@@ -136,6 +136,21 @@ found singular h = absurd (h refl)
 pub exact : Exact
 exact n m fits I = found (invert n m) (λ e. refused n m fits e I)
 
+-- The test that there is one, both ways.
+module _ (n : ℕ) (m : List ℕ) (fits : RowsFit n (at m)) where
+  pub passes-undone : hasInverse (invert n m) ≡ true → (b : List ℕ) × UndoesBothWays n m b
+  passes-undone = by (invert n m) refl
+    where
+      by : (r : Inversion) → invert n m ≡ r → hasInverse r ≡ true → (b : List ℕ) × UndoesBothWays n m b
+      by (inverse b) e t = (b, answered n m b fits e)
+      by singular e t = let y : _≡_ {A = ℕ} 0 1 = cc in absurd (omega arith)
+
+  pub passes-invertible : hasInverse (invert n m) ≡ true → Invertible n m
+  passes-invertible t = let found = passes-undone t in (product n (found .0), found .1 .left)
+
+  pub invertible-passes : Invertible n m → hasInverse (invert n m) ≡ true
+  invertible-passes I = ap hasInverse (exact n m fits I .1)
+
 -- Two matrices with the same products are the same.
 rows-same : (n : ℕ) (b c : ℕ → ℕ) → RowsFit n b → RowsFit n c → ((w : ℕ) → w < 2 ^ n → productBy n b w ≡ productBy n c w)
     → (i : ℕ) → i < n → b i ≡ c i
@@ -175,9 +190,6 @@ module _ (w : ℕ) (p : List ℕ) (bytes : Bytes p) where
   fits : RowsFit (8 * w) (at (matrixOf w p))
   fits = matrixOf-fits w p bytes
 
-  pub has-inverse : Invertible (8 * w) (matrixOf w p) → hasInverse (invert (8 * w) (matrixOf w p)) ≡ true
-  has-inverse I = ap hasInverse (exact (8 * w) (matrixOf w p) fits I .1)
-
   -- `invert_bytes` leaves the rows b′ in the place of b.
   pub inverse-left : (b b′ : List ℕ) → hasInverse (invert (8 * w) (matrixOf w p)) ≡ true → 16 * w ≤ length b
       → b′ ≡ withInverse (8 * w) (invert (8 * w) (matrixOf w p)) b → rowsOf (8 * w) b′ ≡ inverseOf (8 * w) (matrixOf w p)
@@ -198,12 +210,14 @@ module _ (w : ℕ) (p : List ℕ) (bytes : Bytes p) where
       ∙ stored-words (8 * w) (found .0) b (omega arith)
       ∙ ap₂ (λ (c : List ℕ) (k : ℕ). wordsOf (8 * w) c ++ drop k b) (sym (ap rowsIn (found .1))) all
 
--- What `invert_bytes` puts together: the bytes p are read into the rows m, which were m₀, and r and b′ are what their inversion answers and leaves.
-pub read-inverted : (w : ℕ) (p m₀ m b b′ : List ℕ) (r : Bool) → 16 * w ≤ length m₀ → m ≡ stored (8 * w) (at (matrixOf w p)) m₀
-    → (r ≡ hasInverse (invert (8 * w) (rowsOf (8 * w) m))) × (b′ ≡ withInverse (8 * w) (invert (8 * w) (rowsOf (8 * w) m)) b)
-    → (r ≡ hasInverse (invert (8 * w) (matrixOf w p))) × (b′ ≡ withInverse (8 * w) (invert (8 * w) (matrixOf w p)) b)
-read-inverted w p m₀ m b b′ r h read inverted =
-    let same = read-rows w p m₀ m h read in (
-      inverted .0 ∙ ap (λ (a : List ℕ). hasInverse (invert (8 * w) a)) same,
-      inverted .1 ∙ ap (λ (a : List ℕ). withInverse (8 * w) (invert (8 * w) a) b) same,
-    )
+-- The bytes p are read into the rows m, which were m₀: what the elimination of the rows answers, r, and leaves, b′, holds of the matrix that the bytes write.
+module _ (w : ℕ) (p m₀ m : List ℕ) (r : Bool) (room : 16 * w ≤ length m₀) (read : m ≡ stored (8 * w) (at (matrixOf w p)) m₀) where
+  pub read-answered : r ≡ hasInverse (invert (8 * w) (rowsOf (8 * w) m)) → r ≡ hasInverse (invert (8 * w) (matrixOf w p))
+  read-answered answer = answer ∙ ap (λ (a : List ℕ). hasInverse (invert (8 * w) a)) (read-rows w p m₀ m room read)
+
+  pub read-inverted : (b b′ : List ℕ)
+      → (r ≡ hasInverse (invert (8 * w) (rowsOf (8 * w) m))) × (b′ ≡ withInverse (8 * w) (invert (8 * w) (rowsOf (8 * w) m)) b)
+      → (r ≡ hasInverse (invert (8 * w) (matrixOf w p))) × (b′ ≡ withInverse (8 * w) (invert (8 * w) (matrixOf w p)) b)
+  read-inverted b b′ inverted =
+      let left = ap (λ (a : List ℕ). withInverse (8 * w) (invert (8 * w) a) b) (read-rows w p m₀ m room read) in
+      (read-answered (inverted .0), inverted .1 ∙ left)

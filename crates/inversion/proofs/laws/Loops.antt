@@ -7,6 +7,7 @@ use mathlib.Core.Logic.{_≢_}
 use mathlib.Core.Path.{_≡_, refl, sym, ap, ap₂, _∙_, subst}
 use Prim.Native.Nat.{ℕ, suc, _+_, _-_, _*_, _/_, _%_, _^_, _≤_, _<_}
 use native.Mathlib.Decide.{ℕ-discrete}
+use native.Mathlib.Nat.{mul-suc, mul-le-mul-left, mul-le-mul-right}
 use native.Mathlib.Omega.{arith}
 use lib.ListN.{length}
 use Rattle.bits.specs.Lists.{at, tabulate}
@@ -75,32 +76,38 @@ module _ {n : ℕ} {a m₀ m : List ℕ} {i : ℕ} (g : Started n a m₀ m i) wh
   unfolding lefts rights rowsOf identity
   started-all h = (tabulate-ext n _ _ (λ j k. g .left j (omega arith)), tabulate-ext n _ _ (λ j k. g .right j (omega arith)))
 
--- ---- the search for a pivot: of the rows from k on, none before row i has bit k
-pub record Sought (n k : ℕ) (m : List ℕ) (i : ℕ) : Type 0 where
+-- ---- row i of a matrix lies within the words: it is row step * i of them
+module _ {step n i : ℕ} (few : step ≤ 2) (h : i < n) where
+  pub row-small : n ≤ 128 → step * i ≤ 256
+  row-small short = omega (arith, mul-le-mul-right i few)
+
+  pub row-fits : {x : ℕ} → 0 < step → 2 * (step * n) ≤ x → 2 * (step * i) + 1 < x
+  row-fits pos room = omega (arith, mul-le-mul-left step h, mul-suc step i)
+
+-- ---- the search for a pivot among the rows f 0, f 1, ..: of those from k on, none before row i has bit k
+pub record Sought (n k : ℕ) (f : ℕ → ℕ) (i : ℕ) : Type 0 where
   pub behind : k ≤ i
   pub within : i ≤ n
-  pub same : pivotFrom n k (leftAt m) (n - k) k ≡ pivotFrom n k (leftAt m) (n - i) i
+  pub same : pivotFrom n k f (n - k) k ≡ pivotFrom n k f (n - i) i
 
-pub sought-none : {n k : ℕ} {m : List ℕ} → k < n → Sought n k m k
+pub sought-none : {n k : ℕ} {f : ℕ → ℕ} → k < n → Sought n k f k
 sought-none h = record { behind = omega arith; within = omega arith; same = refl }
 
-module _ {n k : ℕ} {m : List ℕ} {i : ℕ} (g : Sought n k m i) where
+module _ {n k : ℕ} {f : ℕ → ℕ} {i : ℕ} (g : Sought n k f i) where
   -- b is bit k of x, which is row i.
-  pub sought-here : {x b : ℕ} → i < n → x ≡ leftAt m i → b ≡ x / 2 ^ (n - 1 - k) % 2 → b ≡ 1
-      → i ≡ pivotFrom n k (leftAt m) (n - k) k
-  sought-here {x} {b} h row digit one =
-      pivot-here n k (leftAt m) i b h (digit-of-row n k (leftAt m) i x b row digit) one ∙ sym (g .same)
+  pub sought-here : {x b : ℕ} → i < n → x ≡ f i → b ≡ x / 2 ^ (n - 1 - k) % 2 → b ≡ 1 → i ≡ pivotFrom n k f (n - k) k
+  sought-here {x} {b} h row digit one = pivot-here n k f i b h (digit-of-row n k f i x b row digit) one ∙ sym (g .same)
 
-  pub sought-more : {x b : ℕ} → i < n → x ≡ leftAt m i → b ≡ x / 2 ^ (n - 1 - k) % 2 → b ≢ 1 → Sought n k m (i + 1)
+  pub sought-more : {x b : ℕ} → i < n → x ≡ f i → b ≡ x / 2 ^ (n - 1 - k) % 2 → b ≢ 1 → Sought n k f (i + 1)
   sought-more {x} {b} h row digit other =
-      let passed = pivot-on n k (leftAt m) i b h (digit-of-row n k (leftAt m) i x b row digit) other in
+      let passed = pivot-on n k f i b h (digit-of-row n k f i x b row digit) other in
       let from = g .behind in
       record { behind = omega arith; within = omega arith; same = g .same ∙ passed }
 
-  pub sought-all : n ≤ i → n ≡ pivotFrom n k (leftAt m) (n - k) k
+  pub sought-all : n ≤ i → n ≡ pivotFrom n k f (n - k) k
   sought-all h =
       let upto = g .within in
-      pivot-end n k (leftAt m) i (omega arith) ∙ sym (g .same)
+      pivot-end n k f i (omega arith) ∙ sym (g .same)
 
 -- ---- the clearing of column k: row k has cleared it in the first i rows
 length-addedTo : (m : List ℕ) (i s c : ℕ) → length (addedTo m i s c) ≡ length m
@@ -155,8 +162,10 @@ reduced-none m n =
     let all : n ≡ n - 0 = omega arith in
     record { within = omega arith; long = refl; same = ap (λ (d : ℕ). columns n d 0 (lefts n m) (rights n m)) all }
 
-pub found-le : (n k : ℕ) (m : List ℕ) (p : ℕ) → k < n → p ≡ pivotFrom n k (leftAt m) (n - k) k → p ≤ n
-found-le n k m p h e = subst (λ (x : ℕ). x ≤ n) (sym e) (pivot-found n k (leftAt m) (n - k) k (omega arith) .upto)
+pub found-within : (n k : ℕ) (f : ℕ → ℕ) (p : ℕ) → k < n → p ≡ pivotFrom n k f (n - k) k → (k ≤ p) × (p ≤ n)
+found-within n k f p h e =
+    let found = pivot-found n k f (n - k) k (omega arith) in
+    subst (λ (x : ℕ). (k ≤ x) × (x ≤ n)) (sym e) (found .from, found .upto)
 
 module _ {m₀ m : List ℕ} {n k : ℕ} (g : Reduced m₀ n m k) where
   pub reduced-singular : {p : ℕ} → k < n → p ≡ pivotFrom n k (leftAt m) (n - k) k → p ≡ n
@@ -171,7 +180,7 @@ module _ {m₀ m : List ℕ} {n k : ℕ} (g : Reduced m₀ n m k) where
       → length m₂ ≡ length m₁
       → Reduced m₀ n m₂ (k + 1)
   reduced-next {p = p} {m₂ = m₂} m₁ h e q s₁ s₂ l₁ l₂ =
-      let below = found-le n k m p h e in
+      let below = found-within n k (leftAt m) p h e in
       record { within = omega arith; long = l₂ ∙ l₁ ∙ g .long; same = g .same ∙ column-next n k h m p m₁ m₂ e (omega arith) s₁ s₂ }
 
   pub reduced-all : n ≤ k → columns n n 0 (lefts n m₀) (rights n m₀) ≡ inverse (rights n m)

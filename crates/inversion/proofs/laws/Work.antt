@@ -50,7 +50,7 @@ module _ (m : List ℕ) (i s c : ℕ) (h : 4 * i + 3 < length m) where
       }
 
 -- ---- a step row by row: the rows below i are done
-stays : (c : ℕ → ℕ) (s : ℕ) (f : ℕ → ℕ) (i : ℕ) → c i ≡ 0 → addRow c s f i ≡ f i
+pub stays : (c : ℕ → ℕ) (s : ℕ) (f : ℕ → ℕ) (i : ℕ) → c i ≡ 0 → addRow c s f i ≡ f i
 unfolding addRow
 stays c s f i e = ap (λ (x : ℕ). bitXor (f i) (x * f s)) e ∙ ap (bitXor (f i)) (zero-mul (f s)) ∙ xor-zero-r (f i)
 
@@ -107,21 +107,31 @@ pub clearBy-row : (n k : ℕ) (f g : ℕ → ℕ) (i : ℕ) → f i ≡ g i → 
 unfolding clearBy
 clearBy-row n k f g i e = ap (λ (x : ℕ). (1 - delta i k) * bit n k x) e
 
+-- Row k gets the row that is added where it lacks bit k; no other row gets it.
+pub pivotBy-own : (n k : ℕ) (f : ℕ → ℕ) (b : ℕ) → b ≡ bit n k (f k) → 1 - b ≡ pivotBy n k f k
+unfolding pivotBy
+pivotBy-own n k f b e =
+    let lacks = 1 - bit n k (f k) in
+    ap (λ (x : ℕ). 1 - x) e ∙ sym (ap (λ (x : ℕ). x * lacks) (delta-same k) ∙ one-mul lacks)
+
+pub pivotBy-other : (n k : ℕ) (f : ℕ → ℕ) (i : ℕ) → i ≢ k → pivotBy n k f i ≡ 0
+unfolding pivotBy
+pivotBy-other n k f i h =
+    let lacks = 1 - bit n k (f k) in
+    ap (λ (x : ℕ). x * lacks) (delta-other i k h) ∙ zero-mul lacks
+
 -- Row k with its coefficient, and the others as they were.
 pivot-rows : (n k p : ℕ) (f g g′ : ℕ → ℕ) (b : ℕ) → b ≡ bit n k (f k) → Added g k p (1 - b) g′ → (i : ℕ) → i < n
     → g′ i ≡ addRow (pivotBy n k f) p g i
-unfolding pivotBy addRow
-pivot-rows n k p f g g′ b e A i l =
-    let lacks = 1 - bit n k (f k) in
-    let mine : 1 - b ≡ pivotBy n k f k = ap (λ (x : ℕ). 1 - x) e ∙ sym (ap (λ (x : ℕ). x * lacks) (delta-same k) ∙ one-mul lacks) in
-    let none : i ≢ k → pivotBy n k f i ≡ 0 = λ q. ap (λ (x : ℕ). x * lacks) (delta-other i k q) ∙ zero-mul lacks in
-    elim (ℕ-discrete k i) [
-      | yes q ↦
-          subst (λ (i : ℕ). g′ i ≡ addRow (pivotBy n k f) p g i) q (A .here ∙ ap (λ (x : ℕ). bitXor (g k) (x * g p)) mine)
-      | no q ↦
-          let other : i ≢ k = λ r. q (sym r) in
-          A .others i other ∙ sym (stays (pivotBy n k f) p g i (none other))
-    ]
+unfolding addRow
+pivot-rows n k p f g g′ b e A i l = elim (ℕ-discrete k i) [
+  | yes q ↦
+      subst (λ (i : ℕ). g′ i ≡ addRow (pivotBy n k f) p g i) q
+      (A .here ∙ ap (λ (x : ℕ). bitXor (g k) (x * g p)) (pivotBy-own n k f b e))
+  | no q ↦
+      let other : i ≢ k = λ r. q (sym r) in
+      A .others i other ∙ sym (stays (pivotBy n k f) p g i (pivotBy-other n k f i other))
+]
 
 -- ---- the search for a pivot, one row on
 step-one : (n k : ℕ) (f : ℕ → ℕ) (i : ℕ) → i < n → pivotFrom n k f (n - i) i ≡ choose (bit n k (f i)) i (pivotFrom n k f (n - suc i) (suc i))
@@ -144,11 +154,12 @@ unfolding pivotFrom
 pivot-end n k f i e = sym (ap (λ (d : ℕ). pivotFrom n k f d i) (let z : n - i ≡ 0 = omega arith in z) ∙ e)
 
 -- Only the rows that are looked at count.
-pivot-same : (n k : ℕ) (f g : ℕ → ℕ) (d i : ℕ) → ((j : ℕ) → j < i + d → f j ≡ g j) → pivotFrom n k f d i ≡ pivotFrom n k g d i
+pub pivot-same : (n k : ℕ) (f g : ℕ → ℕ) (d i : ℕ) → ((j : ℕ) → i ≤ j → j < i + d → f j ≡ g j) → pivotFrom n k f d i ≡ pivotFrom n k g d i
 unfolding pivotFrom
 pivot-same n k f g zero i e = refl
 pivot-same n k f g (suc d) i e =
-    ap₂ (λ (x y : ℕ). choose (bit n k x) i y) (e i (omega arith)) (pivot-same n k f g d (suc i) (λ j h. e j (omega arith)))
+    ap₂ (λ (x y : ℕ). choose (bit n k x) i y) (e i (omega arith) (omega arith))
+    (pivot-same n k f g d (suc i) (λ j l h. e j (omega arith) (omega arith)))
 
 -- ---- a step of the whole work area m, which m₁ has become: row s is added on both sides by the coefficients c
 abbrev pub Stepped : ℕ → (ℕ → ℕ) → ℕ → List ℕ → List ℕ → Type 0
@@ -167,7 +178,32 @@ pivot-step n k p m m₁ x b h row digit e =
       ap (λ (w : List ℕ). tabulate n (rightAt w)) e ∙ tabulate-ext n _ _ same-right,
     )
 
--- ---- one column of the elimination
+-- ---- one column of the elimination of a beside b, whose pivot is in row p; n where it has none
+module _ (n k : ℕ) (hk : k < n) (a b : List ℕ) (p : ℕ) (e : pivotFrom n k (at a) (n - k) k ≡ p) where
+  -- The columns from number j on, behind the step of this one with the pivot in row q.
+  rest : ℕ → ℕ → Inversion
+  rest j q = columns n (n - j) j (tabulate n (leftStep n k q (at a))) (tabulate n (rightStep n k q (at a) (at b)))
+
+  one-column : columns n (n - k) k a b ≡ unlessZero (n - p) (rest (suc k) p)
+  unfolding columns rest
+  one-column =
+      let more : n - k ≡ suc (n - suc k) = omega arith in
+      ap (λ (d : ℕ). columns n d k a b) more ∙ ap (λ (q : ℕ). unlessZero (n - q) (rest (suc k) q)) e
+
+  pub columns-none : p ≡ n → columns n (n - k) k a b ≡ singular
+  columns-none q =
+      let none : n - p ≡ 0 = omega arith in
+      one-column ∙ ap (λ (x : ℕ). unlessZero x (rest (suc k) p)) none
+
+  pub columns-next : p < n
+      → columns n (n - k) k a b
+      ≡ columns n (n - (k + 1)) (k + 1) (tabulate n (leftStep n k p (at a))) (tabulate n (rightStep n k p (at a) (at b)))
+  unfolding rest
+  columns-next h =
+      let some : n - p ≡ suc (n - suc p) = omega arith in
+      one-column ∙ ap (λ (x : ℕ). unlessZero x (rest (suc k) p)) some ∙ ap (λ (j : ℕ). rest j p) (sym (add-one k))
+
+-- ---- the same of the work area
 -- Only the first n rows count in a step.
 step-same : (n : ℕ) (c c′ : ℕ → ℕ) (s : ℕ) (f g : ℕ → ℕ) → s < n → ((i : ℕ) → i < n → c i ≡ c′ i) → ((i : ℕ) → i < n → f i ≡ g i)
     → tabulate n (addRow c s f) ≡ tabulate n (addRow c′ s g)
@@ -191,37 +227,23 @@ module _ (n k : ℕ) (hk : k < n) (m : List ℕ) where
   at-b i h = at-tabulate n (rightAt m) i h
 
   found-same : (p : ℕ) → p ≡ pivotFrom n k (leftAt m) (n - k) k → pivotFrom n k (at a) (n - k) k ≡ p
-  found-same p e = pivot-same n k (at a) (leftAt m) (n - k) k (λ j h. at-a j (omega arith)) ∙ sym e
-
-  more : n - k ≡ suc (n - suc k)
-  more = omega arith
-
-  -- The columns behind this one, with the pivot in row p.
-  rest : ℕ → Inversion
-  rest p = columns n (n - suc k) (suc k) (tabulate n (leftStep n k p (at a))) (tabulate n (rightStep n k p (at a) (at b)))
+  found-same p e = pivot-same n k (at a) (leftAt m) (n - k) k (λ j l h. at-a j (omega arith)) ∙ sym e
 
   pub column-none : (p : ℕ) → p ≡ pivotFrom n k (leftAt m) (n - k) k → p ≡ n → columns n (n - k) k (lefts n m) (rights n m) ≡ singular
-  unfolding columns rest a b
-  column-none p e q =
-      let P = pivotFrom n k (at a) (n - k) k in
-      let z : n - P ≡ 0 = omega (arith, found-same p e) in
-      ap (λ (d : ℕ). columns n d k a b) more ∙ ap (λ (x : ℕ). unlessZero x (rest P)) z
+  unfolding a b
+  column-none p e q = columns-none n k hk a b p (found-same p e) q
 
   -- m₁ is the work area behind the pivoting, m₂ behind the clearing.
   pub column-next : (p : ℕ) (m₁ m₂ : List ℕ) → p ≡ pivotFrom n k (leftAt m) (n - k) k → p < n
       → Stepped n (pivotBy n k (leftAt m)) p m m₁
       → Stepped n (clearBy n k (leftAt m₁)) k m₁ m₂
       → columns n (n - k) k (lefts n m) (rights n m) ≡ columns n (n - (k + 1)) (k + 1) (lefts n m₂) (rights n m₂)
-  unfolding columns rest a b
+  unfolding a b
   column-next p m₁ m₂ e hp s₁ s₂ =
-      let P = pivotFrom n k (at a) (n - k) k in
-      let z : n - P ≡ suc (n - suc p) = omega (arith, found-same p e) in
-      ap (λ (d : ℕ). columns n d k a b) more
-      ∙ ap (λ (x : ℕ). unlessZero x (rest P)) z
-      ∙ ap₂ (λ (u v : List ℕ). columns n (n - suc k) (suc k) u v)
-      (ap (λ (q : ℕ). tabulate n (leftStep n k q (at a))) (found-same p e) ∙ sym (s₂ .0 ∙ step-same n _ _ k _ _ hk clears lefts-same))
-      (ap (λ (q : ℕ). tabulate n (rightStep n k q (at a) (at b))) (found-same p e) ∙ sym (s₂ .1 ∙ step-same n _ _ k _ _ hk clears rights-same))
-      ∙ ap (λ (x : ℕ). columns n (n - x) x (lefts n m₂) (rights n m₂)) (sym (add-one k))
+      columns-next n k hk a b p (found-same p e) hp
+      ∙ ap₂ (λ (u v : List ℕ). columns n (n - (k + 1)) (k + 1) u v)
+      (sym (s₂ .0 ∙ step-same n _ _ k _ _ hk clears lefts-same))
+      (sym (s₂ .1 ∙ step-same n _ _ k _ _ hk clears rights-same))
     where
       pivots : (i : ℕ) → i < n → pivotBy n k (leftAt m) i ≡ pivotBy n k (at a) i
       pivots i h = unfold pivotBy in ap (λ (x : ℕ). delta i k * (1 - bit n k x)) (sym (at-a k hk))

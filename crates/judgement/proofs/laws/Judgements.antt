@@ -3,18 +3,21 @@
 use mathlib.Core.Bool.{Bool, false}
 use mathlib.Core.List.{List}
 use mathlib.Core.Path.{_≡_, ap, ap₂, _∙_, subst}
-use Prim.Native.Nat.{ℕ, _≤_}
+use Prim.Native.Nat.{ℕ, _*_, _≤_}
 use native.Mathlib.Omega.{arith}
 use Rattle.bits.specs.Bytes.{Bytes}
+use Rattle.matrices.specs.Matrices.{matrixOf}
+use Rattle.blocks.specs.Theorems.{BlockInvertible}
+use Rattle.blocks.proofs.laws.Proved.{unfit-not}
 use Rattle.bundle.specs.Format.{encodings, byteMatrices, columnMatrices, PairRight, pairBad, lengthBad, frame}
-use Rattle.bundle.specs.Format.{encodingPart, byteMatrixPart, columnMatrixPart, inputMatrixPart, outputMatrixPart}
+use Rattle.bundle.specs.Format.{byteMatrix, columnMatrix, encodingPart, byteMatrixPart, columnMatrixPart, inputMatrixPart, outputMatrixPart}
 use Rattle.bundle.specs.Frames.{Framed}
 use Rattle.bundle.specs.FreeBytes.{SameParts}
 use Rattle.answers.specs.Answers.{refusedIf, andThen}
 use Rattle.answers.specs.Numbers.{causeOf}
-use Rattle.answers.specs.Search.{first, refusedAt}
+use Rattle.answers.specs.Search.{FirstBad, first, refusedAt}
 use Rattle.answers.specs.declared.found.Found.{Found}
-use Rattle.answers.specs.declared.found.Found.the-variants.{Nothing}
+use Rattle.answers.specs.declared.found.Found.the-variants.{At, Nothing}
 use Rattle.answers.specs.declared.Answer.{Answer}
 use Rattle.answers.specs.declared.Answer.the-variants.{Accepted, Refused}
 use Rattle.answers.specs.declared.Refusal.{Refusal}
@@ -28,9 +31,10 @@ use Rattle.bundle.proofs.laws.Parts.{at-bytes, part-refused, part-behind, part-
 use Rattle.judgement.specs.Judge.{noPermutation, noInverse, mixingBad, encodingBad, byteMatrixBad, columnMatrixBad}
 use Rattle.judgement.specs.Judge.{judgeEncodings, judgeByteMatrices, judgeColumnMatrices, judgeBlockMatrices, judge}
 use Rattle.judgement.specs.Judgements.{GoodEncoding, GoodByteMatrix, GoodColumnMatrix, GoodInputMatrix, GoodOutputMatrix}
-use Rattle.judgement.specs.Judgements.{GoodEncodings, GoodByteMatrices, GoodColumnMatrices, Sound, Why, Reasoned, Only, AcceptedExactly, Parts, FreeBytes}
+use Rattle.judgement.specs.Judgements.{GoodEncodings, GoodByteMatrices, GoodColumnMatrices, FirstUnfit, Sound, Why}
+use Rattle.judgement.specs.Judgements.{Reasoned, Only, AcceptedExactly, RefusedExactly, Parts, FreeBytes}
 use Rattle.judgement.proofs.laws.Encodings.{good-permutation, permutation-good}
-use Rattle.judgement.proofs.laws.Matrices.{good-invertible, invertible-good, good-mixing, mixing-good}
+use Rattle.judgement.proofs.laws.Matrices.{good-invertible, invertible-good, good-mixing, mixing-good, not-unfit}
 
 -- The judgement from a cause on.
 module _ (nr : ℕ) (l : List ℕ) where
@@ -42,6 +46,20 @@ module _ (nr : ℕ) (l : List ℕ) where
 
   abbrev fromEncodings : Answer
   fromEncodings = andThen (judgeEncodings nr l) fromBytes
+
+-- Of the matrices of 8 w rows that the parts p 0, p 1, .. write, the first that is not block invertible is the first that is unfit.
+module _ (count w : ℕ) (p : ℕ → List ℕ) (n : ℕ) where
+  abbrev Bad : Type 0
+  Bad = FirstBad count (λ i. BlockInvertible (2 * w) (matrixOf w (p i))) n
+
+  abbrev Unfits : Type 0
+  Unfits = FirstUnfit count (2 * w) (λ i. matrixOf w (p i)) n
+
+  bad-unfit : Bytes (p n) → Bad → Unfits
+  bad-unfit bytes bad = record { below = bad .below; before = bad .before; here = not-unfit w (p n) bytes (bad .here) }
+
+  unfit-bad : Unfits → Bad
+  unfit-bad unfit = record { below = unfit .below; before = unfit .before; here = unfit-not (2 * w) (matrixOf w (p n)) (unfit .here) }
 
 module _ (nr : ℕ) (l : List ℕ) (bytes : Bytes l) where
   -- ---- the tests are exact
@@ -94,6 +112,26 @@ module _ (nr : ℕ) (l : List ℕ) (bytes : Bytes l) where
   columns-none : GoodColumnMatrices nr l → first (columnMatrices nr) (columnMatrixBad nr l) ≡ Nothing
   columns-none = all-none (columnMatrices nr) (columnMatrixBad nr l) (GoodColumnMatrix nr l) column-to column-from
 
+  -- ---- the first that a search finds
+  byte-found : (n : ℕ) → first (byteMatrices nr) (byteMatrixBad nr l) ≡ At n → FirstUnfit (byteMatrices nr) 2 (byteMatrix nr l) n
+  byte-found n e =
+      bad-unfit (byteMatrices nr) 1 (byteMatrixPart nr l) n (at-bytes nr l 1 n bytes)
+      (at-bad (byteMatrices nr) (byteMatrixBad nr l) (GoodByteMatrix nr l) byte-to byte-from n e)
+
+  found-byte : (n : ℕ) → FirstUnfit (byteMatrices nr) 2 (byteMatrix nr l) n → first (byteMatrices nr) (byteMatrixBad nr l) ≡ At n
+  found-byte n unfit =
+      bad-at (byteMatrices nr) (byteMatrixBad nr l) (GoodByteMatrix nr l) byte-to byte-from n (unfit-bad (byteMatrices nr) 1 (byteMatrixPart nr l) n unfit)
+
+  column-found : (n : ℕ) → first (columnMatrices nr) (columnMatrixBad nr l) ≡ At n → FirstUnfit (columnMatrices nr) 8 (columnMatrix nr l) n
+  column-found n e =
+      bad-unfit (columnMatrices nr) 4 (columnMatrixPart nr l) n (at-bytes nr l 2 n bytes)
+      (at-bad (columnMatrices nr) (columnMatrixBad nr l) (GoodColumnMatrix nr l) column-to column-from n e)
+
+  found-column : (n : ℕ) → FirstUnfit (columnMatrices nr) 8 (columnMatrix nr l) n → first (columnMatrices nr) (columnMatrixBad nr l) ≡ At n
+  found-column n unfit =
+      bad-at (columnMatrices nr) (columnMatrixBad nr l) (GoodColumnMatrix nr l) column-to column-from n
+      (unfit-bad (columnMatrices nr) 4 (columnMatrixPart nr l) n unfit)
+
   -- ---- what is given is right, from a cause on
   blocks-why : Framed nr l → GoodEncodings nr l → GoodByteMatrices nr l → GoodColumnMatrices nr l → Why nr l (judgeBlockMatrices nr l)
   unfolding judgeBlockMatrices
@@ -108,14 +146,14 @@ module _ (nr : ℕ) (l : List ℕ) (bytes : Bytes l) where
   unfolding judgeColumnMatrices
   columns-why F A B =
       by-refusedAt (λ j. Why nr l (andThen j (judgeBlockMatrices nr l))) (first (columnMatrices nr) (columnMatrixBad nr l)) ColumnMatrix
-      (λ n e. (F, A, B, at-bad (columnMatrices nr) (columnMatrixBad nr l) (GoodColumnMatrix nr l) column-to column-from n e))
+      (λ n e. (F, A, B, column-found n e))
       (λ e. blocks-why F A B (columns-all e))
 
   bytes-why : Framed nr l → GoodEncodings nr l → Why nr l (fromBytes nr l)
   unfolding judgeByteMatrices
   bytes-why F A =
       by-refusedAt (λ j. Why nr l (andThen j (fromColumns nr l))) (first (byteMatrices nr) (byteMatrixBad nr l)) ByteMatrix
-      (λ n e. (F, A, at-bad (byteMatrices nr) (byteMatrixBad nr l) (GoodByteMatrix nr l) byte-to byte-from n e))
+      (λ n e. (F, A, byte-found n e))
       (λ e. columns-why F A (bytes-all e))
 
   encodings-why : Framed nr l → Why nr l (fromEncodings nr l)
@@ -161,10 +199,9 @@ module _ (nr : ℕ) (l : List ℕ) (bytes : Bytes l) where
   why-judge (Refused (Encoding n)) W =
       past-frame (W .0) ∙ rw (bad-at (encodings nr) (encodingBad nr l) (GoodEncoding nr l) list-to list-from n (W .1))
   why-judge (Refused (ByteMatrix n)) W =
-      past-encodings (W .0) (W .1) ∙ rw (bad-at (byteMatrices nr) (byteMatrixBad nr l) (GoodByteMatrix nr l) byte-to byte-from n (W .2))
+      past-encodings (W .0) (W .1) ∙ rw (found-byte n (W .2))
   why-judge (Refused (ColumnMatrix n)) W =
-      past-bytes (W .0) (W .1) (W .2)
-      ∙ rw (bad-at (columnMatrices nr) (columnMatrixBad nr l) (GoodColumnMatrix nr l) column-to column-from n (W .3))
+      past-bytes (W .0) (W .1) (W .2) ∙ rw (found-column n (W .3))
   why-judge (Refused InputMatrix) W =
       past-columns (W .0) (W .1) (W .2) (W .3) ∙ rw (not-false-true (noInverse 16 (inputMatrixPart nr l)) (λ e. W .4 (input-to e)))
   why-judge (Refused OutputMatrix) W =
@@ -190,6 +227,9 @@ accepted-sound nr l bytes e = subst (Why nr l) e (why nr l bytes)
 
 pub accepted-exactly : AcceptedExactly
 accepted-exactly nr l bytes = (accepted-sound nr l bytes, why-judge nr l bytes Accepted)
+
+pub refused-exactly : RefusedExactly
+refused-exactly nr l bytes r = (λ e. subst (Why nr l) e (why nr l bytes), why-judge nr l bytes (Refused r))
 
 -- ---- the frame refuses just where the judgement has cause 2 or 3
 abbrev Late : Answer → Type 0

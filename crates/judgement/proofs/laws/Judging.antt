@@ -1,6 +1,6 @@
 -- Laws, not definitions: the judgement as the code meets it, by the test of a branch.
 -- Assumes nothing.
-use mathlib.Core.Bool.{Bool, true, false, not}
+use mathlib.Core.Bool.{Bool, true, false, not, _||_, or-true, or-false}
 use mathlib.Core.List.{List}
 use mathlib.Core.Path.{_≡_, refl, sym, ap, _∙_}
 use Prim.Native.Nat.{ℕ, _+_, _-_, _*_, _≤_, _<_}
@@ -9,6 +9,7 @@ use lib.ListN.{length, take, drop}
 use Rattle.bits.specs.Lists.{partOf}
 use Rattle.matrices.specs.Matrices.{matrixOf}
 use Rattle.inversion.specs.Elimination.{invert, hasInverse}
+use Rattle.blocks.specs.Blocks.{someBlockBad}
 use Rattle.bundle.specs.Format.{tenEncodings, partCount, partSize, sectionLength, frame, sectionOf, partAt, inputMatrixPart, outputMatrixPart}
 use Rattle.answers.specs.Search.{first, refusedAt}
 use Rattle.answers.specs.declared.found.Found.{Found}
@@ -21,17 +22,20 @@ use Rattle.bits.proofs.laws.Cuts.{part-cut}
 use Rattle.judgement.specs.Judge.{noPermutation, noInverse, mixingBad}
 use Rattle.judgement.specs.Judge.{judgeEncodings, judgeByteMatrices, judgeColumnMatrices, judgeBlockMatrices, judge}
 
--- ---- a matrix: r is what the inversion of the matrix that the bytes p write answers
-module _ (w : ℕ) (p : List ℕ) {r : Bool} (q : r ≡ hasInverse (invert (8 * w) (matrixOf w p))) where
-  told : not r ≡ noInverse w p
-  unfolding noInverse
-  told = ap not q
+-- ---- a matrix: r is what the elimination of the matrix that the bytes p write answers
+pub inverse-told : (w : ℕ) (p : List ℕ) {r : Bool} → r ≡ hasInverse (invert (8 * w) (matrixOf w p)) → not r ≡ noInverse w p
+unfolding noInverse
+inverse-told w p e = ap not e
 
-  pub inverse-found : r ≡ true → false ≡ noInverse w p
-  inverse-found t = ap not (sym t) ∙ told
+-- A byte or column matrix: b is what the test of its blocks says, r the one of the whole.
+module _ (w : ℕ) (p : List ℕ) {b : Bool} (e : b ≡ someBlockBad (2 * w) (matrixOf w p)) where
+  pub mixing-block : b ≡ true → true ≡ mixingBad w p
+  unfolding mixingBad
+  mixing-block t = sym (or-true (noInverse w p)) ∙ ap (λ (x : Bool). noInverse w p || x) (sym t ∙ e)
 
-  pub inverse-none : r ≡ false → true ≡ noInverse w p
-  inverse-none t = ap not (sym t) ∙ told
+  pub mixing-whole : b ≡ false → {r : Bool} → r ≡ noInverse w p → r ≡ mixingBad w p
+  unfolding mixingBad
+  mixing-whole t told = told ∙ sym (or-false (noInverse w p)) ∙ ap (λ (x : Bool). noInverse w p || x) (sym t ∙ e)
 
 -- Byte or column matrix k of a section s is bad.
 abbrev pub badMixingIn : ℕ → ℕ → List ℕ → ℕ → Bool

@@ -1,11 +1,12 @@
--- Laws, not definitions: the test for a matrix without an inverse is exact, and a matrix with two equal rows has none.
+-- Laws, not definitions: the tests of a matrix and of its blocks are exact, and a matrix with two equal rows has no inverse.
 -- Assumes nothing.
-use mathlib.Core.Bool.{false, not}
+use mathlib.Core.Bool.{Bool, true, false, not}
 use mathlib.Core.List.{List}
-use mathlib.Core.Logic.{_≢_}
-use mathlib.Core.Path.{_≡_, refl, sym, ap, _∙_}
+use mathlib.Core.Logic.{_≢_, inl, inr}
+use mathlib.Core.Path.{_≡_, refl, sym, ap, _∙_, subst}
 use Prim.Native.Nat.{ℕ, _*_, _<_}
 use native.Mathlib.Omega.{arith}
+use Rattle.answers.proofs.laws.Tests.{clash, not-false-true, denied-true, or-left, or-right, neither}
 use Rattle.bits.specs.Bytes.{Bytes}
 use Rattle.bits.specs.Lists.{at}
 use Rattle.bits.specs.Vectors.{bit, unit, dot}
@@ -13,20 +14,14 @@ use Rattle.bits.proofs.laws.Vectors.{unit-lt, bit-unit-same, bit-unit-other}
 use Rattle.matrices.specs.Matrices.{product, RowsFit, Invertible, matrixOf}
 use Rattle.matrices.proofs.laws.Stored.{matrixOf-fits}
 use Rattle.matrices.proofs.laws.Matrices.{bit-product}
-use Rattle.inversion.specs.Elimination.{Inversion, inverse, singular, invert, hasInverse}
-use Rattle.inversion.proofs.laws.Inverses.{answered, refused, exact}
+use Rattle.inversion.proofs.laws.Inverses.{answered, exact, passes-invertible, invertible-passes}
+use Rattle.catalogue.specs.Catalogue.{side}
+use Rattle.blocks.specs.Blocks.{someBlockBad}
+use Rattle.blocks.specs.Theorems.{TestTells, BlockInvertible, Unfit}
+use Rattle.blocks.proofs.laws.Proved.{test-exact}
 use Rattle.judgement.specs.Judge.{noInverse, mixingBad}
-use Rattle.judgement.specs.Judgements.{Mixing}
 
 module _ (n : ℕ) (m : List ℕ) (fits : RowsFit n (at m)) where
-  has : (r : Inversion) → invert n m ≡ r → not (hasInverse r) ≡ false → Invertible n m
-  has (inverse b) e t = (product n b, answered n m b fits e .left)
-  has singular e t = let y : _≡_ {A = ℕ} 0 1 = cc in absurd (omega arith)
-
-  hasnt : (r : Inversion) → invert n m ≡ r → Invertible n m → not (hasInverse r) ≡ false
-  hasnt (inverse b) e I = refl
-  hasnt singular e I = absurd (refused n m fits e I)
-
   -- Two equal rows: some vector has a product with a one in the one row and a zero in the other.
   pub equal-rows : (a b : ℕ) → a < n → b < n → a ≢ b → at m a ≡ at m b → Invertible n m → ⊥
   equal-rows a b ha hb ne e I =
@@ -41,17 +36,43 @@ module _ (n : ℕ) (m : List ℕ) (fits : RowsFit n (at m)) where
 module _ (w : ℕ) (p : List ℕ) (bytes : Bytes p) where
   pub good-invertible : noInverse w p ≡ false → Invertible (8 * w) (matrixOf w p)
   unfolding noInverse
-  good-invertible = has (8 * w) (matrixOf w p) (matrixOf-fits w p bytes) (invert (8 * w) (matrixOf w p)) refl
+  good-invertible e = passes-invertible (8 * w) (matrixOf w p) (matrixOf-fits w p bytes) (denied-true _ e)
 
   pub invertible-good : Invertible (8 * w) (matrixOf w p) → noInverse w p ≡ false
   unfolding noInverse
-  invertible-good = hasnt (8 * w) (matrixOf w p) (matrixOf-fits w p bytes) (invert (8 * w) (matrixOf w p)) refl
+  invertible-good good = ap not (invertible-passes (8 * w) (matrixOf w p) (matrixOf-fits w p bytes) good)
 
-  -- The same of byte and column matrices.
-  pub good-mixing : mixingBad w p ≡ false → Mixing w (matrixOf w p)
-  unfolding mixingBad
-  good-mixing = good-invertible
+  -- ---- byte and column matrices: 8 w rows are 2 w rows of blocks
+  rows : 8 * w ≡ side * (2 * w)
+  rows = omega arith
 
-  pub mixing-good : Mixing w (matrixOf w p) → mixingBad w p ≡ false
+  good-whole : noInverse w p ≡ false → Invertible (side * (2 * w)) (matrixOf w p)
+  good-whole e = subst (λ (n : ℕ). Invertible n (matrixOf w p)) rows (good-invertible e)
+
+  whole-good : Invertible (side * (2 * w)) (matrixOf w p) → noInverse w p ≡ false
+  whole-good good = invertible-good (subst (λ (n : ℕ). Invertible n (matrixOf w p)) (sym rows) good)
+
+  abbrev blocksBad : Bool
+  blocksBad = someBlockBad (2 * w) (matrixOf w p)
+
+  exactly : TestTells (2 * w) (matrixOf w p)
+  exactly = test-exact (2 * w) (matrixOf w p)
+
+  pub good-mixing : mixingBad w p ≡ false → BlockInvertible (2 * w) (matrixOf w p)
   unfolding mixingBad
-  mixing-good = invertible-good
+  good-mixing e = record {
+    whole = good-whole (or-left (noInverse w p) blocksBad e);
+    blocks = exactly .passes .0 (or-right (noInverse w p) blocksBad e);
+  }
+
+  pub mixing-good : BlockInvertible (2 * w) (matrixOf w p) → mixingBad w p ≡ false
+  unfolding mixingBad
+  mixing-good good = neither (noInverse w p) blocksBad (whole-good (good .whole)) (exactly .passes .1 (good .blocks))
+
+  -- One that is not block invertible is unfit; the test of the whole says for which reason.
+  pub not-unfit : (BlockInvertible (2 * w) (matrixOf w p) → ⊥) → Unfit (2 * w) (matrixOf w p)
+  not-unfit none = by (noInverse w p) refl
+    where
+      by : (b : Bool) → noInverse w p ≡ b → Unfit (2 * w) (matrixOf w p)
+      by true e = inl (λ whole. clash (noInverse w p) e (whole-good whole))
+      by false e = inr (exactly .fails .0 (not-false-true blocksBad (λ t. none (record { whole = good-whole e; blocks = exactly .passes .0 t }))))

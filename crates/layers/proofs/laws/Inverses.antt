@@ -38,7 +38,7 @@ module _ (nr : ℕ) (l p : List ℕ) (bytes : Bytes l) (ok : judge nr l ≡ Acce
   pub column-part : (n : ℕ) → n < columnMatrices nr → p ≡ columnMatrixPart nr l n → (128 ≤ length p) × Invertible 32 (matrixOf 4 p)
   column-part n h e =
       let long = column-part-long nr l p (frame-of nr l ok) n h e in
-      (omega arith, subst (λ (t : List ℕ). Invertible 32 (matrixOf 4 t)) (sym e) (accepted-sound nr l bytes ok .columns n h))
+      (omega arith, subst (λ (t : List ℕ). Invertible 32 (matrixOf 4 t)) (sym e) (accepted-sound nr l bytes ok .columns n h .whole))
 
 -- ---- words over the front of a list
 -- Where they are as many as the list, they are all of it.

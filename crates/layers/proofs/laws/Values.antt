@@ -82,7 +82,7 @@ module _ (nr : ℕ) (l part : List ℕ) (r j : ℕ) (low : 1 ≤ r) (high : r �
 
   pub byte-part-invertible : Bytes l → judge nr l ≡ Accepted → Invertible 8 (matrixOf 1 part)
   byte-part-invertible bytes a =
-      subst (λ (t : List ℕ). Invertible 8 (matrixOf 1 t)) (sym ep) (accepted-sound nr l bytes a .bytes (16 * (r - 1) + j) number-lt)
+      subst (λ (t : List ℕ). Invertible 8 (matrixOf 1 t)) (sym ep) (accepted-sound nr l bytes a .bytes (16 * (r - 1) + j) number-lt .whole)
 
   -- Of a cipher of the parts P: rows has the words of the inverse, `before` and `behind` are the key bytes, `box` is the S-box, t the bytes that are left.
   pub behind-is : (P : Parts) (box : ℕ → ℕ) (read rest rows : List ℕ) (p before behind : ℕ) (t : List ℕ) → P .substitute ≡ box → j ≡ P .reads p

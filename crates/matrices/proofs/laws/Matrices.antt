@@ -9,7 +9,7 @@ use Rattle.bits.specs.Vectors.{bit, unit, dot}
 use Rattle.bits.proofs.laws.Lists.{at-tabulate, length-tabulate}
 use Rattle.bits.proofs.laws.Groups.{joined-same, joined-zero}
 use Rattle.bits.proofs.laws.Vectors.{dot-lt, dot-xor, dot-zero-r, bit-xor, bit-ext, bit-vector, vector-lt, unit-lt, unit-dot}
-use Rattle.matrices.specs.Matrices.{productBy, product, identity, RowsFit, Invertible}
+use Rattle.matrices.specs.Matrices.{productBy, product, identity, RowsFit, Invertible, Square}
 
 pub product-lt : (n : ℕ) (f : ℕ → ℕ) (v : ℕ) → productBy n f v < 2 ^ n
 unfolding productBy
@@ -61,6 +61,9 @@ identity-length n = length-tabulate n (unit n)
 pub identity-fits : (n : ℕ) → RowsFit n (at (identity n))
 unfolding identity
 identity-fits n i h = subst (λ (x : ℕ). x < 2 ^ n) (sym (at-tabulate n (unit n) i h)) (unit-lt n i h)
+
+pub identity-square : (n : ℕ) → Square n (identity n)
+identity-square n = record { long = identity-length n; fits = identity-fits n }
 
 pub identity-invertible : (n : ℕ) → Invertible n (identity n)
 identity-invertible n = (λ v. v, λ v h. product-identity n v h)

@@ -42,10 +42,10 @@ codings-sound nr l bytes e =
       encodings = λ n. chosen Permutation n (encodings nr) (encodingOf nr l n) plainEncoding (λ h. S .lists n h) plain-permutation;
       bytes = λ n.
           chosen (GoodMatrix 8) n (byteMatrices nr) (byteMatrix nr l n) (identity 8)
-          (λ h. record { fits = matrixOf-fits 1 (byteMatrixPart nr l n) (at-bytes nr l 1 n bytes); has = S .bytes n h }) (identity-good 8);
+          (λ h. record { fits = matrixOf-fits 1 (byteMatrixPart nr l n) (at-bytes nr l 1 n bytes); has = S .bytes n h .whole }) (identity-good 8);
       columns = λ n.
           chosen (GoodMatrix 32) n (columnMatrices nr) (columnMatrix nr l n) (identity 32)
-          (λ h. record { fits = matrixOf-fits 4 (columnMatrixPart nr l n) (at-bytes nr l 2 n bytes); has = S .columns n h }) (identity-good 32);
+          (λ h. record { fits = matrixOf-fits 4 (columnMatrixPart nr l n) (at-bytes nr l 2 n bytes); has = S .columns n h .whole }) (identity-good 32);
       input = record { fits = matrixOf-fits 16 (inputMatrixPart nr l) (at-bytes nr l 3 0 bytes); has = S .input };
       output = record { fits = matrixOf-fits 16 (outputMatrixPart nr l) (at-bytes nr l 4 0 bytes); has = S .output };
     }

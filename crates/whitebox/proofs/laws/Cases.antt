@@ -26,7 +26,9 @@ use Rattle.round.specs.Key.{KeyExpansion, expand, nextWord}
 use Rattle.round.specs.State.{mixRows}
 use Rattle.round.proofs.laws.Key.{key-at}
 use Rattle.bundle.specs.Format.{encodings, byteMatrices, columnMatrices, encodingOf, byteMatrix, columnMatrix}
+use Rattle.bundle.proofs.laws.Built.{plain-built}
 use Rattle.judgement.proofs.laws.Cases as bundle
+use Rattle.judgement.proofs.laws.Witness.{ten-fits}
 use Rattle.network.specs.Numbers.{Numbers}
 use Rattle.network.specs.Tables.{spreadEntry, spreadTable, xorEntry, xorTable, tableIn}
 use Rattle.layout.specs.Stages.{shifted, lookups, stageOf, indexOf, numbersOf}
@@ -207,8 +209,10 @@ starred =
       table-496 = network.starred .table-496;
       table-3007 = network.starred .table-3007;
       reversed = bits.cases .reversed;
+      plain = plain-built 10 ten-fits .1;
       xor-table = xor-table;
       entry-0 = entry-0;
       list-0 = bundle.list-0;
       byte-159 = bundle.byte-159;
+      faulty-159 = bundle.faulty-159;
     }

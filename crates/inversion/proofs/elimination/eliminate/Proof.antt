@@ -4,7 +4,7 @@
 -- inverse (`reduced-all`). The measure is the number of columns left.
 -- Assumes nothing.
 use Prim.Native.Nat.{_-_}
-use Rattle.inversion.proofs.laws.Loops.{Reduced, reduced-none, reduced-singular, reduced-next, reduced-all, found-le}
+use Rattle.inversion.proofs.laws.Loops.{Reduced, reduced-none, reduced-singular, reduced-next, reduced-all, found-within}
 use native.Mathlib.Omega.{arith}
 use Rattle.inversion.proofs.elimination.eliminate.Statement.{statement}
 use Rattle.inversion.proofs.elimination.eliminate.Tie as tie
@@ -25,7 +25,7 @@ pivot-requires : tie.Need-pivot-requires Inv-loop μ-loop
 pivot-requires c κs =
     let found : tie.After-find Inv-loop μ-loop = search in
     let turn : tie.In-loop Inv-loop μ-loop = search in
-    omega (arith, found-le _ _ _ _ (turn .loop-test .taken) (found .find .ensures))
+    omega (arith, found-within _ _ _ _ (turn .loop-test .taken) (found .find .ensures))
 
 clear-requires : tie.Need-clear-requires Inv-loop μ-loop
 clear-requires c κs =

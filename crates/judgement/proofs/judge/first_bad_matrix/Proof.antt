@@ -6,15 +6,15 @@ use borrow.Author.Needs.{needs}
 use Rattle.judgement.proofs.judge.first_bad_matrix.Statement.{statement}
 use Rattle.judgement.proofs.judge.first_bad_matrix.Tie as tie
 
-first-singular-requires : tie.Need-first-singular-requires
-first-singular-requires c κs =
+first-bad-mixing-requires : tie.Need-first-bad-mixing-requires
+first-bad-mixing-requires c κs =
     let size : tie.After-part-size = search in
     let section : tie.After-section = search in
     let entry : tie.Start = search in
     matrices-asked 10 _ _ (section .section .ensures) (size .part-size .ensures .0) (c .part-count .ensures) _ (entry .pre)
 
 returns : tie.Need-returns
-returns c = matrices-searched 10 _ _ (search) (search) (search) _ (c .first-singular .ensures)
+returns c = matrices-searched 10 _ _ (search) (search) (search) _ (c .first-bad-mixing .ensures)
 
 -- ---- the needs that the search closes
 section-requires : tie.Need-section-requires
@@ -33,5 +33,5 @@ first-bad-matrix-spec =
     section-requires
     part-size-requires
     part-count-requires
-    first-singular-requires
+    first-bad-mixing-requires
     returns)

@@ -9,6 +9,13 @@ use borrow.Author.Needs.{needs}
 use Rattle.judgement.proofs.judge.judge_block_matrices.Statement.{statement}
 use Rattle.judgement.proofs.judge.judge_block_matrices.Tie as tie
 
+-- ---- places: behind the test of the input matrix, and behind that of the output matrix
+abbrev Input : Type 0
+Input = tie.After-no-inverse
+
+abbrev Output : Type 0
+Output = tie.After-no-inverse2
+
 no-inverse-requires : tie.Need-no-inverse-requires
 no-inverse-requires c κs =
     let entry : tie.Start = search in
@@ -16,7 +23,7 @@ no-inverse-requires c κs =
 
 returns : tie.Need-returns
 returns c =
-    let input : tie.After-no-inverse = search in
+    let input : Input = search in
     blocks-input 10 _ (search) (input .no-inverse .ensures) (c .if1 .taken)
 
 no-inverse-requires-2 : tie.Need-no-inverse-requires-2
@@ -26,14 +33,14 @@ no-inverse-requires-2 c κs =
 
 returns-2 : tie.Need-returns-2
 returns-2 c =
-    let output : tie.After-no-inverse2 = search in
-    let input : tie.After-no-inverse = search in
+    let output : Output = search in
+    let input : Input = search in
     blocks-output 10 _ (search) (input .no-inverse .ensures) (search) (search) (output .no-inverse2 .ensures) (c .if2 .taken)
 
 returns-3 : tie.Need-returns-3
 returns-3 c =
-    let output : tie.After-no-inverse2 = search in
-    let input : tie.After-no-inverse = search in
+    let output : Output = search in
+    let input : Input = search in
     blocks-good 10 _ (search) (input .no-inverse .ensures) (search) (search) (output .no-inverse2 .ensures) (c .if2 .left)
 
 -- ---- the needs that the search closes

@@ -1,5 +1,5 @@
 -- `judgement::judge::judge_byte_matrices` meets its contract. The section of the byte matrices is searched for a bad one, and the judgement is the
--- refusal for what is found (`bytes-judged` of `laws.Judging`): the first is refused (`found-refuses` of bundle's `laws.Tests`), and without one the
+-- refusal for what is found (`bytes-judged` of `laws.Judging`): the first is refused (`found-refuses` of answers' `laws.Search`), and without one the
 -- matrices are accepted (`found-passes`).
 -- Assumes nothing.
 use mathlib.Core.Path.{refl, _∙_}

@@ -1,5 +1,5 @@
 -- `judgement::judge::judge_encodings` meets its contract. The section of the encodings is searched for one that is no permutation, and the judgement
--- is the refusal for what is found (`encodings-judged` of `laws.Judging`): the first is refused (`found-refuses` of bundle's `laws.Tests`), and without
+-- is the refusal for what is found (`encodings-judged` of `laws.Judging`): the first is refused (`found-refuses` of answers' `laws.Search`), and without
 -- one the encodings are accepted (`found-passes`). The section has room for all of them, as the frame is accepted (`encodings-asked`).
 -- Assumes nothing.
 use mathlib.Core.Path.{_∙_}

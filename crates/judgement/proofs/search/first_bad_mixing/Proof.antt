@@ -1,4 +1,4 @@
--- `judgement::search::first_singular` meets its contract. The loop's invariant, `Searched` of answers' `laws.Search`: none of the first k matrices
+-- `judgement::search::first_bad_mixing` meets its contract. The loop's invariant, `Searched` of answers' `laws.Search`: none of the first k matrices
 -- is bad, and the search from k on has the answer of the search of all. What the code cuts out is matrix k (`mixing-cut` of `laws.Judging`):
 -- a bad one is the first (`searched-here`), another is passed (`searched-next`), and behind the last there is none (`searched-all`).
 -- Matrix k ends within the section (`fits`), so no product and no sum wraps; and the number of a matrix has 32 bits. The measure is the number of matrices left.
@@ -9,8 +9,8 @@ use Rattle.bits.proofs.laws.Multiples.{parts-within}
 use Rattle.answers.proofs.laws.Search.{Searched, searched-none, searched-here, searched-next, searched-all}
 use Rattle.judgement.proofs.laws.Judging.{badMixingIn, mixing-cut}
 use native.Mathlib.Omega.{arith}
-use Rattle.judgement.proofs.search.first_singular.Statement.{statement}
-use Rattle.judgement.proofs.search.first_singular.Tie as tie
+use Rattle.judgement.proofs.search.first_bad_mixing.Statement.{statement}
+use Rattle.judgement.proofs.search.first_bad_mixing.Tie as tie
 
 abbrev Inv-loop : tie.InvT-loop
 Inv-loop s w size count k₀ k = Searched count (badMixingIn w size s) k
@@ -71,8 +71,8 @@ add-k c = omega arith
 loop-less : tie.Need-loop-less Inv-loop μ-loop
 loop-less c = omega arith
 
-pub first-singular-spec : {M : Type 1} → statement M
-first-singular-spec =
+pub first-bad-mixing-spec : {M : Type 1} → statement M
+first-bad-mixing-spec =
     tie.close
     (tie.spec
     Inv-loop
