@@ -12,7 +12,7 @@
 #include <string.h>
 #include <time.h>
 
-enum { ROUNDS = 101, CIPHERS = 2, SPREAD_TABLE = 496, XOR_TABLE = 512, RECORDS = 25, ENTRY_BYTES = 5, STRIDE = 7919 };
+enum { ROUNDS = 101, CIPHERS = 2, ENTRY_TABLE = 0, SPREAD_TABLE = 496, XOR_TABLE = 512, EXIT_TABLE = 2512, RECORDS = 25, ENTRY_BYTES = 5, STRIDE = 7919 };
 
 static uint8_t key[TAZHIKKO_KEY_BYTES];
 static uint8_t bundle[TAZHIKKO_BUNDLE_MAX_BYTES];
@@ -47,6 +47,10 @@ static void make_ours(size_t number)
 }
 
 static void make_plain(size_t number) { plain_make_table(cipher, key, bundle, bundle_len, number, plain_table); }
+static void entry_table_ours(void) { make_ours(ENTRY_TABLE); }
+static void entry_table_plain(void) { make_plain(ENTRY_TABLE); }
+static void exit_table_ours(void) { make_ours(EXIT_TABLE); }
+static void exit_table_plain(void) { make_plain(EXIT_TABLE); }
 static void spread_ours(void) { make_ours(SPREAD_TABLE); }
 static void spread_plain(void) { make_plain(SPREAD_TABLE); }
 static void xor_ours(void) { make_ours(XOR_TABLE); }
@@ -122,6 +126,8 @@ static const struct task {
     {"judge a bundle", TAZHIKKO_FORWARD, judge_ours, judge_plain, 2},
     {"make a set", TAZHIKKO_FORWARD, set_ours, set_plain, 1},
     {"make one spread table", TAZHIKKO_FORWARD, spread_ours, spread_plain, 2},
+    {"make one entry table", TAZHIKKO_FORWARD, entry_table_ours, entry_table_plain, 2},
+    {"make one exit table", TAZHIKKO_FORWARD, exit_table_ours, exit_table_plain, 2},
     {"make one XOR table", TAZHIKKO_FORWARD, xor_ours, xor_plain, 2},
     {"walk a block", TAZHIKKO_FORWARD, walk_ours, walk_plain, 50},
     {"record a walk", TAZHIKKO_FORWARD, record_next_ours, record_next_plain, 2 * RECORDS},
@@ -129,6 +135,8 @@ static const struct task {
     {"an entry of the catalogue", TAZHIKKO_FORWARD, entry_ours, entry_plain, TAZHIKKO_CATALOGUE_MATRICES},
     {"inverse: make a set", TAZHIKKO_INVERSE, set_ours, set_plain, 1},
     {"inverse: one spread table", TAZHIKKO_INVERSE, spread_ours, spread_plain, 2},
+    {"inverse: one entry table", TAZHIKKO_INVERSE, entry_table_ours, entry_table_plain, 2},
+    {"inverse: one exit table", TAZHIKKO_INVERSE, exit_table_ours, exit_table_plain, 2},
     {"inverse: one XOR table", TAZHIKKO_INVERSE, xor_ours, xor_plain, 2},
     {"inverse: walk a block", TAZHIKKO_INVERSE, walk_ours, walk_plain, 50},
     {"inverse: record a walk", TAZHIKKO_INVERSE, record_next_ours, record_next_plain, 2 * RECORDS},

@@ -130,17 +130,20 @@ static void prepare_group(maker *m, const layer *l, size_t group)
     }
 }
 
-/* Word after word under its lists. */
+/* Word after word under its lists, a byte by one lookup among the 256 encoded bytes of its place. */
 static inline void encode_words(size_t word, const uint8_t *lists, const uint8_t *words, const uint8_t order[256], uint8_t *table)
 {
-    uint8_t images[32][16];
-    for (size_t h = 0; h < 2 * word; h++)
-        unpack(lists + 8 * h, images[h]);
+    uint8_t high[16], low[16], encoded[16][256];
+    for (size_t t = 0; t < word; t++) {
+        unpack(lists + 16 * t, high);
+        unpack(lists + 16 * t + 8, low);
+        for (size_t v = 0; v < 16; v++)
+            for (size_t w = 0; w < 16; w++)
+                encoded[t][16 * v + w] = (uint8_t)(high[v] << 4 | low[w]);
+    }
     for (size_t e = 0; e < 256; e++)
-        for (size_t t = 0; t < word; t++) {
-            uint8_t v = words[word * order[e] + t];
-            table[word * e + t] = (uint8_t)(images[2 * t][v >> 4] << 4 | images[2 * t + 1][v & 15]);
-        }
+        for (size_t t = 0; t < word; t++)
+            table[word * e + t] = encoded[t][words[word * order[e] + t]];
 }
 
 static void spread_table(const maker *m, size_t n, const layer *l, size_t p, uint8_t *table)

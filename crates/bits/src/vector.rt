@@ -92,7 +92,7 @@ pub fn power(s: usize) -> Vector
 }
 
 // x times the lowest bit of c, with no branch and no product of two unknown words.
-fn masked(c: u64, x: u64) -> u64
+pub fn masked(c: u64, x: u64) -> u64
     ensures { λ r. ⌜ r ≡ c % 2 * x ⌝ }
 {
     x & (c % 2 * 18446744073709551615)

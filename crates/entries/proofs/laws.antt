@@ -1,3 +1,4 @@
 pub mod Combined
 pub mod Entries
 pub mod Places
+pub mod Words

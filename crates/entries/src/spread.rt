@@ -1,21 +1,32 @@
-// Spread tables. The word of a byte is the xor of eight words, at the bits that the byte has; so it is the xor of two of 32 words, one
-// for each of its nibbles.
+// Spread tables, word by word, each word straight into its bytes of the lent part. The word of a byte is the xor of eight words, at the bits that
+// the byte has; so it is the xor of two of 32 words, one for each of its nibbles.
 ghost use mathlib.Core.List.{_++_};
 ghost use mathlib.Core.Path.{_≡_};
-ghost use Prim.Native.Nat.{ℕ, _+_, _*_, _/_, _%_, _^_, _<_, _≤_};
-ghost use lib.ListN.{length, take, drop};
-ghost use lib.Bits.{bitXor};
-ghost use Rattle.bits.specs.Bytes.{bytesOf};
+ghost use Prim.Native.Nat.{_+_, _*_, _/_, _%_, _^_, _<_, _≤_};
+ghost use lib.ListN.{length, drop};
+ghost use Rattle.bits.specs.Groups.{xorAll};
 ghost use Rattle.bits.specs.Lists.{at, tabulate, concat};
-ghost use Rattle.bits.specs.Nibbles.{pack};
 ghost use Rattle.bits.specs.Words.{value};
-ghost use Rattle.matrices.specs.Rows.{rowAt};
-ghost use Rattle.entries.specs.Spread.{combined, encodedBytes, encodedWord, nibbleByte, summed};
-use crate::lists;
+ghost use Rattle.matrices.specs.Rows.{rowAt, stored};
+ghost use Rattle.entries.specs.Encodings.{Nibbles};
+ghost use Rattle.entries.specs.Spread.{combined, encodedByte, encodedWord, lookedUp, nibbleByte, wordIn};
+ghost use Rattle.entries.specs.Words.{blockWord, WordWidth, withWord, OthersAlone};
+use crate::bytes;
 use bits::encoding;
 use bits::vector;
 use bits::vector::Vector;
 use matrices::matrix;
+
+// The bytes of a word: of the entry and of the exit, and of a round.
+const BLOCK_WORD: usize = 16;
+
+const ROUND_WORD: usize = 4;
+
+// The bytes with one nibble, each with a row of two machine words.
+pub const NIBBLE_ROWS: usize = 32;
+
+// The encoded bytes of all places of the widest word.
+const ENCODED_BYTES: usize = BLOCK_WORD * 256;
 
 // Bit i of a byte, from the bottom.
 fn bit_of(y: u8, i: usize) -> u64
@@ -25,102 +36,107 @@ fn bit_of(y: u8, i: usize) -> u64
     ((y >> i) % 2) as u64
 }
 
-// The word of the byte y: row i of `basis` is that of 2^i.
-fn word(basis: &[u64], y: u8) -> Vector
-    requires { ⌜ 16 ≤ length (now basis) ⌝ }
-    ensures { λ r. ⌜ value r ≡ combined (rowAt (now (basis .entry))) y ⌝ }
+// The word of the nibble v: row `first` + i of `basis` is that of 2^i.
+fn nibble_word(basis: &[u64], first: usize, v: u8) -> Vector
+    requires { ⌜ (first ≤ 4) × (16 ≤ length (now basis)) ⌝ }
+    ensures { λ r. ⌜ value r ≡ xorAll 4 (λ i. (v / 2 ^ i % 2) * rowAt (now (basis .entry)) (first + i)) ⌝ }
 {
-    let mut v = Vector { hi: 0, lo: 0 };
+    let mut w = Vector { hi: 0, lo: 0 };
     let mut i: usize = 0;
-    while i < 8 {
-        v = vector::add(v, bit_of(y, i), matrix::row(basis, i));
+    while i < 4 {
+        w = vector::add(w, bit_of(v, i), matrix::row(basis, first + i));
         i += 1;
     }
-    v
+    w
 }
 
-// Byte r of those with one nibble: the low nibbles 0 to 15, then the high ones.
-pub fn nibble_byte(r: usize) -> u8
-    requires { ⌜ r < 32 ⌝ }
-    ensures { λ b. ⌜ b ≡ nibbleByte r ⌝ }
-{
-    if r < 16 {
-        r as u8
-    } else {
-        ((r - 16) * 16) as u8
-    }
-}
-
-// Their words, m bytes each, into the front of dst.
-fn nibble_words(basis: &[u64], m: usize, dst: &mut [u8])
-    requires { ⌜ (16 ≤ length (now basis)) × (m ≤ 16) × (length (now dst) ≡ 512) ⌝ }
-    ensures { λ _. ⌜ now (dst .exit) ≡ concat 32 (λ r. bytesOf m (combined (rowAt (now (basis .entry))) (nibbleByte r))) ++ drop (32 * m) (now (dst .entry)) ⌝ }
+// The words of the bytes with one nibble, a row each: those of the low nibbles 0 to 15, then those of the high ones.
+pub fn nibble_words(basis: &[u64], dst: &mut [u64])
+    requires { ⌜ (16 ≤ length (now basis)) × (length (now dst) ≡ 64) ⌝ }
+    ensures { λ _. ⌜ now (dst .exit) ≡ stored 32 (λ r. combined (rowAt (now (basis .entry))) (nibbleByte r)) (now (dst .entry)) ⌝ }
 {
     let mut r: usize = 0;
-    while r < 32 {
-        let v = word(basis, nibble_byte(r));
-        let a = r * m;
-        let e = a + m;
-        vector::write(v, &mut dst[a..e]);
+    while r < NIBBLE_ROWS {
+        matrix::set_row(dst, r, nibble_word(basis, r / 16 * 4, (r % 16) as u8));
         r += 1;
     }
 }
 
-// Byte k of a word, both nibbles encoded: `images` has 16 images for each nibble of a word.
-fn encoded(images: &[u8], k: usize, b: u8) -> u8
-    requires { ⌜ (k < 16) × (32 * k + 32 ≤ length (now images)) × ((i : ℕ) → i < 32 * k + 32 → at (now images) i < 16) ⌝ }
-    ensures { λ r. ⌜ r ≡ pack (at (now (images .entry)) (16 * (2 * k) + b / 16)) (at (now (images .entry)) (16 * (2 * k + 1) + b % 16)) ⌝ }
+// For each place of a word of m bytes the 256 encoded bytes, one place after the other, into the front of dst: `images` has 16 images for
+// each nibble of a word.
+fn encoded_places(images: &[u8], m: usize, dst: &mut [u8])
+    requires { ⌜ (m ≤ blockWord) × (32 * m ≤ length (now images)) × Nibbles (32 * m) (now images) × (m * 256 ≤ length (now dst)) ⌝ }
+    ensures { λ _. ⌜ now (dst .exit) ≡ concat m (λ k. tabulate 256 (encodedByte (at (now (images .entry))) k)) ++ drop (m * 256) (now (dst .entry)) ⌝ }
 {
-    let x = 32 * k + encoding::widened(b / 16);
-    let y = 32 * k + 16 + encoding::widened(b % 16);
-    images[x] * 16 + images[y]
-}
-
-// The bytes of the xor of two words, encoded.
-fn write_word(low: &[u8], high: &[u8], images: &[u8], dst: &mut [u8])
-    requires { ⌜ (length (now dst) ≤ 16) × (length (now low) ≡ length (now dst)) × (length (now high) ≡ length (now dst)) × (32 * length (now dst) ≤ length (now images)) × ((i : ℕ) → i < 32 * length (now dst) → at (now images) i < 16) ⌝ }
-    ensures { λ _. ⌜ now (dst .exit) ≡ encodedBytes (at (now (images .entry))) (length (now (dst .entry))) (tabulate (length (now (dst .entry))) (λ k. bitXor (at (now (low .entry)) k) (at (now (high .entry)) k))) ⌝ }
-{
-    let m = dst.len();
     let mut k: usize = 0;
     while k < m {
-        dst[k] = encoded(images, k, low[k] ^ high[k]);
+        let high = 32 * k;
+        let low = high + 16;
+        let end = low + 16;
+        let a = k * 256;
+        let e = a + 256;
+        bytes::by_nibbles(&images[high..low], &images[low..end], &mut dst[a..e]);
         k += 1;
     }
 }
 
-// Word r of those of the bytes with one nibble.
-fn word_part<'a>(words: &'a [u8], m: usize, r: usize) -> &'a [u8]
-    requires { ⌜ (length (now words) ≡ 512) × (m ≤ 16) × (r < 32) ⌝ }
-    ensures { λ p. ⌜ (now p ≡ take m (drop (r * m) (now (words .entry)))) × (length (now p) ≡ m) ⌝ }
+// The word of the byte y: the xor of those of its two nibbles.
+pub fn word_of(words: &[u64], y: u8) -> Vector
+    requires { ⌜ 64 ≤ length (now words) ⌝ }
+    ensures { λ r. ⌜ value r ≡ wordIn (now (words .entry)) y ⌝ }
 {
-    let a = r * m;
-    let e = a + m;
-    &words[a..e]
+    let low = matrix::row(words, encoding::widened(y % 16));
+    let high = matrix::row(words, 16 + encoding::widened(y / 16));
+    vector::add(low, 1, high)
 }
 
-// The words of 256 bytes, each in its part: `words` has those of the bytes with one nibble.
-fn write_words(values: &[u8], words: &[u8], images: &[u8], m: usize, dst: &mut [u8])
-    requires { ⌜ (length (now values) ≡ 256) × (length (now words) ≡ 512) × (m ≤ 16) × (32 * m ≤ length (now images)) × ((i : ℕ) → i < 32 * m → at (now images) i < 16) × (length (now dst) ≡ 256 * m) ⌝ }
-    ensures { λ _. ⌜ now (dst .exit) ≡ concat 256 (λ x. encodedBytes (at (now (images .entry))) m (summed m (now (words .entry)) (at (now (values .entry)) x))) ⌝ }
+// Byte b at place k of a word, encoded.
+fn encoded_at(encoded: &[u8], k: usize, b: u8) -> u8
+    requires { ⌜ (k < 16) × (k * 256 + 256 ≤ length (now encoded)) ⌝ }
+    ensures { λ r. ⌜ r ≡ at (now (encoded .entry)) (k * 256 + b) ⌝ }
+{
+    encoded[k * 256 + encoding::widened(b)]
+}
+
+// The word's writer: the word v, encoded, straight into the m bytes of word x of the part, and every other byte of the part as it was.
+fn write_word(v: Vector, encoded: &[u8], m: usize, x: usize, dst: &mut [u8])
+    requires { ⌜ (m ≤ blockWord) × (m * 256 ≤ length (now encoded)) × (x < 256) × (x * m + m ≤ length (now dst)) ⌝ }
+    ensures word { λ _. ⌜ now (dst .exit) ≡ withWord m x (lookedUp (at (now (encoded .entry))) m (value v)) (now (dst .entry)) ⌝ }
+    ensures others { λ _. ⌜ OthersAlone m x (now (dst .entry)) (now (dst .exit)) ⌝ }
+{
+    let a = x * m;
+    let mut k: usize = 0;
+    while k < m {
+        dst[a + k] = encoded_at(encoded, k, vector::byte(v, m - 1 - k));
+        k += 1;
+    }
+}
+
+// The words of 256 bytes, in order.
+fn write_words(values: &[u8], words: &[u64], encoded: &[u8], m: usize, dst: &mut [u8])
+    requires { ⌜ (length (now values) ≡ 256) × (64 ≤ length (now words)) × (m ≤ blockWord) × (m * 256 ≤ length (now encoded)) × (length (now dst) ≡ 256 * m) ⌝ }
+    ensures { λ _. ⌜ now (dst .exit) ≡ concat 256 (λ x. lookedUp (at (now (encoded .entry))) m (wordIn (now (words .entry)) (at (now (values .entry)) x))) ⌝ }
 {
     let mut x: usize = 0;
     while x < 256 {
-        let low = word_part(words, m, encoding::widened(values[x] % 16));
-        let high = word_part(words, m, 16 + encoding::widened(values[x] / 16));
-        let a = x * m;
-        let e = a + m;
-        write_word(low, high, images, &mut dst[a..e]);
+        write_word(word_of(words, values[x]), encoded, m, x, dst);
         x += 1;
     }
 }
 
-// The 256 words of m bytes, each in its part of the table: `values` has the byte whose word stands at x.
+// The 256 words of m bytes, each in its place: `values` has the byte whose word stands at x. Each width is named, so that the compiler unrolls the
+// loop over a word's bytes: with a width that it does not know, the words take twice as long and more.
 pub fn write(values: &[u8], basis: &[u64], images: &[u8], m: usize, dst: &mut [u8])
-    requires { ⌜ (length (now values) ≡ 256) × (16 ≤ length (now basis)) × (m ≤ 16) × (32 * m ≤ length (now images)) × ((i : ℕ) → i < 32 * m → at (now images) i < 16) × (length (now dst) ≡ 256 * m) ⌝ }
+    requires { ⌜ (length (now values) ≡ 256) × (16 ≤ length (now basis)) × WordWidth m × (32 * m ≤ length (now images)) × Nibbles (32 * m) (now images) × (length (now dst) ≡ 256 * m) ⌝ }
     ensures { λ _. ⌜ now (dst .exit) ≡ concat 256 (λ x. encodedWord (at (now (images .entry))) m (combined (rowAt (now (basis .entry))) (at (now (values .entry)) x))) ⌝ }
 {
-    let mut words = [0u8; 512];
-    nibble_words(basis, m, &mut words);
-    write_words(values, &words, images, m, dst);
+    let mut words = [0u64; 2 * NIBBLE_ROWS];
+    let mut encoded = [0u8; ENCODED_BYTES];
+    nibble_words(basis, &mut words);
+    encoded_places(images, m, &mut encoded);
+    if m == BLOCK_WORD {
+        write_words(values, &words, &encoded, BLOCK_WORD, dst);
+    } else {
+        write_words(values, &words, &encoded, ROUND_WORD, dst);
+    }
 }

@@ -1,34 +1,34 @@
 // XOR tables: "index 16a+b, a the sum so far and b the next word's half-byte, both encoded".
 ghost use mathlib.Core.Path.{_≡_};
-ghost use Prim.Native.Nat.{ℕ, _+_, _*_, _/_, _%_, _<_};
+ghost use Prim.Native.Nat.{_/_, _%_, _<_};
 ghost use lib.Bits.{bitXor};
 ghost use lib.ListN.{length};
-ghost use Rattle.bits.specs.Encodings.{encode, decode};
+ghost use Rattle.bits.specs.Encodings.{encode, decode, Permutation};
 ghost use Rattle.bits.specs.Lists.{at};
 ghost use Rattle.bits.specs.Nibbles.{packed};
-ghost use Rattle.entries.specs.Encodings.{encodingIn};
+ghost use Rattle.entries.specs.Encodings.{encodingIn, Nibbles};
 use crate::lists;
 use bits::encoding;
 use bundle::sections;
 
-// Element x; 0 behind the last.
-fn element(s: &[u8], x: u8) -> u8
-    ensures { λ r. ⌜ r ≡ at (now (s .entry)) x ⌝ }
+// The image of the sum of two nibbles.
+fn image_of_sum(result: &[u8], a: u8, b: u8) -> u8
+    requires { ⌜ (length (now result) ≡ 16) × (a < 16) × (b < 16) ⌝ }
+    ensures { λ r. ⌜ r ≡ at (now (result .entry)) (bitXor a b) ⌝ }
 {
-    let i = encoding::widened(x);
-    if i < s.len() { s[i] } else { 0 }
+    result[encoding::widened(a ^ b)]
 }
 
 // The entries for one nibble `a` of the sum so far, decoded: `added` undoes the encoding of the nibble that is added, and `result` has
 // the images of the sum. "Entry e stands in byte e/2, even e in the high half."
 fn write_row(a: u8, added: &[u8], result: &[u8], dst: &mut [u8])
-    requires { ⌜ (length (now added) ≡ 16) × (length (now dst) ≡ 8) × ((v : ℕ) → at (now result) v < 16) ⌝ }
+    requires { ⌜ (a < 16) × (length (now added) ≡ 16) × Nibbles 16 (now added) × (length (now result) ≡ 16) × Nibbles 16 (now result) × (length (now dst) ≡ 8) ⌝ }
     ensures { λ _. ⌜ now (dst .exit) ≡ packed 8 (λ j. at (now (result .entry)) (bitXor a (at (now (added .entry)) j))) ⌝ }
 {
     let mut k: usize = 0;
     while k < 8 {
-        let high = element(result, a ^ added[2 * k]);
-        let low = element(result, a ^ added[2 * k + 1]);
+        let high = image_of_sum(result, a, added[2 * k]);
+        let low = image_of_sum(result, a, added[2 * k + 1]);
         dst[k] = high * 16 + low;
         k += 1;
     }
@@ -36,7 +36,7 @@ fn write_row(a: u8, added: &[u8], result: &[u8], dst: &mut [u8])
 
 // All entries: `sum` undoes the encoding of the sum so far.
 fn write_entries(sum: &[u8], added: &[u8], result: &[u8], dst: &mut [u8])
-    requires { ⌜ (length (now sum) ≡ 16) × (length (now added) ≡ 16) × (length (now dst) ≡ 128) × ((v : ℕ) → at (now result) v < 16) ⌝ }
+    requires { ⌜ (length (now sum) ≡ 16) × Nibbles 16 (now sum) × (length (now added) ≡ 16) × Nibbles 16 (now added) × (length (now result) ≡ 16) × Nibbles 16 (now result) × (length (now dst) ≡ 128) ⌝ }
     ensures { λ _. ⌜ now (dst .exit) ≡ packed 128 (λ e. at (now (result .entry)) (bitXor (at (now (sum .entry)) (e / 16)) (at (now (added .entry)) (e % 16)))) ⌝ }
 {
     let mut i: usize = 0;
@@ -50,7 +50,7 @@ fn write_entries(sum: &[u8], added: &[u8], result: &[u8], dst: &mut [u8])
 
 // The XOR table for the encodings of the sum so far, of the nibble that is added, and of the result, by number.
 pub fn write(section: &[u8], sum: usize, added: usize, result: usize, dst: &mut [u8])
-    requires { ⌜ length (now dst) ≡ 128 ⌝ }
+    requires { ⌜ Permutation (encodingIn (now section) sum) × Permutation (encodingIn (now section) added) × Permutation (encodingIn (now section) result) × (length (now dst) ≡ 128) ⌝ }
     ensures { λ _. ⌜ now (dst .exit) ≡ packed 128 (λ e. encode (encodingIn (now (section .entry)) result) (bitXor (decode (encodingIn (now (section .entry)) sum) (e / 16)) (decode (encodingIn (now (section .entry)) added) (e % 16)))) ⌝ }
 {
     let mut a = [0u8; 16];

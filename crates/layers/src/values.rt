@@ -1,12 +1,12 @@
 // The byte behind the S-box of a cipher, for each byte that a first half or the exit reads.
 ghost use mathlib.Core.Path.{_≡_};
-ghost use Prim.Native.Nat.{_+_, _*_, _/_, _%_, _<_, _≤_};
+ghost use Prim.Native.Nat.{_%_, _^_, _<_, _≤_};
 ghost use lib.Bits.{bitXor};
 ghost use lib.ListN.{length};
 ghost use Rattle.answers.specs.declared.Answer.the-variants.{Accepted};
 ghost use Rattle.bits.specs.Lists.{at, tabulate};
 ghost use Rattle.matrices.specs.Matrices.{product};
-ghost use Rattle.matrices.specs.Rows.{rowsOf};
+ghost use Rattle.matrices.specs.Rows.{rowsOf, stored};
 ghost use Rattle.field.specs.Sbox.{sboxOf, invSboxOf};
 ghost use Rattle.round.specs.Key.{keyOf};
 ghost use Rattle.judgement.specs.Judge.{judge};
@@ -14,34 +14,35 @@ ghost use Rattle.layout.specs.Ciphers.{forCipher};
 ghost use Rattle.whitebox.specs.Bundles.{codingsOf};
 ghost use Rattle.whitebox.specs.Parts.{partsFor};
 ghost use Rattle.whitebox.specs.Words.{substituted};
-ghost use Rattle.entries.specs.Spread.{nibbleByte};
+ghost use Rattle.entries.specs.Spread.{wordIn};
 use crate::inverse;
-use crate::words;
 use bits::encoding;
+use bits::vector;
 use bundle::parts;
 use entries::spread;
 use layout::cipher::reads_of;
 use layout::stage::ROUNDS;
+use matrices::matrix;
 
-// The products of the bytes with one nibble, which add up to those of all bytes.
-fn nibble_products(inverse: &[u64], dst: &mut [u8])
-    requires { ⌜ (16 ≤ length (now inverse)) × (length (now dst) ≡ 32) ⌝ }
-    ensures { λ _. ⌜ now (dst .exit) ≡ tabulate 32 (λ r. product 8 (rowsOf 8 (now (inverse .entry))) (nibbleByte r)) ⌝ }
+// The products of a matrix of 8 rows and the bytes 2^0 to 2^7: its columns.
+fn columns(m: &[u64], basis: &mut [u64])
+    requires { ⌜ (16 ≤ length (now m)) × (length (now basis) ≡ 16) ⌝ }
+    ensures { λ _. ⌜ now (basis .exit) ≡ stored 8 (λ k. product 8 (rowsOf 8 (now (m .entry))) (2 ^ k)) (now (basis .entry)) ⌝ }
 {
-    let mut r: usize = 0;
-    while r < 32 {
-        dst[r] = words::byte_by(inverse, spread::nibble_byte(r));
-        r += 1;
+    let mut k: usize = 0;
+    while k < 8 {
+        matrix::set_row(basis, k, matrix::column(m, 8, k));
+        k += 1;
     }
 }
 
-// Of the byte x: `products` has those of the bytes with one nibble.
-fn substituted(products: &[u8], sbox: &[u8], before: u8, behind: u8, x: usize) -> u8
-    requires { ⌜ (length (now products) ≡ 32) × (length (now sbox) ≡ 256) × (x < 256) ⌝ }
-    ensures { λ r. ⌜ r ≡ bitXor (at (now (sbox .entry)) (bitXor (bitXor (at (now (products .entry)) (x % 16)) (at (now (products .entry)) (16 + x / 16))) before)) behind ⌝ }
+// Of the byte y: `products` has a row for each byte with one nibble, and they add up to the product of y.
+fn substituted(products: &[u64], sbox: &[u8], before: u8, behind: u8, y: u8) -> u8
+    requires { ⌜ (64 ≤ length (now products)) × (length (now sbox) ≡ 256) ⌝ }
+    ensures { λ r. ⌜ r ≡ bitXor (at (now (sbox .entry)) (bitXor (wordIn (now (products .entry)) y % 256) before)) behind ⌝ }
 {
-    let y = products[x % 16] ^ products[16 + x / 16] ^ before;
-    sbox[encoding::widened(y)] ^ behind
+    let z = vector::byte(spread::word_of(products, y), 0) ^ before;
+    sbox[encoding::widened(z)] ^ behind
 }
 
 // The S-box, or the inverse S-box.
@@ -60,13 +61,14 @@ fn substitute(cipher: u64, inverse: &[u64], before: u8, behind: u8, read: &[u8],
     requires { ⌜ (16 ≤ length (now inverse)) × (length (now read) ≡ 256) × (length (now dst) ≡ 256) ⌝ }
     ensures { λ _. ⌜ now (dst .exit) ≡ tabulate 256 (λ x. bitXor (forCipher cipher sboxOf invSboxOf (bitXor (product 8 (rowsOf 8 (now (inverse .entry))) (at (now (read .entry)) x)) before)) behind) ⌝ }
 {
-    let mut products = [0u8; 32];
-    nibble_products(inverse, &mut products);
+    let mut basis = [0u64; 16];
+    let mut products = [0u64; 2 * spread::NIBBLE_ROWS];
+    columns(inverse, &mut basis);
+    spread::nibble_words(&basis, &mut products);
     let sbox = sbox_of(cipher);
     let mut x: usize = 0;
     while x < 256 {
-        let y = encoding::widened(read[x]);
-        dst[x] = substituted(&products, &sbox, before, behind, y);
+        dst[x] = substituted(&products, &sbox, before, behind, read[x]);
         x += 1;
     }
 }

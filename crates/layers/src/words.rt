@@ -5,6 +5,7 @@ ghost use lib.ListN.{length};
 ghost use Rattle.answers.specs.declared.Answer.the-variants.{Accepted};
 ghost use Rattle.bits.specs.Lists.{partOf};
 ghost use Rattle.bits.specs.Bytes.{number, byte, placed};
+ghost use Rattle.bits.specs.Vectors.{dot};
 ghost use Rattle.bits.specs.Words.{value};
 ghost use Rattle.matrices.specs.Matrices.{product, matrixOf};
 ghost use Rattle.matrices.specs.Rows.{rowsOf, stored};
@@ -38,61 +39,68 @@ fn power(k: usize) -> u8
     one << k
 }
 
-fn vector_of(x: u8) -> Vector
-    ensures { λ r. ⌜ value r ≡ x ⌝ }
+// r with one bit more at the bottom: the parity of the ones that two words share.
+fn push_parity(r: u64, a: u64, b: u64) -> u64
+    requires { ⌜ r < 2 ^ 63 ⌝ }
+    ensures { λ s. ⌜ s ≡ r * 2 + dot a b ⌝ }
 {
-    Vector {
-        hi: 0,
-        lo: x as u64,
-    }
+    r * 2 + u64::count_ones(a & b) as u64 % 2
 }
 
-// The product of a matrix of 8 rows and a byte.
-pub(crate) fn byte_by(m: &[u64], x: u8) -> u8
-    requires { ⌜ 16 ≤ length (now m) ⌝ }
-    ensures { λ r. ⌜ r ≡ product 8 (rowsOf 8 (now (m .entry))) x ⌝ }
-{
-    let v = matrix::multiply(m, 8, vector_of(x));
-    vector::byte(v, 0)
-}
-
-// The same, of the matrix that 8 bytes write.
+// The product of the matrix of 8 rows that bytes write and a byte.
 fn byte_by_part(p: &[u8], x: u8) -> u8
     requires { ⌜ 8 ≤ length (now p) ⌝ }
     ensures { λ r. ⌜ r ≡ product 8 (matrixOf 1 (now (p .entry))) x ⌝ }
 {
-    let v = vector_of(x);
-    let mut r = Vector { hi: 0, lo: 0 };
+    let mut r: u64 = 0;
     let mut i: usize = 0;
     while i < 8 {
-        r = vector::push_bit(r, vector::parity(vector_of(p[i]), v));
+        r = push_parity(r, p[i] as u64, x as u64);
         i += 1;
     }
-    vector::byte(r, 0)
+    r as u8
 }
 
-// Byte y at place i of n bytes that are else 0.
-fn placed(n: usize, i: usize, y: u8) -> Vector
-    requires { ⌜ (n ≤ 16) × (i < n) ⌝ }
-    ensures { λ r. ⌜ value r ≡ placed n i y ⌝ }
-{
-    let mut b = [0u8; 16];
-    b[i] = y;
-    vector::read(&b, 0, n)
-}
-
-// The byte y times column q of MixColumns, or of InvMixColumns.
-fn mixed(cipher: u64, q: usize, y: u8) -> Vector
+// The byte y times column q of MixColumns, or of InvMixColumns: four bytes in a word.
+fn mixed(cipher: u64, q: usize, y: u8) -> u64
     requires { ⌜ q < 4 ⌝ }
-    ensures { λ r. ⌜ value r ≡ number 4 (λ t. mul (entry (forCipher cipher mixRows invMixRows) t q) y) ⌝ }
+    ensures { λ r. ⌜ r ≡ number 4 (λ t. mul (entry (forCipher cipher mixRows invMixRows) t q) y) ⌝ }
 {
-    let mut b = [0u8; 16];
+    let mut v: u64 = 0;
     let mut t: usize = 0;
     while t < 4 {
-        b[t] = field::product(coefficient(cipher, t, q), y);
+        v = v * 256 + field::product(coefficient(cipher, t, q), y) as u64;
         t += 1;
     }
-    vector::read(&b, 0, 4)
+    v
+}
+
+// The 32 rows of the matrix that bytes write, a word to a row.
+fn words_of(p: &[u8]) -> [u64; 32]
+    requires { ⌜ 128 ≤ length (now p) ⌝ }
+    ensures { λ r. ⌜ r ≡ matrixOf 4 (now (p .entry)) ⌝ }
+{
+    let mut rows = [0u64; 32];
+    let mut i: usize = 0;
+    while i < 32 {
+        rows[i] = bundle::layout::number_at(p, i * 4) as u64;
+        i += 1;
+    }
+    rows
+}
+
+// The product of 32 rows, a word to a row, and a vector.
+fn by_words(rows: &[u64], v: u64) -> u64
+    requires { ⌜ 32 ≤ length (now rows) ⌝ }
+    ensures { λ r. ⌜ r ≡ product 32 (now (rows .entry)) v ⌝ }
+{
+    let mut r: u64 = 0;
+    let mut i: usize = 0;
+    while i < 32 {
+        r = push_parity(r, rows[i], v);
+        i += 1;
+    }
+    r
 }
 
 // Each of n bytes times its byte matrix: those of the section that are numbered from `first` on.
@@ -112,7 +120,8 @@ fn by_bytes(section: &[u8], first: usize, n: usize, v: Vector) -> Vector
     vector::read(&b, 0, n)
 }
 
-// Entry and second halves: the byte is placed at i of n bytes and multiplied by the matrix m, then each byte by its byte matrix.
+// Entry and second halves: the byte is placed at i of n bytes and multiplied by the matrix m, then each byte by its byte matrix. The product of m
+// and 2^k at that place is a column of m.
 pub fn spread_basis(bundle: &[u8], m: &[u64], n: usize, i: usize, first: usize, basis: &mut [u64])
     requires { ⌜ (frame 10 (now bundle) ≡ Accepted) × (n ≤ 16) × (i < n) × (first + n ≤ tenByteMatrices) × (16 * n ≤ length (now m)) × (length (now basis) ≡ 16) ⌝ }
     ensures { λ _. ⌜ now (basis .exit) ≡ stored 8 (λ k. spreadWord 10 (now (bundle .entry)) (rowsOf (8 * n) (now (m .entry))) n i first (2 ^ k)) (now (basis .entry)) ⌝ }
@@ -120,7 +129,7 @@ pub fn spread_basis(bundle: &[u8], m: &[u64], n: usize, i: usize, first: usize, 
     let section = sections::section(bundle, 1);
     let mut k: usize = 0;
     while k < 8 {
-        let v = matrix::multiply(m, 8 * n, placed(n, i, power(k)));
+        let v = matrix::column(m, 8 * n, 8 * (n - 1 - i) + k);
         matrix::set_row(basis, k, by_bytes(section, first, n, v));
         k += 1;
     }
@@ -131,27 +140,38 @@ pub fn mixed_basis(cipher: u64, p: &[u8], q: usize, basis: &mut [u64])
     requires { ⌜ (128 ≤ length (now p)) × (q < 4) × (length (now basis) ≡ 16) ⌝ }
     ensures { λ _. ⌜ now (basis .exit) ≡ stored 8 (λ k. product 32 (matrixOf 4 (now (p .entry))) (number 4 (λ t. mul (entry (forCipher cipher mixRows invMixRows) t q) (2 ^ k)))) (now (basis .entry)) ⌝ }
 {
-    let mut m = [0u64; 64];
-    matrix::read(p, &mut m, 4);
+    let rows = words_of(p);
     let mut k: usize = 0;
     while k < 8 {
-        let v = matrix::multiply(&m, 32, mixed(cipher, q, power(k)));
-        matrix::set_row(basis, k, v);
+        let v = by_words(&rows, mixed(cipher, q, power(k)));
+        matrix::set_row(basis, k, Vector { hi: 0, lo: v });
         k += 1;
     }
 }
 
-// Exit: the byte is placed at i of a block and multiplied by the output matrix, which bytes write.
+// The column of a matrix of 128 rows, which bytes write, at digit k of byte i: that digit of byte i of each row.
+fn written_column(p: &[u8], i: usize, k: usize) -> Vector
+    requires { ⌜ (2048 ≤ length (now p)) × (i < 16) × (k < 8) ⌝ }
+    ensures { λ r. ⌜ value r ≡ product 128 (matrixOf 16 (now (p .entry))) (placed 16 i (2 ^ k)) ⌝ }
+{
+    let mut v = Vector { hi: 0, lo: 0 };
+    let mut r: usize = 0;
+    while r < 128 {
+        let b = (p[r * 16 + i] >> k) % 2;
+        v = vector::push_bit(v, b as u64);
+        r += 1;
+    }
+    v
+}
+
+// Exit: the byte is placed at i of a block and multiplied by the output matrix, which bytes write: of 2^k that is a column of the matrix.
 pub fn placed_basis(p: &[u8], i: usize, basis: &mut [u64])
     requires { ⌜ (2048 ≤ length (now p)) × (i < 16) × (length (now basis) ≡ 16) ⌝ }
     ensures { λ _. ⌜ now (basis .exit) ≡ stored 8 (λ k. product 128 (matrixOf 16 (now (p .entry))) (placed 16 i (2 ^ k))) (now (basis .entry)) ⌝ }
 {
-    let mut m = [0u64; 256];
-    matrix::read(p, &mut m, 16);
     let mut k: usize = 0;
     while k < 8 {
-        let v = matrix::multiply(&m, 128, placed(16, i, power(k)));
-        matrix::set_row(basis, k, v);
+        matrix::set_row(basis, k, written_column(p, i, k));
         k += 1;
     }
 }

@@ -1,6 +1,6 @@
 // Matrices of up to 128 rows: row i is words 2 i and 2 i + 1 of a slice.
 ghost use mathlib.Core.Path.{_≡_};
-ghost use Prim.Native.Nat.{_+_, _*_, _<_, _≤_};
+ghost use Prim.Native.Nat.{_+_, _*_, _^_, _<_, _≤_};
 ghost use lib.ListN.{length};
 ghost use Rattle.bits.specs.Lists.{at};
 ghost use Rattle.bits.specs.Words.{value};
@@ -44,6 +44,23 @@ pub fn multiply(m: &[u64], n: usize, v: Vector) -> Vector
         i += 1;
     }
     p
+}
+
+// Column s of a matrix of n rows, counted from the bottom digit: the product with 2^s. Digit s lies in the same word of each row, the high word being first.
+pub fn column(m: &[u64], n: usize, s: usize) -> Vector
+    requires { ⌜ (n ≤ 128) × (2 * n ≤ length (now m)) × (s < 128) ⌝ }
+    ensures { λ r. ⌜ value r ≡ product n (rowsOf n (now (m .entry))) (2 ^ s) ⌝ }
+{
+    let word = 1 - s / 64;
+    let place = s % 64;
+    let mut c = Vector { hi: 0, lo: 0 };
+    let mut i = 0;
+    while i < n {
+        let b = (m[2 * i + word] >> place) % 2;
+        c = vector::push_bit(c, b);
+        i += 1;
+    }
+    c
 }
 
 // The matrix of 8 w rows that bytes write.

@@ -123,7 +123,7 @@ fn sum_so_far(added: usize, spread: usize, before: usize) -> usize
 
 // XOR table x of a layer of width m whose results are numbered from `first` on.
 fn xor_table(bundle: &[u8], m: usize, first: usize, x: usize, dst: &mut [u8])
-    requires { ⌜ GoodWidth m × (first + layerResults m ≤ tenEncodings) × (x < xors m) × (length (now dst) ≡ 128) ⌝ }
+    requires { ⌜ (judge 10 (now bundle) ≡ Accepted) × GoodWidth m × (first + layerResults m ≤ tenEncodings) × (x < xors m) × (length (now dst) ≡ 128) ⌝ }
     ensures { λ _. ⌜ now (dst .exit) ≡ xorTable (codingsOf 10 (now (bundle .entry)) .encoding) m first x ⌝ }
 {
     let d = 2 * m;

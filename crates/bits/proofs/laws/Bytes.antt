@@ -1,22 +1,19 @@
 -- Laws, not definitions: numbers as bytes and back.
 -- Assumes nothing.
-use mathlib.Core.Bool.{cond}
 use mathlib.Core.List.{List}
-use mathlib.Core.Path.{_≡_, ap, _∙_}
+use mathlib.Core.Path.{_≡_, sym, ap, _∙_}
 use Prim.Native.Nat.{ℕ, suc, _+_, _-_, _*_, _/_, _%_, _^_, _≤_, _<_}
-use native.Mathlib.Decide.{ℕ-discrete}
 use native.Mathlib.Nat.{zero-add}
 use native.Mathlib.Omega.{arith}
-use borrow.Author.Tests.{eq-eqb, ne-eqb}
-use lib.Dec.{lit<, eqb}
-use lib.ListN.{length, set, replicate, length-replicate}
-use lib.Seq.{getD-set-same, getD-set-other}
+use lib.Dec.{lit<}
+use lib.ListN.{length}
+use lib.Pow.{pow-add}
 use Rattle.bits.specs.Bytes.{Bytes, Block, byte, number, numberOf, bytesOf, placed}
 use Rattle.bits.specs.Groups.{group, xorAll}
 use Rattle.bits.specs.Lists.{at}
 use Rattle.bits.proofs.laws.Filled.{Filled, filled-at}
-use Rattle.bits.proofs.laws.Groups.{group-lt, joined-lt, joined-same, joined-group, group-joined, xor-placed}
-use Rattle.bits.proofs.laws.Lists.{length-tabulate, at-tabulate, tabulate-below, ext-at, zero-at}
+use Rattle.bits.proofs.laws.Groups.{group-lt, joined-lt, joined-same, joined-group, group-joined, joined-one, xor-placed}
+use Rattle.bits.proofs.laws.Lists.{length-tabulate, at-tabulate, tabulate-below, ext-at}
 
 -- ---- numbers
 pub byte-lt : (n i v : ℕ) → byte n i v < 256
@@ -61,23 +58,13 @@ pub xor-of-placed : (n v : ℕ) → v < 2 ^ (8 * n) → xorAll n (λ i. placed n
 unfolding placed
 xor-of-placed n v h = xor-placed 8 n (λ i. byte n i v) (λ i l. byte-lt n i v) ∙ joined-group 8 n v h
 
--- ---- the number r of the first n places of a list, as `read` gives it
-pub number-first : (n : ℕ) (t : List ℕ) (f : ℕ → ℕ) (r : ℕ) → r ≡ number n (λ j. at t (0 + j)) → ((j : ℕ) → j < n → at t j ≡ f j) → r ≡ number n f
-number-first n t f r e is = e ∙ joined-same 8 n _ _ (λ j h. ap (at t) (zero-add j) ∙ is j h)
-
--- Of a list that a loop fills.
-pub filled-number : {m : ℕ} {f : ℕ → ℕ} {t : List ℕ} {i : ℕ} (n r : ℕ) → Filled m f t i → n ≤ i → r ≡ number n (λ j. at t (0 + j)) → r ≡ number n f
-filled-number {f = f} {t = t} n r F h e = number-first n t f r e (λ j k. filled-at F j (omega arith))
-
--- Of a list of zeros with y at place i.
-pub placed-number : (m n i y r : ℕ) → n ≤ m → i < n → r ≡ number n (λ j. at (set (replicate m 0) i y) (0 + j)) → r ≡ placed n i y
+-- The byte 2^k alone is one digit of the number.
+pub placed-power : (n i k : ℕ) → i < n → 2 ^ (8 * (n - 1 - i) + k) ≡ placed n i (2 ^ k)
 unfolding placed
-placed-number m n i y r h k e = number-first n (set (replicate m 0) i y) (λ j. cond (eqb j i) y 0) r e (λ j g. one j)
-  where
-    one : (j : ℕ) → at (set (replicate m 0) i y) j ≡ cond (eqb j i) y 0
-    one j = elim (ℕ-discrete j i) [
-      | yes is ↦
-          let long = length-replicate {A = ℕ} m 0 in
-          rw (eq-eqb j i is) (ap (at (set (replicate m 0) i y)) is ∙ getD-set-same (replicate m 0) i y 0 (omega arith))
-      | no not ↦ rw (ne-eqb j i not) (getD-set-other (replicate m 0) i j y 0 not ∙ zero-at m j)
-    ]
+placed-power n i k h =
+    let digit : 8 * (n - 1 - i) + k ≡ k + 8 * (n - suc i) = omega arith in
+    ap (λ (x : ℕ). 2 ^ x) digit ∙ pow-add 2 k (8 * (n - suc i)) ∙ sym (joined-one 8 n i (2 ^ k) h)
+
+-- ---- the number r of the first n places of a list that a loop fills, as `read` gives it
+pub filled-number : {m : ℕ} {f : ℕ → ℕ} {t : List ℕ} {i : ℕ} (n r : ℕ) → Filled m f t i → n ≤ i → r ≡ number n (λ j. at t (0 + j)) → r ≡ number n f
+filled-number {t = t} n r F h e = e ∙ joined-same 8 n _ _ (λ j k. ap (at t) (zero-add j) ∙ filled-at F j (omega arith))

@@ -5,9 +5,10 @@ use mathlib.Core.Logic.{_⊎_, inl, inr, ⊎-elim}
 use mathlib.Core.Path.{_≡_, refl, sym, ap, ap₂, _∙_, subst}
 use Prim.Native.Nat.{ℕ, zero, suc, _+_, _-_, _*_, _/_, _%_, _^_, _<_}
 use native.Mathlib.Decide.{decLt}
-use native.Mathlib.Nat.{mod-lt, mul-suc, mul-zero, sub-self, div-one, add-comm}
+use native.Mathlib.Nat.{mod-lt, mul-suc, mul-zero, mul-assoc, sub-self, div-one, add-comm, add-zero}
 use native.Mathlib.Numerals.{add-one}
 use native.Mathlib.Omega.{arith}
+use borrow.Author.Tests.{eq-eqb, ne-eqb}
 use lib.Arith.{digits-lt}
 use lib.Bits.{bitXor, xor-shr, xor-mod, xor-block}
 use lib.Dec.{eqb}
@@ -73,6 +74,24 @@ joined-xor k zero f g a b = refl
 joined-xor k (suc n) f g a b =
     ap (λ (x : ℕ). x * 2 ^ k + bitXor (f n) (g n)) (joined-xor k n f g (λ i h. a i (omega arith)) (λ i h. b i (omega arith)))
     ∙ sym (xor-block k (joined k n f) (joined k n g) (f n) (g n) (a n (omega arith)) (b n (omega arith)))
+
+-- One group alone, the others being 0.
+pub joined-one : (k n i x : ℕ) → i < n → joined k n (λ j. cond (eqb j i) x 0) ≡ x * 2 ^ (k * (n - suc i))
+unfolding joined
+joined-one k zero i x h = absurd (omega arith)
+joined-one k (suc n) i x h =
+    ⊎-elim
+    (λ (p : i < n).
+    let up : suc (n - suc i) ≡ suc n - suc i = omega arith in
+    ap₂ (λ (a b : ℕ). a * 2 ^ k + b) (joined-one k n i x p) (rw (ne-eqb n i (omega arith)))
+    ∙ add-zero (x * 2 ^ (k * (n - suc i)) * 2 ^ k)
+    ∙ mul-assoc x (2 ^ (k * (n - suc i))) (2 ^ k)
+    ∙ ap (λ (a : ℕ). x * a) (sym (wider k (n - suc i)) ∙ ap (λ (a : ℕ). 2 ^ (k * a)) up))
+    (λ (p : i ≡ n).
+    let none : k * (suc n - suc i) ≡ 0 = ap (λ (a : ℕ). k * (suc n - suc a)) p ∙ ap (λ (a : ℕ). k * a) (sub-self (suc n)) ∙ mul-zero k in
+    ap₂ (λ (a b : ℕ). a * 2 ^ k + b) (joined-zero k n _ (λ j l. rw (ne-eqb j i (omega arith)))) (rw (eq-eqb n i (sym p)))
+    ∙ let one : 0 * 2 ^ k + x ≡ x * 1 = omega arith in one ∙ ap (λ (a : ℕ). x * 2 ^ a) (sym none))
+    (below-suc h)
 
 -- One group more, as a loop has it.
 pub joined-next : (k n : ℕ) (f : ℕ → ℕ) → joined k (n + 1) f ≡ joined k n f * 2 ^ k + f n

@@ -2,20 +2,21 @@
 -- nibble, copy m bytes.
 -- Assumes nothing.
 use mathlib.Core.Bool.{Bool, true, false, cond}
-use mathlib.Core.List.{List, _++_}
+use mathlib.Core.List.{List}
 use mathlib.Core.Logic.{⊎-elim, _⊎_, inl, inr}
 use mathlib.Core.Path.{_≡_, refl, sym, ap, ap₂, _∙_, subst}
 use Prim.Native.Nat.{ℕ, zero, suc, _+_, _-_, _*_, _/_, _%_, _≤_, _<_}
 use native.Mathlib.Decide.{ℕ-discrete, decLt}
 use native.Mathlib.Omega.{arith}
 use lib.Dec.{eqb}
-use lib.ListN.{length, getD, set, take, drop, length-set, length-drop, List·getD-append}
-use lib.Seq.{ext-getD, getD-set-same, getD-set-other, getD-take, getD-drop, getD-append-add, paste, length-paste, length-take-le, length-paste-head}
+use lib.ListN.{length, getD, set, drop, length-set, length-drop}
+use lib.Seq.{ext-getD, getD-set-same, getD-set-other, getD-drop, paste, length-paste}
 use Rattle.bits.specs.Bytes.{Bytes, number}
 use Rattle.bits.specs.Groups.{joined}
 use Rattle.bits.specs.Lists.{at}
 use Rattle.bits.specs.Nibbles.{pack, half, nibble, setNibble, packed}
 use Rattle.bits.proofs.laws.Lists.{length-tabulate, at-tabulate, tabulate-below, set-below}
+use Rattle.bits.proofs.laws.Pasted.{paste-lo, paste-mid, paste-hi}
 
 pub length-packed : (n : ℕ) (f : ℕ → ℕ) → length (packed n f) ≡ n
 unfolding packed
@@ -83,30 +84,6 @@ setNibble-packed n f g b q v h e o =
         ∙ ap₂ pack (sym (o (2 * i) (omega arith) (λ y. z (omega arith)))) (sym (o (2 * i + 1) (omega arith) (λ y. z (omega arith))))
         ∙ sym (at-packed n g i c)
 
--- ---- reading a list into which m elements were copied at place a
-module _ (d : List ℕ) (a : ℕ) (s : List ℕ) (m : ℕ) (fa : a + m ≤ length d) (fs : m ≤ length s) where
-  head-long : length (take a d ++ take m s) ≡ a + m
-  head-long = length-paste-head d a s m (omega arith) fs
-
-  paste-lo : (i : ℕ) → i < a → getD (paste d a s m) i 0 ≡ getD d i 0
-  paste-lo i h =
-      List·getD-append (take a d ++ take m s) (drop (a + m) d) 0 i (omega (arith, head-long))
-      ∙ List·getD-append (take a d) (take m s) 0 i (omega (arith, length-take-le a d (omega arith)))
-      ∙ getD-take a d i 0 h
-
-  paste-mid : (j : ℕ) → j < m → getD (paste d a s m) (a + j) 0 ≡ getD s j 0
-  paste-mid j h =
-      List·getD-append (take a d ++ take m s) (drop (a + m) d) 0 (a + j) (omega (arith, head-long))
-      ∙ ap (λ (k : ℕ). getD (take a d ++ take m s) (k + j) 0) (sym (length-take-le a d (omega arith)))
-      ∙ getD-append-add (take a d) (take m s) j 0
-      ∙ getD-take m s j 0 h
-
-  paste-hi : (j : ℕ) → getD (paste d a s m) (a + m + j) 0 ≡ getD d (a + m + j) 0
-  paste-hi j =
-      ap (λ (k : ℕ). getD (paste d a s m) (k + j) 0) (sym head-long)
-      ∙ getD-append-add (take a d ++ take m s) (drop (a + m) d) j 0
-      ∙ getD-drop (a + m) d j 0
-
 -- m bytes of one list, from `s` on, copied to place `a` of another
 pub paste-packed : (n k : ℕ) (f t g : ℕ → ℕ) (a s m : ℕ) → a + m ≤ n → s + m ≤ k
     → ((j : ℕ) → j < 2 * a → g j ≡ f j) → ((j : ℕ) → j < 2 * n → 2 * (a + m) ≤ j → g j ≡ f j)
@@ -132,12 +109,12 @@ paste-packed n k f t g a s m fa fs lo hi mid =
 
     in-lo : (i : ℕ) → i < a → i < n → getD (paste d a e m) i 0 ≡ getD (packed n g) i 0
     in-lo i h c =
-        paste-lo d a e m fa′ fs′ i h ∙ at-packed n f i c
+        paste-lo d a e m (omega (arith, fa′)) fs′ i h ∙ at-packed n f i c
         ∙ ap₂ pack (sym (lo (2 * i) (omega arith))) (sym (lo (2 * i + 1) (omega arith))) ∙ sym (at-packed n g i c)
 
     in-mid : (j : ℕ) → j < m → getD (paste d a e m) (a + j) 0 ≡ getD (packed n g) (a + j) 0
     in-mid j h =
-        paste-mid d a e m fa′ fs′ j h ∙ getD-drop s (packed k t) j 0 ∙ at-packed k t (s + j) (omega arith)
+        paste-mid d a e m (omega (arith, fa′)) fs′ j h ∙ getD-drop s (packed k t) j 0 ∙ at-packed k t (s + j) (omega arith)
         ∙ ap₂ pack
         (ap t (omega arith) ∙ sym (mid (2 * j) (omega arith)) ∙ ap g (omega arith))
         (ap t (omega arith) ∙ sym (mid (2 * j + 1) (omega arith)) ∙ ap g (omega arith))
@@ -145,7 +122,7 @@ paste-packed n k f t g a s m fa fs lo hi mid =
 
     in-hi : (j : ℕ) → a + m + j < n → getD (paste d a e m) (a + m + j) 0 ≡ getD (packed n g) (a + m + j) 0
     in-hi j c =
-        paste-hi d a e m fa′ fs′ j ∙ at-packed n f (a + m + j) c
+        paste-hi d a e m (omega (arith, fa′)) fs′ j ∙ at-packed n f (a + m + j) c
         ∙ ap₂ pack (sym (hi (2 * (a + m + j)) (omega arith) (omega arith))) (sym (hi (2 * (a + m + j) + 1) (omega arith) (omega arith)))
         ∙ sym (at-packed n g (a + m + j) c)
 

@@ -1,9 +1,10 @@
--- Laws, not definitions: of a loop that copies m elements of a list t, from place `from` on, into a list d, from place `to` on, one a turn; and the first of
--- elements that are copied.
+-- Laws, not definitions: of a loop that copies m elements of a list t, from place `from` on, into a list d, from place `to` on, one a turn; and what stands where
+-- in a list into which elements were copied.
 -- Assumes nothing.
 use mathlib.Core.List.{List, _++_}
 use mathlib.Core.Path.{_≡_, sym, ap, _∙_}
 use Prim.Native.Nat.{ℕ, _+_, _≤_, _<_}
+use native.Mathlib.Nat.{add-zero}
 use native.Mathlib.Numerals.{add-one}
 use native.Mathlib.Omega.{arith}
 use lib.ListN.{length, set, take, drop, length-drop, List·getD-append}
@@ -40,14 +41,33 @@ module _ {d t : List ℕ} {to from m : ℕ} {a : List ℕ} {b : ℕ} (I : Pasted
       let e : b ≡ m = omega arith in
       I .done ∙ ap (paste d to (drop from t)) e
 
-  pub length-pasted : m ≤ b → length a ≡ length d
-  length-pasted h = ap length (pasted-all h) ∙ length-paste d to (drop from t) m (I .room) (omega (arith, length-drop from t))
+  pub length-pasted : length a ≡ length d
+  length-pasted = ap length (I .done) ∙ length-paste d to (drop from t) b (omega arith) (omega (arith, length-drop from t))
 
--- The first of m elements that are copied to place a.
-pub paste-first : (d s : List ℕ) (a m : ℕ) → a ≤ length d → 0 < m → m ≤ length s → at (paste d a s m) a ≡ at s 0
-paste-first d s a m fd some fs =
-    let seam : a ≡ length (take a d) + 0 = omega (arith, length-take-le a d fd) in
-    List·getD-append (take a d ++ take m s) (drop (a + m) d) 0 a (omega (arith, length-paste-head d a s m fd fs))
-    ∙ ap (at (take a d ++ take m s)) seam
-    ∙ getD-append-add (take a d) (take m s) 0 0
-    ∙ getD-take m s 0 0 some
+-- ---- a list into which m elements were copied at place a: what stands before them, they themselves, and what stands behind them
+module _ (d : List ℕ) (a : ℕ) (s : List ℕ) (m : ℕ) (fa : a ≤ length d) (fs : m ≤ length s) where
+  head-long : length (take a d ++ take m s) ≡ a + m
+  head-long = length-paste-head d a s m fa fs
+
+  pub paste-lo : (i : ℕ) → i < a → at (paste d a s m) i ≡ at d i
+  paste-lo i h =
+      List·getD-append (take a d ++ take m s) (drop (a + m) d) 0 i (omega (arith, head-long))
+      ∙ List·getD-append (take a d) (take m s) 0 i (omega (arith, length-take-le a d fa))
+      ∙ getD-take a d i 0 h
+
+  pub paste-mid : (j : ℕ) → j < m → at (paste d a s m) (a + j) ≡ at s j
+  paste-mid j h =
+      List·getD-append (take a d ++ take m s) (drop (a + m) d) 0 (a + j) (omega (arith, head-long))
+      ∙ ap (λ (k : ℕ). at (take a d ++ take m s) (k + j)) (sym (length-take-le a d fa))
+      ∙ getD-append-add (take a d) (take m s) j 0
+      ∙ getD-take m s j 0 h
+
+  pub paste-hi : (j : ℕ) → at (paste d a s m) (a + m + j) ≡ at d (a + m + j)
+  paste-hi j =
+      ap (λ (k : ℕ). at (paste d a s m) (k + j)) (sym head-long)
+      ∙ getD-append-add (take a d ++ take m s) (drop (a + m) d) j 0
+      ∙ getD-drop (a + m) d j 0
+
+  -- the first of them
+  pub paste-first : 0 < m → at (paste d a s m) a ≡ at s 0
+  paste-first some = ap (at (paste d a s m)) (sym (add-zero a)) ∙ paste-mid 0 some

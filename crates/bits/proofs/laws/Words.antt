@@ -24,6 +24,11 @@ dot-wide hi lo vhi vlo h k =
     ∙ ap (λ (x : ℕ). x % 2)
     (sym (ones-cat 64 (bitAnd hi vhi) (bitAnd lo vlo) (and-lt 64 lo vlo h k)) ∙ ap ones (sym (and-block 64 hi vhi lo vlo h k)))
 
+-- A low word alone.
+pub wide-alone : (lo : ℕ) → wide 0 lo ≡ lo
+unfolding wide
+wide-alone lo = omega arith
+
 -- The ones of one word that hold those of two.
 pub ones-both : (hi lo vhi vlo : ℕ) → hi < 2 ^ 64 → lo < 2 ^ 64 → vhi < 2 ^ 64 → vlo < 2 ^ 64
     → ones (bitXor (bitAnd hi vhi) (bitAnd lo vlo)) ≤ 64
@@ -114,7 +119,7 @@ pushed-words hi lo b k =
     ∙ words)
 
 -- A power of 2.
-shifted : (s : ℕ) → s < 64 → 1 * 2 ^ s % 2 ^ 64 ≡ 2 ^ s
+pub shifted : (s : ℕ) → s < 64 → 1 * 2 ^ s % 2 ^ 64 ≡ 2 ^ s
 shifted s h = ap (λ (x : ℕ). x % 2 ^ 64) (one-mul (2 ^ s)) ∙ mod-eq-of-lt (pow-lt h)
 
 -- A vector of 128 bits has digit s.

@@ -2,7 +2,8 @@
 -- Assumes nothing.
 use mathlib.Core.Bool.{cond}
 use mathlib.Core.Path.{_≡_, refl, sym, ap, ap₂, _∙_}
-use Prim.Native.Nat.{ℕ, zero, suc, _^_, _≤_, _<_}
+use Prim.Native.Nat.{ℕ, zero, suc, _+_, _^_, _≤_, _<_}
+use native.Mathlib.Nat.{add-zero, add-suc}
 use native.Mathlib.Decide.{ℕ-discrete}
 use native.Mathlib.Omega.{arith}
 use borrow.Author.Tests.{eq-eqb, ne-eqb}
@@ -10,7 +11,7 @@ use lib.Bits.{bitXor, xor-lt, xor-self, xor-zero-r}
 use lib.Dec.{eqb}
 use lib.Pow.{pow-pos}
 use Rattle.bits.specs.Groups.{xorAll}
-use Rattle.bits.proofs.laws.Xor.{Linear, xor-four}
+use Rattle.bits.proofs.laws.Xor.{Linear, xor-assoc, xor-four}
 
 pub xorAll-same : (n : ℕ) (f g : ℕ → ℕ) → ((i : ℕ) → i < n → f i ≡ g i) → xorAll n f ≡ xorAll n g
 unfolding xorAll
@@ -45,6 +46,15 @@ unfolding xorAll
 xorAll-swap zero m f = sym (xorAll-zero m)
 xorAll-swap (suc n) m f =
     ap (λ (x : ℕ). bitXor x (xorAll m (f n))) (xorAll-swap n m f) ∙ sym (xorAll-xor m (λ j. xorAll n (λ i. f i j)) (f n))
+
+-- The xor of n numbers and of m more behind them.
+pub xorAll-split : (n m : ℕ) (f : ℕ → ℕ) → xorAll (n + m) f ≡ bitXor (xorAll n f) (xorAll m (λ i. f (n + i)))
+unfolding xorAll
+xorAll-split n zero f = ap (λ (k : ℕ). xorAll k f) (add-zero n) ∙ sym (xor-zero-r (xorAll n f))
+xorAll-split n (suc m) f =
+    ap (λ (k : ℕ). xorAll k f) (add-suc n m)
+    ∙ ap (λ (x : ℕ). bitXor x (f (n + m))) (xorAll-split n m f)
+    ∙ xor-assoc (xorAll n f) (xorAll m (λ i. f (n + i))) (f (n + m))
 
 -- The xor of linear maps is linear.
 pub linear-xorAll : (n : ℕ) (f : ℕ → ℕ → ℕ) → ((i : ℕ) → Linear (f i)) → Linear (λ x. xorAll n (λ i. f i x))

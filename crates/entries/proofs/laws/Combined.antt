@@ -1,25 +1,22 @@
 -- Laws, not definitions: the word of a byte is linear in it, so it is the xor of the words of its nibbles.
 -- Assumes nothing.
-use mathlib.Core.List.{List, _++_}
+use mathlib.Core.List.{List}
 use mathlib.Core.Path.{_≡_, sym, ap, ap₂, _∙_}
-use Prim.Native.Nat.{ℕ, _+_, _*_, _/_, _%_, _^_, _<_}
+use Prim.Native.Nat.{ℕ, zero, suc, _+_, _*_, _/_, _%_, _^_, _<_}
+use native.Mathlib.Decide.{decLt}
 use native.Mathlib.Nat.{zero-mul, one-mul}
 use native.Mathlib.Omega.{arith}
 use borrow.Author.Tests.{lt-ltb, le-ltb}
 use lib.Bits.{bitXor, xor-self, xor-zero-l, xor-zero-r, xor-comm, xor-disjoint, and-shifted}
-use lib.ListN.{length, take, drop, List·getD-append}
-use lib.Seq.{getD-take, getD-drop}
-use Rattle.bits.specs.Bytes.{Bytes, byte, bytesOf}
-use Rattle.bits.specs.Lists.{at, tabulate, concat}
+use lib.ListN.{length}
+use Rattle.bits.specs.Groups.{xorAll}
 use Rattle.bits.specs.Vectors.{dot}
-use Rattle.bits.proofs.laws.Bytes.{at-bytesOf, length-bytesOf}
-use Rattle.bits.proofs.laws.Groups.{group-xor}
-use Rattle.bits.proofs.laws.Lists.{length-concat, at-concat, concat-same, at-tabulate, length-tabulate, tabulate-ext, ext-at}
 use Rattle.bits.proofs.laws.Vectors.{dot-power, dot-xor, dot-lt}
-use Rattle.bits.proofs.laws.Multiples.{row-inside}
 use Rattle.bits.proofs.laws.Xor.{Linear, two}
-use Rattle.bits.proofs.laws.XorAll.{linear-xorAll}
-use Rattle.entries.specs.Spread.{combined, encodedBytes, encodedWord, nibbleByte, summed}
+use Rattle.bits.proofs.laws.XorAll.{linear-xorAll, xorAll-same, xorAll-split, xorAll-zero}
+use Rattle.matrices.specs.Rows.{rowAt, stored}
+use Rattle.matrices.proofs.laws.Rows.{row-stored}
+use Rattle.entries.specs.Spread.{combined, nibbleByte, wordIn}
 
 -- ---- the xor of eight words
 scale-xor : (c a b : ℕ) → a < 2 → b < 2 → (a + b) % 2 * c ≡ bitXor (a * c) (b * c)
@@ -64,56 +61,71 @@ unfolding nibbleByte
 nibbleByte-high v = rw (le-ltb (16 + v) 16 (omega arith)) (ap (λ (x : ℕ). x * 16) (omega arith))
 
 -- What is linear in a byte is the xor of what it is of the two bytes with one nibble.
-pub by-nibbles : (u : ℕ → ℕ) → Linear u → (y : ℕ) → bitXor (u (nibbleByte (y % 16))) (u (nibbleByte (16 + y / 16))) ≡ u y
-by-nibbles u linear y =
+nibbles-add-up : (u : ℕ → ℕ) → Linear u → (y : ℕ) → bitXor (u (nibbleByte (y % 16))) (u (nibbleByte (16 + y / 16))) ≡ u y
+nibbles-add-up u linear y =
     ap₂ (λ (a b : ℕ). bitXor (u a) (u b)) (nibbleByte-low (y % 16) (omega arith)) (nibbleByte-high (y / 16))
     ∙ sym (linear (y % 16) (y / 16 * 16))
     ∙ ap u (of-nibbles y)
 
--- ---- the parts of a list that has a part for each byte with one nibble
--- The word of y, encoded, from its parts for the nibbles of y: a and b are these, and n is as many bytes as a word has.
-pub word-encoded : (images : ℕ → ℕ) (m n y a b : ℕ) (l low high ys : List ℕ)
-    → n ≡ m
-    → a ≡ y % 16
-    → low ≡ take m (drop (a * m) l)
-    → b ≡ y / 16
-    → high ≡ take m (drop ((16 + b) * m) l)
-    → ys ≡ encodedBytes images n (tabulate n (λ k. bitXor (at low k) (at high k)))
-    → ys ≡ encodedBytes images m (summed m l y)
-unfolding summed
-word-encoded images m n y a b l low high ys long ea el eb eh written =
-    written
-    ∙ ap (λ (n : ℕ). encodedBytes images n (tabulate n (λ k. bitXor (at low k) (at high k)))) long
-    ∙ ap (encodedBytes images m) (tabulate-ext m _ _ (λ k h. ap₂ bitXor (inside low _ k (rw ea at el) h) (inside high _ k (rw eb at eh) h)))
+-- ---- the words of the bytes with one nibble
+four : (P : ℕ → Type 0) → P 0 → P 1 → P 2 → P 3 → (i : ℕ) → i < 4 → P i
+four P a b c d zero h = a
+four P a b c d (suc zero) h = b
+four P a b c d (suc (suc zero)) h = c
+four P a b c d (suc (suc (suc zero))) h = d
+four P a b c d (suc (suc (suc (suc i)))) h = absurd (omega arith)
+
+-- The bits of such a byte: a low nibble has none from bit 4 on, a high one none below, and from bit 4 on those of the nibble.
+none-above : (v i : ℕ) → v < 16 → i < 4 → v / 2 ^ (4 + i) % 2 ≡ 0
+none-above v i h = four (λ i. v / 2 ^ (4 + i) % 2 ≡ 0) (omega arith) (omega arith) (omega arith) (omega arith) i
+
+none-below : (v i : ℕ) → i < 4 → v * 16 / 2 ^ i % 2 ≡ 0
+none-below v i = four (λ i. v * 16 / 2 ^ i % 2 ≡ 0) (omega arith) (omega arith) (omega arith) (omega arith) i
+
+high-bit : (v i : ℕ) → i < 4 → v * 16 / 2 ^ (4 + i) % 2 ≡ v / 2 ^ i % 2
+high-bit v i = four (λ i. v * 16 / 2 ^ (4 + i) % 2 ≡ v / 2 ^ i % 2) (omega arith) (omega arith) (omega arith) (omega arith) i
+
+module _ (f : ℕ → ℕ) where
+  -- terms at bits that are 0
+  no-terms : (b : ℕ → ℕ) (g : ℕ → ℕ) → ((i : ℕ) → i < 4 → b i ≡ 0) → xorAll 4 (λ i. b i * g i) ≡ 0
+  no-terms b g z = xorAll-same 4 _ (λ _. 0) (λ i h. ap (λ (x : ℕ). x * g i) (z i h) ∙ zero-mul (g i)) ∙ xorAll-zero 4
+
+  low-combined : (v : ℕ) → v < 16 → xorAll 4 (λ i. (v / 2 ^ i % 2) * f i) ≡ combined f v
+  unfolding combined
+  low-combined v h =
+      sym (xorAll-split 4 4 (λ i. (v / 2 ^ i % 2) * f i)
+      ∙ ap (bitXor (xorAll 4 (λ i. (v / 2 ^ i % 2) * f i))) (no-terms (λ i. v / 2 ^ (4 + i) % 2) (λ i. f (4 + i)) (λ i. none-above v i h))
+      ∙ xor-zero-r (xorAll 4 (λ i. (v / 2 ^ i % 2) * f i)))
+
+  high-combined : (v : ℕ) → xorAll 4 (λ i. (v / 2 ^ i % 2) * f (4 + i)) ≡ combined f (v * 16)
+  unfolding combined
+  high-combined v =
+      sym (xorAll-split 4 4 (λ i. (v * 16 / 2 ^ i % 2) * f i)
+      ∙ ap₂ bitXor (no-terms (λ i. v * 16 / 2 ^ i % 2) f (none-below v))
+      (xorAll-same 4 _ _ (λ i h. ap (λ (b : ℕ). b * f (4 + i)) (high-bit v i h)))
+      ∙ xor-zero-l (xorAll 4 (λ i. (v / 2 ^ i % 2) * f (4 + i))))
+
+  -- The word of byte r of those with one nibble, as the code adds it up: v is its nibble, and its bits are numbered from `first` on.
+  pub nibble-combined : (r first v w : ℕ) → r < 32 → first ≡ r / 16 * 4 → v ≡ r % 16 → w ≡ xorAll 4 (λ i. (v / 2 ^ i % 2) * f (first + i))
+      → w ≡ combined f (nibbleByte r)
+  nibble-combined r first v w h p q e = elim (decLt r 16) [
+    | yes low ↦
+        let own : v ≡ r = omega arith in
+        e
+        ∙ xorAll-same 4 _ _ (λ i l. let start : first + i ≡ i = omega arith in ap₂ (λ (n k : ℕ). (n / 2 ^ i % 2) * f k) own start)
+        ∙ low-combined r low
+        ∙ ap (combined f) (sym (nibbleByte-low r low))
+    | no high ↦
+        let start : first ≡ 4 = omega arith in
+        let back : r ≡ 16 + v = omega arith in
+        e ∙ rw start (high-combined v) ∙ ap (combined f) (sym (nibbleByte-high v) ∙ ap nibbleByte (sym back))
+  ]
+
+-- So the rows for the nibbles of y, where each row has the word of its byte, add up to the word of y.
+pub word-in : (f : ℕ → ℕ) (old words : List ℕ) (y : ℕ) → length old ≡ 64 → words ≡ stored 32 (λ r. combined f (nibbleByte r)) old → y < 256
+    → wordIn words y ≡ combined f y
+word-in f old words y long e h =
+    ap₂ bitXor (row (y % 16) (omega arith)) (row (16 + y / 16) (omega arith)) ∙ nibbles-add-up (combined f) (combined-linear f) y
   where
-    inside : (s : List ℕ) (p k : ℕ) → s ≡ take m (drop p l) → k < m → at s k ≡ at l (p + k)
-    inside s p k e h = ap (λ (t : List ℕ). at t k) e ∙ getD-take m (drop p l) k 0 h ∙ getD-drop p l k 0
-
--- The bytes of the word of y are the sum of its parts, where each part has the bytes of the word of its byte.
-module _ (f : ℕ → ℕ) (m : ℕ) (l rest : List ℕ) (e : l ≡ concat 32 (λ r. bytesOf m (combined f (nibbleByte r))) ++ rest) where
-  word-at : (r k : ℕ) → r < 32 → k < m → at l (r * m + k) ≡ byte m k (combined f (nibbleByte r))
-  word-at r k h b =
-      let inside = row-inside r m 32 h in
-      let words : ℕ → List ℕ = λ r. bytesOf m (combined f (nibbleByte r)) in
-      let long : (i : ℕ) → i < 32 → length (words i) ≡ m = λ i g. length-bytesOf m (combined f (nibbleByte i)) in
-      ap (λ (t : List ℕ). at t (r * m + k)) e
-      ∙ List·getD-append (concat 32 words) rest 0 (r * m + k) (omega (arith, length-concat m words 32 long))
-      ∙ at-concat m words 32 long r k h b
-      ∙ at-bytesOf m (combined f (nibbleByte r)) k b
-
-  summed-is : (y : ℕ) → y < 256 → summed m l y ≡ bytesOf m (combined f y)
-  unfolding summed
-  summed-is y h =
-      ext-at m _ _ (length-tabulate m _) (length-bytesOf m (combined f y))
-      (λ k b. at-tabulate m _ k b
-      ∙ ap₂ bitXor (word-at (y % 16) k (omega arith) b) (word-at (16 + y / 16) k (omega arith) b)
-      ∙ sym (group-xor 8 m k (combined f (nibbleByte (y % 16))) (combined f (nibbleByte (16 + y / 16))))
-      ∙ ap (byte m k) (by-nibbles (combined f) (combined-linear f) y)
-      ∙ sym (at-bytesOf m (combined f y) k b))
-
-  -- So the words that are written are those of the bytes in `values`.
-  pub words-encoded : (images : ℕ → ℕ) (values dst : List ℕ) → Bytes values
-      → dst ≡ concat 256 (λ x. encodedBytes images m (summed m l (at values x)))
-      → dst ≡ concat 256 (λ x. encodedWord images m (combined f (at values x)))
-  words-encoded images values dst bytes written =
-      written ∙ concat-same 256 _ _ (λ x h. ap (encodedBytes images m) (summed-is (at values x) (bytes x)))
+    row : (r : ℕ) → r < 32 → rowAt words r ≡ combined f (nibbleByte r)
+    row r l = ap (λ (m : List ℕ). rowAt m r) e ∙ row-stored 32 (λ r. combined f (nibbleByte r)) old (omega (arith, long)) r l

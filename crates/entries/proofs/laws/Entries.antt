@@ -2,19 +2,23 @@
 -- Assumes nothing.
 use mathlib.Core.List.{List}
 use mathlib.Core.Path.{_≡_, sym, ap, ap₂, _∙_, subst}
-use Prim.Native.Nat.{ℕ, _+_, _*_, _/_, _%_, _<_}
+use Prim.Native.Nat.{ℕ, _+_, _*_, _/_, _%_, _≤_, _<_}
 use native.Mathlib.Decide.{decLt}
+use native.Mathlib.Nat.{div-add-mod', div-lt-iff-lt-mul, mod-lt}
 use native.Mathlib.Omega.{arith}
-use lib.Bits.{bitXor}
+use lib.Bits.{bitXor, xor-lt}
+use lib.ListN.{length, set, drop}
+use lib.Seq.{getD-take, getD-drop}
 use Rattle.bits.specs.Bytes.{Bytes}
 use Rattle.bits.specs.Encodings.{imagesOf, encode, decode, Permutation}
 use Rattle.bits.specs.Lists.{at, tabulate, concat, partOf}
 use Rattle.bits.specs.Nibbles.{pack, packed, nibble}
 use Rattle.bits.proofs.laws.Encodings.{decode-lt}
-use Rattle.bits.proofs.laws.Lists.{at-tabulate, at-past, length-tabulate, at-concat, length-concat, ext-at}
-use Rattle.bits.proofs.laws.Nibbles.{nibble-lt, nibble-even, nibble-odd, at-packed, length-packed, packed-ext}
-use Rattle.bits.proofs.laws.Cuts.{part-bytes}
-use Rattle.entries.specs.Encodings.{encodingIn}
+use Rattle.bits.proofs.laws.Filled.{Filled, filled-more}
+use Rattle.bits.proofs.laws.Lists.{at-tabulate, at-past, length-tabulate, tabulate-ext, at-concat, length-concat, ext-at, cut, cut-is}
+use Rattle.bits.proofs.laws.Nibbles.{nibble-lt, nibble-even, nibble-odd, packed-ext}
+use Rattle.entries.specs.Encodings.{encodingIn, Nibbles, byNibbles}
+use Rattle.entries.specs.Spread.{encodedByte}
 
 -- The images of bytes are nibbles.
 pub images-below : (s : List ℕ) → Bytes s → (v : ℕ) → at (imagesOf s) v < 16
@@ -24,6 +28,18 @@ images-below s bytes v = elim (decLt v 16) [
   | no h ↦ subst (λ (x : ℕ). x < 16) (sym (at-past (tabulate 16 (nibble s)) v (omega (arith, length-tabulate 16 (nibble s))))) (omega arith)
 ]
 
+-- A turn of the loop that lists the nibbles of p, a byte's two.
+pub two-more : (p : List ℕ) {t : List ℕ} {i : ℕ} → Filled 16 (nibble p) t (2 * i) → i < 8
+    → Filled 16 (nibble p) (set (set t (2 * i) (at p i / 16)) (2 * i + 1) (at p i % 16)) (2 * (i + 1))
+two-more p {t} {i} I h =
+    let both : 2 * i + 1 + 1 ≡ 2 * (i + 1) = omega arith in
+    subst (Filled 16 (nibble p) (set (set t (2 * i) (at p i / 16)) (2 * i + 1) (at p i % 16))) both
+    (filled-more (filled-more I (omega arith) (sym (nibble-even p i))) (omega arith) (sym (nibble-odd p i)))
+
+-- A part of a list.
+at-cut : (l : List ℕ) (start size i : ℕ) → i < size → at (cut l start (start + size)) i ≡ at l (start + i)
+at-cut l start size i h = ap (λ (t : List ℕ). at t i) (cut-is l start size) ∙ getD-take size (drop start l) i 0 h ∙ getD-drop start l i 0
+
 -- What undoes an encoding, as a list.
 module _ (l a : List ℕ) (e : a ≡ tabulate 16 (decode l)) where
   place-at : (i : ℕ) → i < 16 → at a i ≡ decode l i
@@ -32,47 +48,78 @@ module _ (l a : List ℕ) (e : a ≡ tabulate 16 (decode l)) where
   place-below : Permutation l → (i : ℕ) → i < 16 → at a i < 16
   place-below p i h = subst (λ (x : ℕ). x < 16) (sym (place-at i h)) (decode-lt l p i h)
 
--- ---- an XOR table is its 16 rows, one after the other
-pub rows-packed : (g : ℕ → ℕ → ℕ) → concat 16 (λ i. packed 8 (g i)) ≡ packed 128 (λ e. g (e / 16) (e % 16))
-rows-packed g =
-    ext-at 128 _ _ (length-concat 8 rows 16 (λ i h. length-packed 8 (g i))) (length-packed 128 _)
+-- ---- rows one after the other, n of w places each
+in-rows : (n w : ℕ) (g : ℕ → ℕ → ℕ) → 0 < w → concat n (λ i. tabulate w (g i)) ≡ tabulate (n * w) (λ x. g (x / w) (x % w))
+in-rows n w g some =
+    ext-at (n * w) _ _ (length-concat w rows n long) (length-tabulate (n * w) _)
     (λ k h.
-    let here : k ≡ k / 8 * 8 + k % 8 = omega arith in
-    let high : 2 * k / 16 ≡ k / 8 = omega arith in
-    let high-odd : (2 * k + 1) / 16 ≡ k / 8 = omega arith in
-    let low : 2 * k % 16 ≡ 2 * (k % 8) = omega arith in
-    let low-odd : (2 * k + 1) % 16 ≡ 2 * (k % 8) + 1 = omega arith in
-    ap (at (concat 16 rows)) here
-    ∙ at-concat 8 rows 16 (λ i h. length-packed 8 (g i)) (k / 8) (k % 8) (omega arith) (omega arith)
-    ∙ at-packed 8 (g (k / 8)) (k % 8) (omega arith)
-    ∙ ap₂ pack (ap₂ g (sym high) (sym low)) (ap₂ g (sym high-odd) (sym low-odd))
-    ∙ sym (at-packed 128 (λ e. g (e / 16) (e % 16)) k h))
+    let row = div-lt-iff-lt-mul {k = w} {x = k} {y = n} some .1 h in
+    ap (at (concat n rows)) (sym (div-add-mod' k w))
+    ∙ at-concat w rows n long (k / w) (k % w) row (mod-lt k some)
+    ∙ at-tabulate w (g (k / w)) (k % w) (mod-lt k some)
+    ∙ sym (at-tabulate (n * w) (λ x. g (x / w) (x % w)) k h))
   where
     rows : ℕ → List ℕ
-    rows i = packed 8 (g i)
+    rows i = tabulate w (g i)
+
+    long : (i : ℕ) → i < n → length (rows i) ≡ w
+    long i h = length-tabulate w (g i)
+
+-- An XOR table is its 16 rows of 8 bytes.
+pub rows-packed : (g : ℕ → ℕ → ℕ) → concat 16 (λ i. packed 8 (g i)) ≡ packed 128 (λ e. g (e / 16) (e % 16))
+unfolding packed
+rows-packed g =
+    in-rows 16 8 (λ i k. pack (g i (2 * k)) (g i (2 * k + 1))) (omega arith)
+    ∙ tabulate-ext 128 _ _ (λ k h.
+    let high : k / 8 ≡ 2 * k / 16 = omega arith in
+    let high-odd : k / 8 ≡ (2 * k + 1) / 16 = omega arith in
+    let low : 2 * (k % 8) ≡ 2 * k % 16 = omega arith in
+    let low-odd : 2 * (k % 8) + 1 ≡ (2 * k + 1) % 16 = omega arith in
+    ap₂ pack (ap₂ g high low) (ap₂ g high-odd low-odd))
+
+-- All bytes are 16 rows of 16.
+pub rows-tabulated : (g : ℕ → ℕ → ℕ) → concat 16 (λ i. tabulate 16 (g i)) ≡ tabulate 256 (λ x. g (x / 16) (x % 16))
+rows-tabulated g = in-rows 16 16 g (omega arith)
+
+-- Those of place k of a word, from the images of its two nibbles, which are parts of all images.
+pub place-encoded : (images : List ℕ) (k : ℕ)
+    → tabulate 256 (byNibbles (cut images (32 * k) (32 * k + 16)) (cut images (32 * k + 16) (32 * k + 16 + 16))) ≡ tabulate 256 (encodedByte (at images) k)
+place-encoded images k =
+    tabulate-ext 256 _ _ (λ b h.
+    let high : 32 * k + b / 16 ≡ 16 * (2 * k) + b / 16 = omega arith in
+    let low : 32 * k + 16 + b % 16 ≡ 16 * (2 * k + 1) + b % 16 = omega arith in
+    ap₂ pack (at-cut images (32 * k) 16 (b / 16) (omega arith) ∙ ap (at images) high) (at-cut images (32 * k + 16) 16 (b % 16) (omega arith) ∙ ap (at images) low))
+
+-- The nibbles in such a part.
+pub part-nibbles : (images : List ℕ) (m start : ℕ) → Nibbles (32 * m) images → start + 16 ≤ 32 * m → Nibbles 16 (cut images start (start + 16))
+part-nibbles images m start small inside v h = subst (λ (x : ℕ). x < 16) (sym (at-cut images start 16 v h)) (small (start + v) (omega arith))
 
 -- ---- lists that are made from the encodings' parts of their section
-pub images-lt : (s part images : List ℕ) (n : ℕ) → Bytes s → part ≡ partOf 8 s n → images ≡ imagesOf part → (v : ℕ) → at images v < 16
-images-lt s part images n bytes p e v = rw (e, p) (images-below (partOf 8 s n) (part-bytes 8 s n bytes) v)
+pub images-nibbles : (s part images : List ℕ) (n : ℕ) → Permutation (encodingIn s n) → part ≡ partOf 8 s n → images ≡ imagesOf part → Nibbles 16 images
+images-nibbles s part images n permutes p e v h = rw (e, p) (permutes .below v h)
 
 pub places-lt : (s part places : List ℕ) (n : ℕ) → Permutation (encodingIn s n) → part ≡ partOf 8 s n → places ≡ tabulate 16 (decode (imagesOf part))
-    → (i : ℕ) → i < 16 → at places i < 16
+    → Nibbles 16 places
 places-lt s part places n permutes p e = place-below (encodingIn s n) places (rw p at e) permutes
 
--- Byte x with its nibbles decoded, from the lists that undo their encodings.
-pub byte-decoded : (s : List ℕ) (high low x r : ℕ) (a′ b′ a b : List ℕ)
+-- Every byte decoded, from the lists that undo the encodings of its nibbles.
+pub bytes-decoded : (s : List ℕ) (high low : ℕ) (a′ b′ a b dst : List ℕ)
     → a′ ≡ partOf 8 s high
     → a ≡ tabulate 16 (decode (imagesOf a′))
     → b′ ≡ partOf 8 s low
     → b ≡ tabulate 16 (decode (imagesOf b′))
-    → x < 256
-    → r ≡ pack (at a (x / 16)) (at b (x % 16))
-    → r ≡ pack (decode (encodingIn s high) (x / 16)) (decode (encodingIn s low) (x % 16))
-byte-decoded s high low x r a′ b′ a b pa ea pb eb h e =
+    → dst ≡ tabulate 256 (byNibbles a b)
+    → dst ≡ tabulate 256 (λ x. pack (decode (encodingIn s high) (x / 16)) (decode (encodingIn s low) (x % 16)))
+bytes-decoded s high low a′ b′ a b dst pa ea pb eb e =
     e
-    ∙ ap₂ pack
+    ∙ tabulate-ext 256 _ _ (λ x h. ap₂ pack
     (place-at (encodingIn s high) a (rw pa at ea) (x / 16) (omega arith))
-    (place-at (encodingIn s low) b (rw pb at eb) (x % 16) (omega arith))
+    (place-at (encodingIn s low) b (rw pb at eb) (x % 16) (omega arith)))
+
+-- The image of the sum of a nibble and an element of `added` is a nibble.
+pub sum-image : (added result : List ℕ) (a j r : ℕ) → a < 16 → Nibbles 16 added → j < 16 → Nibbles 16 result → r ≡ at result (bitXor a (at added j)) → r < 16
+sum-image added result a j r small nibbles h images e =
+    subst (λ (x : ℕ). x < 16) (sym e) (images (bitXor a (at added j)) (xor-lt 4 a (at added j) small (nibbles j h)))
 
 -- An XOR table, from the lists of its three encodings.
 pub xor-made : (s : List ℕ) (sum added result : ℕ) (a′ b′ c′ a b c dst : List ℕ)
@@ -89,28 +136,3 @@ xor-made s sum added result a′ b′ c′ a b c dst pa ea pb eb pc ec written =
     let addeds = place-at (encodingIn s added) b (rw pb at eb) in
     written
     ∙ packed-ext 128 _ _ (λ e h. ap₂ at (rw pc at ec) (ap₂ bitXor (sums (e / 16) (omega arith)) (addeds (e % 16) (omega arith))))
-
--- ---- the bytes of an encoded word
--- Byte k of those of l, both nibbles encoded.
-abbrev pub encodedByte : (ℕ → ℕ) → List ℕ → ℕ → ℕ
-encodedByte images l k = pack (images (16 * (2 * k) + nibble l (2 * k))) (images (16 * (2 * k + 1) + nibble l (2 * k + 1)))
-
--- The images of the nibbles u and v of byte k stand in the 32 images that it has.
-pub images-read : (images : List ℕ) (k b u v : ℕ) → u ≡ b / 16 → v ≡ b % 16
-    → pack (at images (32 * k + u)) (at images (32 * k + 16 + v)) ≡ pack (at images (16 * (2 * k) + b / 16)) (at images (16 * (2 * k + 1) + b % 16))
-images-read images k b u v p q =
-    let high : 32 * k + u ≡ 16 * (2 * k) + b / 16 = omega arith in
-    let low : 32 * k + 16 + v ≡ 16 * (2 * k + 1) + b % 16 = omega arith in
-    rw (high, low)
-
--- Byte k of the sum of two words of m bytes, encoded.
-pub byte-encoded : (images low high : List ℕ) (m k r : ℕ) → k < m
-    → (let b = bitXor (at low k) (at high k) in r ≡ pack (at images (16 * (2 * k) + b / 16)) (at images (16 * (2 * k + 1) + b % 16)))
-    → r ≡ encodedByte (at images) (tabulate m (λ i. bitXor (at low i) (at high i))) k
-byte-encoded images low high m k r h is =
-    let f : ℕ → ℕ = λ i. bitXor (at low i) (at high i) in
-    let l = tabulate m f in
-    let here : at l k ≡ f k = at-tabulate m f k h in
-    let even : nibble l (2 * k) ≡ f k / 16 = nibble-even l k ∙ ap (λ (x : ℕ). x / 16) here in
-    let odd : nibble l (2 * k + 1) ≡ f k % 16 = nibble-odd l k ∙ ap (λ (x : ℕ). x % 16) here in
-    is ∙ rw (even, odd)

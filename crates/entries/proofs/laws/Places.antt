@@ -1,91 +1,67 @@
--- Laws, not definitions: what undoes an encoding, when its nibbles are taken from the last down.
+-- Laws, not definitions: what undoes an encoding that is a permutation, when each of its nibbles is written at its image, a byte's two in a turn.
 -- Assumes nothing.
-use mathlib.Core.Bool.{Bool, true, false, cond}
-use mathlib.Core.List.{List, []}
+use mathlib.Core.List.{List}
 use mathlib.Core.Path.{_≡_, sym, ap, _∙_}
-use Prim.Native.Nat.{ℕ, zero, suc, _+_, _-_, _≤_, _<_}
-use native.Mathlib.Nat.{zero-add}
-use native.Mathlib.Decide.{ℕ-discrete}
+use Prim.Native.Nat.{ℕ, _+_, _*_, _/_, _%_, _≤_, _<_}
+use native.Mathlib.Decide.{decLt, ℕ-discrete}
 use native.Mathlib.Omega.{arith}
-use borrow.Author.Tests.{eq-eqb, ne-eqb}
-use lib.Dec.{eqb}
-use lib.ListN.{length, set, drop, length-set}
-use lib.Seq.{drop-length, getD-set-same, getD-set-other}
-use Rattle.bits.specs.Encodings.{imagesOf, decode}
+use lib.ListN.{length, set, length-set}
+use lib.Seq.{getD-set-same, getD-set-other}
+use Rattle.bits.specs.Encodings.{imagesOf, decode, Permutation}
 use Rattle.bits.specs.Lists.{at, tabulate}
-use Rattle.bits.specs.Nibbles.{nibble}
-use Rattle.bits.proofs.laws.Images.{image-at, images-long, decode-next}
-use Rattle.bits.proofs.laws.Lists.{at-tabulate, length-tabulate, tabulate-ext, ext-at}
+use Rattle.bits.proofs.laws.Encodings.{decode-lt, encode-decode}
+use Rattle.bits.proofs.laws.Images.{image-at, nibble-past}
+use Rattle.bits.proofs.laws.Lists.{at-tabulate, length-tabulate, ext-at}
+use Rattle.bits.proofs.laws.Nibbles.{nibble-even, nibble-odd}
 
--- The first place from v on that has the image y; the list's length where none has.
-abbrev sought : List ℕ → ℕ → ℕ → ℕ
-sought l v y = v + decode (drop v l) y
+-- A permutation is written by at least 8 bytes: else its last two images are both 0.
+pub permutation-long : (p : List ℕ) → Permutation (imagesOf p) → 8 ≤ length p
+permutation-long p permutes = elim (decLt (length p) 8) [
+  | yes short ↦
+      let none : (q : ℕ) → 14 ≤ q → q < 16 → at (imagesOf p) q ≡ 0 = λ q g h. image-at p q h ∙ nibble-past p q (omega arith) in
+      absurd (omega (arith, permutes .apart 14 15 (omega arith) (omega arith) (none 14 (omega arith) (omega arith) ∙ sym (none 15 (omega arith) (omega arith)))))
+  | no long ↦ omega arith
+]
 
-at-or-after : (b : Bool) (v d : ℕ) → v + cond b zero (suc d) ≡ cond b v (v + 1 + d)
-at-or-after true v d = omega arith
-at-or-after false v d = omega arith
-
-sought-more : (l : List ℕ) (v : ℕ) → v < length l → (y : ℕ) → sought l v y ≡ cond (eqb (at l v) y) v (sought l (v + 1) y)
-sought-more l v h y = ap (λ (n : ℕ). v + n) (decode-next l v h y) ∙ at-or-after (eqb (at l v) y) v (decode (drop (v + 1) l) y)
-
--- Place v is written at its image: there v is sought, elsewhere what was sought from v + 1 on.
-module _ (l t : List ℕ) (v y : ℕ) (n : length l ≡ 16) (h : v < 16) (e : y ≡ at l v) (is : t ≡ tabulate 16 (sought l (v + 1))) where
-  long : length t ≡ 16
-  long = ap length is ∙ length-tabulate 16 (sought l (v + 1))
-
-  here : (i : ℕ) → i < 16 → i ≡ y → at (set t y v) i ≡ sought l v i
-  here i g p =
-      let found = eq-eqb (at l v) i (sym e ∙ sym p) in
-      ap (λ (k : ℕ). at (set t y v) k) p
-      ∙ getD-set-same t y v 0 (omega (arith, long))
-      ∙ sym (sought-more l v (omega arith) i ∙ ap (λ (b : Bool). cond b v (sought l (v + 1) i)) found)
-
-  elsewhere : (i : ℕ) → i < 16 → (i ≡ y → ⊥) → at (set t y v) i ≡ sought l v i
-  elsewhere i g p =
-      let other = ne-eqb (at l v) i (λ r. p (sym r ∙ sym e)) in
-      getD-set-other t y i v 0 p
-      ∙ ap (λ (s : List ℕ). at s i) is
-      ∙ at-tabulate 16 (sought l (v + 1)) i g
-      ∙ sym (sought-more l v (omega arith) i ∙ ap (λ (b : Bool). cond b v (sought l (v + 1) i)) other)
-
-  sought-next : set t y v ≡ tabulate 16 (sought l v)
-  sought-next =
-      ext-at 16 _ _ (length-set t y v ∙ long) (length-tabulate 16 _)
-      (λ i g. elim (ℕ-discrete i y) [
-        | yes p ↦ here i g p ∙ sym (at-tabulate 16 (sought l v) i g)
-        | no p ↦ elsewhere i g p ∙ sym (at-tabulate 16 (sought l v) i g)
-      ])
-
--- ---- the loop: t has the places from v on of the images that the bytes p give
-pub record Placed (p t : List ℕ) (v : ℕ) : Type 0 where
-  pub within : v ≤ 16
+-- The loop's invariant: the first 2 i nibbles stand at their images.
+pub record Undone (p t : List ℕ) (i : ℕ) : Type 0 where
+  pub within : i ≤ 8
   pub long : length t ≡ 16
-  pub found : t ≡ tabulate 16 (sought (imagesOf p) v)
+  pub found : (v : ℕ) → v < 2 * i → at t (at (imagesOf p) v) ≡ v
 
-pub placed-none : (p t : List ℕ) → t ≡ tabulate 16 (λ _. 16) → Placed p t 16
-unfolding decode
-placed-none p t e =
-    let past : [] ≡ drop 16 (imagesOf p) = sym (drop-length (imagesOf p)) ∙ ap (λ (n : ℕ). drop n (imagesOf p)) (images-long p) in
-    record {
-      within = omega arith;
-      long = ap length e ∙ length-tabulate 16 _;
-      found = e ∙ tabulate-ext 16 _ _ (λ y h. ap (λ (l : List ℕ). 16 + decode l y) past);
-    }
+pub undone-none : {p t : List ℕ} → length t ≡ 16 → Undone p t 0
+undone-none long = record { within = omega arith; long = long; found = λ v h. absurd (omega arith) }
 
-module _ {p t : List ℕ} {v : ℕ} (I : Placed p t v) where
-  pub placed-more : {x y : ℕ} → 0 < v → x ≡ nibble p (v - 1) → y ≡ x → Placed p (set t y (v - 1)) (v - 1)
-  placed-more {x = x} {y = y} h e is =
-      let back : v ≡ v - 1 + 1 = omega arith in
-      let image : y ≡ at (imagesOf p) (v - 1) = is ∙ e ∙ sym (image-at p (v - 1) (omega arith)) in
+module _ {p t : List ℕ} {i : ℕ} (permutes : Permutation (imagesOf p)) (I : Undone p t i) where
+  -- One nibble more, where those before it stand at theirs.
+  one-more : (t : List ℕ) (n y : ℕ) → n < 16 → length t ≡ 16 → y ≡ at (imagesOf p) n → ((v : ℕ) → v < n → at t (at (imagesOf p) v) ≡ v)
+      → (v : ℕ) → v < n + 1 → at (set t y n) (at (imagesOf p) v) ≡ v
+  one-more t n y small long e before v h = elim (ℕ-discrete v n) [
+    | yes here ↦
+        ap (λ (k : ℕ). at (set t y n) (at (imagesOf p) k)) here
+        ∙ ap (at (set t y n)) (sym e)
+        ∙ getD-set-same t y n 0 (omega (arith, permutes .below n small))
+        ∙ sym here
+    | no other ↦
+        getD-set-other t y (at (imagesOf p) v) n 0 (λ same. other (permutes .apart v n (omega arith) small (same ∙ e)))
+        ∙ before v (omega arith)
+  ]
+
+  pub undone-more : {high low : ℕ} → i < 8 → high ≡ at p i / 16 → low ≡ at p i % 16 → Undone p (set (set t high (2 * i)) low (2 * i + 1)) (i + 1)
+  undone-more {high} {low} h eh el =
+      let even = eh ∙ sym (image-at p (2 * i) (omega arith) ∙ nibble-even p i) in
+      let odd = el ∙ sym (image-at p (2 * i + 1) (omega arith) ∙ nibble-odd p i) in
+      let once = one-more t (2 * i) high (omega arith) (I .long) even (I .found) in
+      let long = length-set t high (2 * i) ∙ I .long in
       record {
         within = omega arith;
-        long = length-set t y (v - 1) ∙ I .long;
-        found = sought-next (imagesOf p) t (v - 1) y (images-long p) (omega arith) image (I .found ∙ ap (λ (k : ℕ). tabulate 16 (sought (imagesOf p) k)) back);
+        long = length-set (set t high (2 * i)) low (2 * i + 1) ∙ long;
+        found = λ v l. one-more (set t high (2 * i)) (2 * i + 1) low (omega arith) long odd once v (omega arith);
       }
 
-  pub placed-all : v ≤ 0 → t ≡ tabulate 16 (decode (imagesOf p))
-  placed-all h =
-      let done : v ≡ 0 = omega arith in
-      I .found
-      ∙ ap (λ (k : ℕ). tabulate 16 (sought (imagesOf p) k)) done
-      ∙ tabulate-ext 16 _ _ (λ y h. zero-add (decode (imagesOf p) y))
+  pub undone-all : 8 ≤ i → t ≡ tabulate 16 (decode (imagesOf p))
+  undone-all h =
+      ext-at 16 t _ (I .long) (length-tabulate 16 _) (λ y l.
+      let v = decode (imagesOf p) y in
+      let small = decode-lt (imagesOf p) permutes y l in
+      ap (at t) (sym (encode-decode (imagesOf p) permutes y l)) ∙ I .found v (omega arith) ∙ sym (at-tabulate 16 (decode (imagesOf p)) y l))

@@ -145,63 +145,63 @@ module _ {n k : ℕ} {m₀ m : List ℕ} {i : ℕ} (g : Cleared n k m₀ m i) wh
         right = subst (λ (w : List ℕ). Swept by k (rightAt m₀) (i + 1) (rightAt w)) (sym e) rights-done;
       }
 
-  pub cleared-all : n ≤ i → Stepped n (clearBy n k (leftAt m₀)) k m₀ m
-  unfolding lefts rights
+  pub cleared-all : n ≤ i → Stepped n (clearBy n k (leftAt m₀)) k (leftAt m₀) (rightAt m₀) (leftAt m) (rightAt m)
   cleared-all h =
       let by = clearBy n k (leftAt m₀) in
       (swept-all by k (leftAt m₀) n i (leftAt m) h (g .left), swept-all by k (rightAt m₀) n i (rightAt m) h (g .right))
 
--- ---- the columns: k of them are behind, and those left give what all would
-pub record Reduced (m₀ : List ℕ) (n : ℕ) (m : List ℕ) (k : ℕ) : Type 0 where
+-- ---- the columns, of a work area m that holds row i as l m i on the left and r m i on the right: k of them are behind, and those left give what all would
+pub record Reduced (l r : List ℕ → ℕ → ℕ) (m₀ : List ℕ) (n : ℕ) (m : List ℕ) (k : ℕ) : Type 0 where
   pub within : k ≤ n
   pub long : length m ≡ length m₀
-  pub same : columns n n 0 (lefts n m₀) (rights n m₀) ≡ columns n (n - k) k (lefts n m) (rights n m)
+  pub same : columns n n 0 (tabulate n (l m₀)) (tabulate n (r m₀)) ≡ columns n (n - k) k (tabulate n (l m)) (tabulate n (r m))
 
-pub reduced-none : (m : List ℕ) (n : ℕ) → Reduced m n m 0
-reduced-none m n =
+pub reduced-none : {l r : List ℕ → ℕ → ℕ} (m : List ℕ) (n : ℕ) → Reduced l r m n m 0
+reduced-none {l} {r} m n =
     let all : n ≡ n - 0 = omega arith in
-    record { within = omega arith; long = refl; same = ap (λ (d : ℕ). columns n d 0 (lefts n m) (rights n m)) all }
+    record { within = omega arith; long = refl; same = ap (λ (d : ℕ). columns n d 0 (tabulate n (l m)) (tabulate n (r m))) all }
 
 pub found-within : (n k : ℕ) (f : ℕ → ℕ) (p : ℕ) → k < n → p ≡ pivotFrom n k f (n - k) k → (k ≤ p) × (p ≤ n)
 found-within n k f p h e =
     let found = pivot-found n k f (n - k) k (omega arith) in
     subst (λ (x : ℕ). (k ≤ x) × (x ≤ n)) (sym e) (found .from, found .upto)
 
-module _ {m₀ m : List ℕ} {n k : ℕ} (g : Reduced m₀ n m k) where
-  pub reduced-singular : {p : ℕ} → k < n → p ≡ pivotFrom n k (leftAt m) (n - k) k → p ≡ n
-      → columns n n 0 (lefts n m₀) (rights n m₀) ≡ singular
-  reduced-singular h e q = g .same ∙ column-none n k h m _ e q
+module _ {l r : List ℕ → ℕ → ℕ} {m₀ m : List ℕ} {n k : ℕ} (g : Reduced l r m₀ n m k) where
+  pub reduced-singular : {p : ℕ} → k < n → p ≡ pivotFrom n k (l m) (n - k) k → p ≡ n
+      → columns n n 0 (tabulate n (l m₀)) (tabulate n (r m₀)) ≡ singular
+  reduced-singular h e q = g .same ∙ column-none n k h (l m) (r m) _ e q
 
   -- m₁ is the work area behind the pivoting, m₂ behind the clearing.
-  pub reduced-next : {p : ℕ} {m₂ : List ℕ} (m₁ : List ℕ) → k < n → p ≡ pivotFrom n k (leftAt m) (n - k) k → p ≢ n
-      → Stepped n (pivotBy n k (leftAt m)) p m m₁
-      → Stepped n (clearBy n k (leftAt m₁)) k m₁ m₂
+  pub reduced-next : {p : ℕ} {m₂ : List ℕ} (m₁ : List ℕ) → k < n → p ≡ pivotFrom n k (l m) (n - k) k → p ≢ n
+      → Stepped n (pivotBy n k (l m)) p (l m) (r m) (l m₁) (r m₁)
+      → Stepped n (clearBy n k (l m₁)) k (l m₁) (r m₁) (l m₂) (r m₂)
       → length m₁ ≡ length m
       → length m₂ ≡ length m₁
-      → Reduced m₀ n m₂ (k + 1)
+      → Reduced l r m₀ n m₂ (k + 1)
   reduced-next {p = p} {m₂ = m₂} m₁ h e q s₁ s₂ l₁ l₂ =
-      let below = found-within n k (leftAt m) p h e in
-      record { within = omega arith; long = l₂ ∙ l₁ ∙ g .long; same = g .same ∙ column-next n k h m p m₁ m₂ e (omega arith) s₁ s₂ }
+      let below = found-within n k (l m) p h e in
+      record {
+        within = omega arith;
+        long = l₂ ∙ l₁ ∙ g .long;
+        same = g .same ∙ column-next n k h (l m) (r m) p (l m₁) (r m₁) (l m₂) (r m₂) e (omega arith) s₁ s₂;
+      }
 
-  pub reduced-all : n ≤ k → columns n n 0 (lefts n m₀) (rights n m₀) ≡ inverse (rights n m)
+  pub reduced-all : n ≤ k → columns n n 0 (tabulate n (l m₀)) (tabulate n (r m₀)) ≡ inverse (tabulate n (r m))
   reduced-all h = g .same ∙ columns-done n k _ _ (omega arith)
 
--- ---- the whole, as `invert` puts it together: the elimination of the work area m₀, in which `rows` stand beside the identity, leaves m
-module _ (n : ℕ) (rows m₀ m : List ℕ) (t : Bool) (l : lefts n m₀ ≡ rows) (r : rights n m₀ ≡ identity n)
-    (e : columns n n 0 (lefts n m₀) (rights n m₀) ≡ ended t (rights n m)) where
-  answer : invert n rows ≡ ended t (rights n m)
+-- ---- the whole, as `invert` puts it together: the elimination of a work area with `rows` on the left, a, and the identity on the right, b, leaves the rows g there
+module _ (n : ℕ) (rows a b : List ℕ) (g : ℕ → ℕ) (t : Bool) (l : a ≡ rows) (r : b ≡ identity n) (e : columns n n 0 a b ≡ ended t (tabulate n g)) where
+  answer : invert n rows ≡ ended t (tabulate n g)
   unfolding invert
   answer = ap₂ (columns n n 0) (sym l) (sym r) ∙ e
 
-  pub inverted : (b b′ : List ℕ) → t ≡ true → b′ ≡ stored n (rightAt m) b
-      → (true ≡ hasInverse (invert n rows)) × (b′ ≡ withInverse n (invert n rows) b)
-  unfolding rights
-  inverted b b′ yes-found taken =
-      let is : inverse (rights n m) ≡ invert n rows = sym (answer ∙ ap (λ (z : Bool). ended z (rights n m)) yes-found) in
-      let rows-same = stored-same n (rightAt m) (at (tabulate n (rightAt m))) b (λ i h. sym (at-tabulate n (rightAt m) i h)) in
-      (ap hasInverse is, taken ∙ rows-same ∙ ap (λ (z : Inversion). withInverse n z b) is)
+  pub inverted : (m m′ : List ℕ) → t ≡ true → m′ ≡ stored n g m → (true ≡ hasInverse (invert n rows)) × (m′ ≡ withInverse n (invert n rows) m)
+  inverted m m′ yes-found taken =
+      let is : inverse (tabulate n g) ≡ invert n rows = sym (answer ∙ ap (λ (z : Bool). ended z (tabulate n g)) yes-found) in
+      let rows-same = stored-same n g (at (tabulate n g)) m (λ i h. sym (at-tabulate n g i h)) in
+      (ap hasInverse is, taken ∙ rows-same ∙ ap (λ (z : Inversion). withInverse n z m) is)
 
-  pub not-inverted : (b : List ℕ) → t ≡ false → (false ≡ hasInverse (invert n rows)) × (b ≡ withInverse n (invert n rows) b)
-  not-inverted b none-found =
-      let is : singular ≡ invert n rows = sym (answer ∙ ap (λ (z : Bool). ended z (rights n m)) none-found) in
-      (ap hasInverse is, ap (λ (z : Inversion). withInverse n z b) is)
+  pub not-inverted : (m : List ℕ) → t ≡ false → (false ≡ hasInverse (invert n rows)) × (m ≡ withInverse n (invert n rows) m)
+  not-inverted m none-found =
+      let is : singular ≡ invert n rows = sym (answer ∙ ap (λ (z : Bool). ended z (tabulate n g)) none-found) in
+      (ap hasInverse is, ap (λ (z : Inversion). withInverse n z m) is)

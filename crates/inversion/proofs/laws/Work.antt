@@ -18,7 +18,7 @@ use Rattle.matrices.specs.Rows.{setRow}
 use Rattle.matrices.proofs.laws.Rows.{row-set-same, row-set-other, length-setRow}
 use Rattle.inversion.specs.Elimination.{addRow, pivotBy, clearBy, leftStep, rightStep, pivoted, choose, pivotFrom}
 use Rattle.inversion.specs.Elimination.{Inversion, inverse, singular, unlessZero, columns}
-use Rattle.inversion.specs.Work.{leftAt, rightAt, lefts, rights, addedTo}
+use Rattle.inversion.specs.Work.{leftAt, rightAt, addedTo}
 use Rattle.inversion.proofs.laws.Elimination.{clearBy-lt}
 
 -- ---- c times row s added to row i
@@ -61,22 +61,27 @@ pub record Swept (c : ℕ → ℕ) (s : ℕ) (f : ℕ → ℕ) (i : ℕ) (g : �
 pub swept-none : (c : ℕ → ℕ) (s : ℕ) (f : ℕ → ℕ) → Swept c s f 0 f
 swept-none c s f = record { done = λ j h. absurd (omega arith); left = λ j h. refl }
 
+-- Row i is done, and no other is changed.
+pub swept-one : (c : ℕ → ℕ) (s : ℕ) (f : ℕ → ℕ) (i : ℕ) (g g′ : ℕ → ℕ) → Swept c s f i g → g′ i ≡ addRow c s f i
+    → ((j : ℕ) → j ≢ i → g′ j ≡ g j) → Swept c s f (i + 1) g′
+swept-one c s f i g g′ S here others = record {
+  done = λ j h. elim (ℕ-discrete i j) [
+    | yes q ↦ subst (λ (j : ℕ). g′ j ≡ addRow c s f j) q here
+    | no q ↦ others j (omega arith) ∙ S .done j (omega arith)
+  ];
+  left = λ j h. others j (omega arith) ∙ S .left j (omega arith);
+}
+
 module _ (c : ℕ → ℕ) (s : ℕ) (f : ℕ → ℕ) (cs : c s ≡ 0) where
   swept-pivot : (i : ℕ) (g : ℕ → ℕ) → Swept c s f i g → g s ≡ f s
   swept-pivot i g S = elim (decLt s i) [ yes q ↦ S .done s q ∙ stays c s f s cs | no q ↦ S .left s (omega arith) ]
 
   pub swept-more : (i : ℕ) (g g′ : ℕ → ℕ) (x : ℕ) → x ≡ c i → Swept c s f i g → Added g i s x g′ → Swept c s f (i + 1) g′
   unfolding addRow
-  swept-more i g g′ x e S A = record {
-    done = λ j h. elim (ℕ-discrete i j) [
-      | yes q ↦
-          subst (λ (j : ℕ). g′ j ≡ addRow c s f j) q
-          (A .here ∙ ap (λ (z : ℕ). bitXor (g i) (z * g s)) e
-          ∙ ap₂ (λ (x y : ℕ). bitXor x (c i * y)) (S .left i (omega arith)) (swept-pivot i g S))
-      | no q ↦ A .others j (omega arith) ∙ S .done j (omega arith)
-    ];
-    left = λ j h. A .others j (omega arith) ∙ S .left j (omega arith);
-  }
+  swept-more i g g′ x e S A =
+      swept-one c s f i g g′ S
+      (A .here ∙ ap (λ (z : ℕ). bitXor (g i) (z * g s)) e
+      ∙ ap₂ (λ (x y : ℕ). bitXor x (c i * y)) (S .left i (omega arith)) (swept-pivot i g S)) (A .others)
 
 pub swept-all : (c : ℕ → ℕ) (s : ℕ) (f : ℕ → ℕ) (n i : ℕ) (g : ℕ → ℕ) → n ≤ i → Swept c s f i g → tabulate n g ≡ tabulate n (addRow c s f)
 swept-all c s f n i g h S = tabulate-ext n g (addRow c s f) (λ j k. S .done j (omega arith))
@@ -93,11 +98,12 @@ clearBy-self n k f i e =
     let own : 1 - delta i k ≡ 0 = omega (arith, delta-eq i k e) in
     sym (ap (λ (x : ℕ). x * bit n k (f i)) own ∙ zero-mul (bit n k (f i)))
 
-pub clearBy-other : (n k : ℕ) (f : ℕ → ℕ) (i x b : ℕ) → i ≢ k → x ≡ f i → b ≡ x / 2 ^ (n - 1 - k) % 2 → b ≡ clearBy n k f i
+pub clearBy-bit : (n k : ℕ) (f : ℕ → ℕ) (i : ℕ) → i ≢ k → bit n k (f i) ≡ clearBy n k f i
 unfolding clearBy
-clearBy-other n k f i x b h row digit =
-    digit-of-row n k f i x b row digit
-    ∙ sym (ap (λ (z : ℕ). (1 - z) * bit n k (f i)) (delta-other i k h) ∙ one-mul (bit n k (f i)))
+clearBy-bit n k f i h = sym (ap (λ (z : ℕ). (1 - z) * bit n k (f i)) (delta-other i k h) ∙ one-mul (bit n k (f i)))
+
+pub clearBy-other : (n k : ℕ) (f : ℕ → ℕ) (i x b : ℕ) → i ≢ k → x ≡ f i → b ≡ x / 2 ^ (n - 1 - k) % 2 → b ≡ clearBy n k f i
+clearBy-other n k f i x b h row digit = digit-of-row n k f i x b row digit ∙ clearBy-bit n k f i h
 
 pub coefficient-small : (n k : ℕ) (f : ℕ → ℕ) (i x : ℕ) → x ≡ clearBy n k f i → x < 2
 coefficient-small n k f i x e = rw e (clearBy-lt n k f i)
@@ -121,7 +127,7 @@ pivotBy-other n k f i h =
     ap (λ (x : ℕ). x * lacks) (delta-other i k h) ∙ zero-mul lacks
 
 -- Row k with its coefficient, and the others as they were.
-pivot-rows : (n k p : ℕ) (f g g′ : ℕ → ℕ) (b : ℕ) → b ≡ bit n k (f k) → Added g k p (1 - b) g′ → (i : ℕ) → i < n
+pub pivot-rows : (n k p : ℕ) (f g g′ : ℕ → ℕ) (b : ℕ) → b ≡ bit n k (f k) → Added g k p (1 - b) g′ → (i : ℕ) → i < n
     → g′ i ≡ addRow (pivotBy n k f) p g i
 unfolding addRow
 pivot-rows n k p f g g′ b e A i l = elim (ℕ-discrete k i) [
@@ -161,15 +167,13 @@ pivot-same n k f g (suc d) i e =
     ap₂ (λ (x y : ℕ). choose (bit n k x) i y) (e i (omega arith) (omega arith))
     (pivot-same n k f g d (suc i) (λ j l h. e j (omega arith) (omega arith)))
 
--- ---- a step of the whole work area m, which m₁ has become: row s is added on both sides by the coefficients c
-abbrev pub Stepped : ℕ → (ℕ → ℕ) → ℕ → List ℕ → List ℕ → Type 0
-Stepped n c s m m₁ =
-    (lefts n m₁ ≡ tabulate n (addRow c s (leftAt m))) × (rights n m₁ ≡ tabulate n (addRow c s (rightAt m)))
+-- ---- a step of a whole work area, whose rows f on the left and g on the right become f₁ and g₁: row s is added on both sides by the coefficients c
+abbrev pub Stepped : ℕ → (ℕ → ℕ) → ℕ → (ℕ → ℕ) → (ℕ → ℕ) → (ℕ → ℕ) → (ℕ → ℕ) → Type 0
+Stepped n c s f g f₁ g₁ = (tabulate n f₁ ≡ tabulate n (addRow c s f)) × (tabulate n g₁ ≡ tabulate n (addRow c s g))
 
 pub pivot-step : (n k p : ℕ) (m m₁ : List ℕ) (x b : ℕ) → 4 * k + 3 < length m → x ≡ leftAt m k → b ≡ x / 2 ^ (n - 1 - k) % 2
     → m₁ ≡ addedTo m k p (1 - b)
-    → Stepped n (pivotBy n k (leftAt m)) p m m₁
-unfolding lefts rights
+    → Stepped n (pivotBy n k (leftAt m)) p (leftAt m) (rightAt m) (leftAt m₁) (rightAt m₁)
 pivot-step n k p m m₁ x b h row digit e =
     let has = digit-of-row n k (leftAt m) k x b row digit in
     let same-left = pivot-rows n k p (leftAt m) (leftAt m) _ b has (added-left m k p (1 - b) h) in
@@ -203,7 +207,7 @@ module _ (n k : ℕ) (hk : k < n) (a b : List ℕ) (p : ℕ) (e : pivotFrom n k 
       let some : n - p ≡ suc (n - suc p) = omega arith in
       one-column ∙ ap (λ (x : ℕ). unlessZero x (rest (suc k) p)) some ∙ ap (λ (j : ℕ). rest j p) (sym (add-one k))
 
--- ---- the same of the work area
+-- ---- the same of a work area, whose rows are f on the left and g on the right
 -- Only the first n rows count in a step.
 step-same : (n : ℕ) (c c′ : ℕ → ℕ) (s : ℕ) (f g : ℕ → ℕ) → s < n → ((i : ℕ) → i < n → c i ≡ c′ i) → ((i : ℕ) → i < n → f i ≡ g i)
     → tabulate n (addRow c s f) ≡ tabulate n (addRow c′ s g)
@@ -211,57 +215,57 @@ unfolding addRow
 step-same n c c′ s f g hs e p =
     tabulate-ext n (addRow c s f) (addRow c′ s g) (λ i h. ap₂ bitXor (p i h) (ap₂ (λ (x y : ℕ). x * y) (e i h) (p s hs)))
 
-module _ (n k : ℕ) (hk : k < n) (m : List ℕ) where
+module _ (n k : ℕ) (hk : k < n) (f g : ℕ → ℕ) where
   a : List ℕ
-  a = lefts n m
+  a = tabulate n f
 
   b : List ℕ
-  b = rights n m
+  b = tabulate n g
 
-  at-a : (i : ℕ) → i < n → at a i ≡ leftAt m i
-  unfolding a lefts
-  at-a i h = at-tabulate n (leftAt m) i h
+  at-a : (i : ℕ) → i < n → at a i ≡ f i
+  unfolding a
+  at-a i h = at-tabulate n f i h
 
-  at-b : (i : ℕ) → i < n → at b i ≡ rightAt m i
-  unfolding b rights
-  at-b i h = at-tabulate n (rightAt m) i h
+  at-b : (i : ℕ) → i < n → at b i ≡ g i
+  unfolding b
+  at-b i h = at-tabulate n g i h
 
-  found-same : (p : ℕ) → p ≡ pivotFrom n k (leftAt m) (n - k) k → pivotFrom n k (at a) (n - k) k ≡ p
-  found-same p e = pivot-same n k (at a) (leftAt m) (n - k) k (λ j l h. at-a j (omega arith)) ∙ sym e
+  found-same : (p : ℕ) → p ≡ pivotFrom n k f (n - k) k → pivotFrom n k (at a) (n - k) k ≡ p
+  found-same p e = pivot-same n k (at a) f (n - k) k (λ j l h. at-a j (omega arith)) ∙ sym e
 
-  pub column-none : (p : ℕ) → p ≡ pivotFrom n k (leftAt m) (n - k) k → p ≡ n → columns n (n - k) k (lefts n m) (rights n m) ≡ singular
+  pub column-none : (p : ℕ) → p ≡ pivotFrom n k f (n - k) k → p ≡ n → columns n (n - k) k (tabulate n f) (tabulate n g) ≡ singular
   unfolding a b
   column-none p e q = columns-none n k hk a b p (found-same p e) q
 
-  -- m₁ is the work area behind the pivoting, m₂ behind the clearing.
-  pub column-next : (p : ℕ) (m₁ m₂ : List ℕ) → p ≡ pivotFrom n k (leftAt m) (n - k) k → p < n
-      → Stepped n (pivotBy n k (leftAt m)) p m m₁
-      → Stepped n (clearBy n k (leftAt m₁)) k m₁ m₂
-      → columns n (n - k) k (lefts n m) (rights n m) ≡ columns n (n - (k + 1)) (k + 1) (lefts n m₂) (rights n m₂)
+  -- f₁ and g₁ are the rows behind the pivoting, f₂ and g₂ behind the clearing.
+  pub column-next : (p : ℕ) (f₁ g₁ f₂ g₂ : ℕ → ℕ) → p ≡ pivotFrom n k f (n - k) k → p < n
+      → Stepped n (pivotBy n k f) p f g f₁ g₁
+      → Stepped n (clearBy n k f₁) k f₁ g₁ f₂ g₂
+      → columns n (n - k) k (tabulate n f) (tabulate n g) ≡ columns n (n - (k + 1)) (k + 1) (tabulate n f₂) (tabulate n g₂)
   unfolding a b
-  column-next p m₁ m₂ e hp s₁ s₂ =
+  column-next p f₁ g₁ f₂ g₂ e hp s₁ s₂ =
       columns-next n k hk a b p (found-same p e) hp
       ∙ ap₂ (λ (u v : List ℕ). columns n (n - (k + 1)) (k + 1) u v)
       (sym (s₂ .0 ∙ step-same n _ _ k _ _ hk clears lefts-same))
       (sym (s₂ .1 ∙ step-same n _ _ k _ _ hk clears rights-same))
     where
-      pivots : (i : ℕ) → i < n → pivotBy n k (leftAt m) i ≡ pivotBy n k (at a) i
+      pivots : (i : ℕ) → i < n → pivotBy n k f i ≡ pivotBy n k (at a) i
       pivots i h = unfold pivotBy in ap (λ (x : ℕ). delta i k * (1 - bit n k x)) (sym (at-a k hk))
 
-      lefts-same : (i : ℕ) → i < n → leftAt m₁ i ≡ pivoted n k p (at a) i
+      lefts-same : (i : ℕ) → i < n → f₁ i ≡ pivoted n k p (at a) i
       lefts-same i h =
-          unfold lefts in sym (at-tabulate n (leftAt m₁) i h)
+          sym (at-tabulate n f₁ i h)
           ∙ ap (λ (l : List ℕ). at l i) (s₁ .0 ∙ step-same n _ _ p _ _ hp pivots (λ j g. sym (at-a j g)))
           ∙ at-tabulate n (pivoted n k p (at a)) i h
 
-      rights-same : (i : ℕ) → i < n → rightAt m₁ i ≡ addRow (pivotBy n k (at a)) p (at b) i
+      rights-same : (i : ℕ) → i < n → g₁ i ≡ addRow (pivotBy n k (at a)) p (at b) i
       rights-same i h =
-          unfold rights in sym (at-tabulate n (rightAt m₁) i h)
+          sym (at-tabulate n g₁ i h)
           ∙ ap (λ (l : List ℕ). at l i) (s₁ .1 ∙ step-same n _ _ p _ _ hp pivots (λ j g. sym (at-b j g)))
           ∙ at-tabulate n (addRow (pivotBy n k (at a)) p (at b)) i h
 
-      clears : (i : ℕ) → i < n → clearBy n k (leftAt m₁) i ≡ clearBy n k (pivoted n k p (at a)) i
-      clears i h = clearBy-row n k (leftAt m₁) (pivoted n k p (at a)) i (lefts-same i h)
+      clears : (i : ℕ) → i < n → clearBy n k f₁ i ≡ clearBy n k (pivoted n k p (at a)) i
+      clears i h = clearBy-row n k f₁ (pivoted n k p (at a)) i (lefts-same i h)
 
 pub columns-done : (n k : ℕ) (u v : List ℕ) → k ≡ n → columns n (n - k) k u v ≡ inverse v
 unfolding columns

@@ -1,8 +1,9 @@
--- Laws, not definitions: the byte behind the S-box, from the products of nibbles, the S-box as a table and the two key bytes.
+-- Laws, not definitions: the byte behind the S-box, from the products of the bytes with one nibble, the S-box as a table and the two key bytes.
 -- Assumes nothing.
 use mathlib.Core.List.{List, _++_}
 use mathlib.Core.Path.{_≡_, sym, ap, ap₂, _∙_, subst}
-use Prim.Native.Nat.{ℕ, _+_, _-_, _*_, _/_, _%_, _≤_, _<_}
+use Prim.Native.Nat.{ℕ, _+_, _-_, _*_, _%_, _^_, _≤_, _<_}
+use native.Mathlib.Nat.{mod-eq-of-lt}
 use native.Mathlib.Omega.{arith}
 use lib.Bits.{bitXor, xor-lt}
 use lib.ListN.{length, set, take}
@@ -13,8 +14,9 @@ use Rattle.bits.specs.Lists.{at, tabulate}
 use Rattle.bits.proofs.laws.Filled.{Filled, filled-more}
 use Rattle.bits.proofs.laws.Lists.{at-tabulate, tabulate-ext}
 use Rattle.matrices.specs.Matrices.{product, matrixOf, Invertible}
-use Rattle.matrices.specs.Rows.{rowsOf, wordsOf}
+use Rattle.matrices.specs.Rows.{rowAt, rowsOf, stored, wordsOf}
 use Rattle.matrices.proofs.laws.Matrices.{product-lt, product-xor}
+use Rattle.matrices.proofs.laws.Rows.{row-stored}
 use Rattle.matrices.proofs.laws.Words.{length-words, product-of-words}
 use Rattle.inversion.specs.Elimination.{inverseOf}
 use Rattle.bundle.specs.Format.{byteMatrices, byteMatrixPart}
@@ -23,17 +25,10 @@ use Rattle.judgement.proofs.laws.Judgements.{accepted-sound}
 use Rattle.whitebox.specs.Bundles.{codingsOf}
 use Rattle.whitebox.specs.Parts.{Parts}
 use Rattle.whitebox.specs.Words.{substituted}
-use Rattle.entries.specs.Spread.{nibbleByte}
-use Rattle.entries.proofs.laws.Combined.{by-nibbles}
+use Rattle.entries.specs.Spread.{combined, nibbleByte, wordIn}
+use Rattle.entries.proofs.laws.Combined.{word-in}
 use Rattle.layers.proofs.laws.Code.{frame-of, byte-part-long, byte-is}
-
--- ---- the products of the rows of m and the bytes with one nibble
-abbrev pub nibbleProduct : List ℕ → ℕ → ℕ
-nibbleProduct m k = product 8 (rowsOf 8 m) (nibbleByte k)
-
-pub products-more : (m : List ℕ) {t : List ℕ} {r x v : ℕ} → Filled 32 (nibbleProduct m) t r → r < 32 → x ≡ nibbleByte r
-    → v ≡ product 8 (rowsOf 8 m) x → Filled 32 (nibbleProduct m) (set t r v) (r + 1)
-products-more m F h ex ev = filled-more F h (ev ∙ ap (product 8 (rowsOf 8 m)) ex)
+use Rattle.layers.proofs.laws.Linear.{by-powers}
 
 -- ---- the byte behind the S-box, for every byte that is read
 -- The byte x times the rows of m, then xor `before`, S-box, xor `behind`; the S-box is any, `box`.
@@ -44,32 +39,44 @@ behindSbox box m before behind x = bitXor (box (bitXor (product 8 (rowsOf 8 m) x
 abbrev pub behindAt : (ℕ → ℕ) → List ℕ → ℕ → ℕ → List ℕ → ℕ → ℕ
 behindAt box m before behind read k = behindSbox box m before behind (at read k)
 
-module _ (box : ℕ → ℕ) (m products sbox : List ℕ) (before behind : ℕ) (p : products ≡ tabulate 32 (nibbleProduct m))
-    (s : sbox ≡ tabulate 256 box) (b : before < 256) where
+-- `basis` has the columns of m, `products` a row for each byte with one nibble, and `sbox` the S-box.
+pub record Prepared (box : ℕ → ℕ) (m basis products sbox : List ℕ) : Type 0 where
+  pub columns : (k : ℕ) → k < 8 → rowAt basis k ≡ product 8 (rowsOf 8 m) (2 ^ k)
+  pub words : (y : ℕ) → y < 256 → wordIn products y ≡ combined (rowAt basis) y
+  pub table : sbox ≡ tabulate 256 box
+
+-- What the three calls leave, where `basis` was `old` and `products` was `none`.
+pub prepared : {box : ℕ → ℕ} (m old none : List ℕ) {basis products sbox : List ℕ} → length old ≡ 16 → length none ≡ 64
+    → basis ≡ stored 8 (λ k. product 8 (rowsOf 8 m) (2 ^ k)) old
+    → products ≡ stored 32 (λ r. combined (rowAt basis) (nibbleByte r)) none
+    → sbox ≡ tabulate 256 box
+    → Prepared box m basis products sbox
+prepared m old none {basis} {products} lo ln b p s = record {
+  columns = λ k h. ap (λ (t : List ℕ). rowAt t k) b ∙ row-stored 8 (λ k. product 8 (rowsOf 8 m) (2 ^ k)) old (omega arith) k h;
+  words = λ y h. word-in (rowAt basis) none products y ln p h;
+  table = s;
+}
+
+module _ {box : ℕ → ℕ} {m basis products sbox : List ℕ} (made : Prepared box m basis products sbox) (before behind : ℕ) (b : before < 256) where
   abbrev times : ℕ → ℕ
   times = product 8 (rowsOf 8 m)
 
-  -- y is the byte read, as an index; the products of its two nibbles add up to its own.
-  substituted-is : (read y : ℕ) → y ≡ read → y < 256
-      → at sbox (bitXor (bitXor (at products (y % 16)) (at products (16 + y / 16))) before) ≡ box (bitXor (times read) before)
-  substituted-is read y e h =
-      ap₂ (λ (t : List ℕ) (x : ℕ). at t (bitXor x before)) s sum
-      ∙ at-tabulate 256 box _ (xor-lt 8 (times read) before (product-lt 8 (at (rowsOf 8 m)) read) b)
-    where
-      product-at : (r : ℕ) → r < 32 → at products r ≡ times (nibbleByte r)
-      product-at r k = ap (λ (t : List ℕ). at t r) p ∙ at-tabulate 32 (nibbleProduct m) r k
+  -- The product of a byte is the sum of its nibbles' rows, since it is linear in the byte.
+  product-in : (y : ℕ) → y < 256 → wordIn products y % 256 ≡ times y
+  product-in y h =
+      ap (λ (x : ℕ). x % 256)
+      (made .words y h ∙ by-powers times (rowAt basis) (λ u v g k. product-xor 8 (at (rowsOf 8 m)) u v) (made .columns) y h)
+      ∙ mod-eq-of-lt (product-lt 8 (at (rowsOf 8 m)) y)
 
-      sum : bitXor (at products (y % 16)) (at products (16 + y / 16)) ≡ times read
-      sum =
-          ap₂ bitXor (product-at (y % 16) (omega arith)) (product-at (16 + y / 16) (omega arith))
-          ∙ by-nibbles times (product-xor 8 (at (rowsOf 8 m))) y
-          ∙ ap times e
-
-  pub substituted-more : (read : List ℕ) {t : List ℕ} {x v : ℕ} (y : ℕ) → Filled 256 (behindAt box m before behind read) t x → x < 256
-      → y ≡ at read x → y < 256 → v ≡ bitXor (at sbox (bitXor (bitXor (at products (y % 16)) (at products (16 + y / 16))) before)) behind
+  pub substituted-more : (read : List ℕ) {t : List ℕ} {x v : ℕ} → Filled 256 (behindAt box m before behind read) t x → x < 256 → at read x < 256
+      → v ≡ bitXor (at sbox (bitXor (wordIn products (at read x) % 256) before)) behind
       → Filled 256 (behindAt box m before behind read) (set t x v) (x + 1)
-  substituted-more read {x = x} y F h e k ev =
-      filled-more F h (ev ∙ ap (λ (z : ℕ). bitXor z behind) (substituted-is (at read x) y e k))
+  substituted-more read {x = x} F h small ev =
+      let y = at read x in
+      filled-more F h (ev
+      ∙ ap (λ (z : ℕ). bitXor z behind)
+      (ap₂ (λ (l : List ℕ) (z : ℕ). at l (bitXor z before)) (made .table) (product-in y small)
+      ∙ at-tabulate 256 box _ (xor-lt 8 (times y) before (product-lt 8 (at (rowsOf 8 m)) y) b)))
 
 -- ---- round r of nr, position p, of an accepted bundle l: j is the position that p reads, part the byte matrix of round r there
 module _ (nr : ℕ) (l part : List ℕ) (r j : ℕ) (low : 1 ≤ r) (high : r ≤ nr) (h : j < 16) (ep : part ≡ byteMatrixPart nr l (16 * (r - 1) + j)) where

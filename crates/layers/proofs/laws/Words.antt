@@ -2,7 +2,7 @@
 -- Assumes nothing.
 use mathlib.Core.List.{List}
 use mathlib.Core.Path.{_≡_, sym, ap, ap₂, _∙_}
-use Prim.Native.Nat.{ℕ, _+_, _-_, _*_, _/_, _%_, _^_, _≤_, _<_}
+use Prim.Native.Nat.{ℕ, zero, suc, _+_, _-_, _*_, _/_, _%_, _^_, _≤_, _<_}
 use native.Mathlib.Nat.{one-mul, mod-eq-of-lt}
 use native.Mathlib.Omega.{arith}
 use lib.ListN.{length, set}
@@ -13,28 +13,22 @@ use Rattle.bits.specs.Lists.{at, partOf}
 use Rattle.bits.specs.Vectors.{dot}
 use Rattle.bits.proofs.laws.Bytes.{byte-from-bottom}
 use Rattle.bits.proofs.laws.Filled.{Filled, filled-more}
-use Rattle.bits.proofs.laws.Joined.{Joined, joined-all}
+use Rattle.bits.proofs.laws.Joined.{Joined, joined-more}
 use Rattle.matrices.specs.Matrices.{product, productBy, matrixOf}
-use Rattle.matrices.specs.Rows.{rowsOf}
-use Rattle.matrices.proofs.laws.Matrices.{product-lt, product-rows}
+use Rattle.matrices.proofs.laws.Matrices.{product-rows}
+use Rattle.matrices.proofs.laws.Rows.{joined-product}
 use Rattle.matrices.proofs.laws.Stored.{matrixOf-at}
 use Rattle.field.specs.Field.{mul}
+use Rattle.field.proofs.laws.Field.{mul-lt}
+use Rattle.round.specs.State.{mixRows, invMixRows, entry}
+use Rattle.round.proofs.laws.Mix.{mix-bytes, inv-mix-bytes}
+use Rattle.layout.specs.Ciphers.{forCipher}
 use Rattle.bits.proofs.laws.Cuts.{part-length}
 
 pub shifted-one : (k : ℕ) → k < 8 → 1 * 2 ^ k % 2 ^ 8 ≡ 2 ^ k
 shifted-one k h = ap (λ (x : ℕ). x % 2 ^ 8) (one-mul (2 ^ k)) ∙ mod-eq-of-lt (pow-lt h)
 
--- ---- the product of 8 rows and a byte is a byte: b is the lowest byte of the product v
-low-byte : (m : List ℕ) (x v b : ℕ) → v ≡ product 8 m x → b ≡ v / 2 ^ (8 * 0) % 256 → b ≡ product 8 m x
-low-byte m x v b e q =
-    let h : product 8 m x < 256 = product-lt 8 (at m) x in
-    let z : v / 1 % 256 ≡ v = omega arith in
-    q ∙ z ∙ e
-
--- w is the vector of the byte x.
-pub rows-byte : (m : List ℕ) (x w v b : ℕ) → w ≡ x → v ≡ product 8 (rowsOf 8 m) w → b ≡ v / 2 ^ (8 * 0) % 256 → b ≡ product 8 (rowsOf 8 m) x
-rows-byte m x w v b ex e q = low-byte (rowsOf 8 m) x v b (e ∙ ap (product 8 (rowsOf 8 m)) ex) q
-
+-- ---- the product of 8 bytes and a byte
 -- The rows of a matrix of 8 rows are the bytes that write it.
 part-rows : (p : List ℕ) (x : ℕ) → productBy 8 (at p) x ≡ product 8 (matrixOf 1 p) x
 unfolding joined
@@ -45,13 +39,11 @@ part-rows p x =
     let one : 0 * 2 ^ 8 + at p (i * 1 + 0) ≡ at p (i * 1 + 0) = omega arith in
     sym (matrixOf-at 1 p i h ∙ one ∙ ap (at p) here))
 
--- A loop joins the parities of the 8 bytes that write a matrix and x; b is the lowest byte of what it leaves.
-pub joined-byte : (p : List ℕ) (x : ℕ) {r i : ℕ} (b : ℕ) → Joined 1 8 (λ j. dot (at p j) x) r i → 8 ≤ i → b ≡ r / 2 ^ (8 * 0) % 256
-    → b ≡ product 8 (matrixOf 1 p) x
-unfolding productBy
-joined-byte p x {r} b J h q = low-byte (matrixOf 1 p) x r b (joined-all J h ∙ part-rows p x) q
+-- A loop joins the parities of the 8 bytes that write a matrix and x.
+pub part-multiplied : (p : List ℕ) (x r i : ℕ) → Joined 1 8 (λ j. dot (at p j) x) r i → 8 ≤ i → r ≡ product 8 (matrixOf 1 p) x
+part-multiplied p x r i J h = joined-product 8 (at p) x r i J h ∙ part-rows p x
 
--- ---- bytes that a loop fills
+-- ---- four bytes that a loop joins
 -- Row t of column q of a column mixing with the coefficients c, times the byte y.
 abbrev pub mixedBy : (ℕ → ℕ → ℕ) → ℕ → ℕ → ℕ → ℕ
 mixedBy c q y t = mul (c t q) y
@@ -60,10 +52,16 @@ mixedBy c q y t = mul (c t q) y
 abbrev pub mixedColumn : (ℕ → ℕ → ℕ) → ℕ → ℕ → ℕ
 mixedColumn c q y = number 4 (mixedBy c q y)
 
-pub mixed-more : (c : ℕ → ℕ → ℕ) (q y : ℕ) {b : List ℕ} {t k v : ℕ} → Filled 16 (mixedBy c q y) b t → t < 4 → k ≡ c t q → v ≡ mul k y
-    → Filled 16 (mixedBy c q y) (set b t v) (t + 1)
-mixed-more c q y F h ec ev = filled-more F (omega arith) (ev ∙ ap (λ (z : ℕ). mul z y) ec)
+-- Each row is a byte, for either cipher.
+pub mixed-lt : (cipher q y t : ℕ) → mixedBy (entry (forCipher cipher mixRows invMixRows)) q y t < 256
+mixed-lt zero q y t = mul-lt (entry mixRows t q) y (mix-bytes _)
+mixed-lt (suc c) q y t = mul-lt (entry invMixRows t q) y (inv-mix-bytes _)
 
+pub mixed-more : (c : ℕ → ℕ → ℕ) (q y : ℕ) {v t k x : ℕ} → Joined 8 4 (mixedBy c q y) v t → t < 4 → k ≡ c t q → x ≡ mul k y
+    → Joined 8 4 (mixedBy c q y) (v * 256 + x) (t + 1)
+mixed-more c q y {v} J h ec ex = joined-more J h (ap (λ (z : ℕ). v * 256 + z) (ex ∙ ap (λ (z : ℕ). mul z y) ec))
+
+-- ---- bytes that a loop fills
 module _ (s : List ℕ) (first n v : ℕ) where
   -- Byte j of the n bytes of v, times its byte matrix of the section s.
   abbrev pub byteTimes : ℕ → ℕ

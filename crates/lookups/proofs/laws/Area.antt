@@ -29,7 +29,7 @@ word-read {m = m} I h e l g =
       word = refl;
       ends = omega (arith, row-inside _ m 256 g);
       area = rw e at (pasted-all I h);
-      long = length-pasted I h;
+      long = length-pasted I;
     })
 
 -- ---- the loop that fills the area with zeros

@@ -3,8 +3,9 @@
 use mathlib.Core.List.{List}
 use mathlib.Core.Logic.{_≢_}
 use mathlib.Core.Path.{_≡_, refl, sym, ap, ap₂, _∙_}
-use Prim.Native.Nat.{ℕ, zero, suc, _+_, _*_, _/_, _%_, _^_, _≤_, _<_}
-use native.Mathlib.Decide.{ℕ-discrete}
+use Prim.Native.Nat.{ℕ, zero, suc, _+_, _-_, _*_, _/_, _%_, _^_, _≤_, _<_}
+use native.Mathlib.Decide.{ℕ-discrete, decLt}
+use native.Mathlib.Nat.{mod-eq-of-lt}
 use native.Mathlib.Numerals.{add-one}
 use native.Mathlib.Omega.{arith}
 use lib.ListN.{length, set, length-set}
@@ -14,7 +15,8 @@ use Rattle.bits.specs.Vectors.{dot}
 use Rattle.bits.specs.Words.{wide}
 use Rattle.bits.proofs.laws.Joined.{Joined, joined-all}
 use Rattle.bits.proofs.laws.Lists.{tabulate-ext, at-tabulate}
-use Rattle.bits.proofs.laws.Words.{wide-split, wide-high, wide-low}
+use Rattle.bits.proofs.laws.Vectors.{dot-comm, dot-power}
+use Rattle.bits.proofs.laws.Words.{wide-split, wide-high, wide-low, bits-low, bits-high}
 use Rattle.matrices.specs.Matrices.{productBy, product}
 use Rattle.matrices.specs.Rows.{rowAt, rowsOf, setRow, stored}
 use Rattle.matrices.proofs.laws.Matrices.{product-rows}
@@ -104,7 +106,25 @@ module _ {n : ℕ} {f : ℕ → ℕ} {m₀ m : List ℕ} {i : ℕ} (g : Stored n
       let done : i ≡ n = omega arith in
       g .rows ∙ ap (λ (k : ℕ). stored k f m₀) done
 
+-- ---- digit s of row i, from the bottom, in the one of the row's two words that holds it: the high one is first
+pub column-bit : (m : List ℕ) (i s : ℕ) → s < 128 → at m (2 * i + 1) < 2 ^ 64 → at m (2 * i + (1 - s / 64)) / 2 ^ (s % 64) % 2 ≡ dot (rowAt m i) (2 ^ s)
+unfolding rowAt
+column-bit m i s h k =
+    elim (decLt s 64) [
+      | yes l ↦
+          let low : 1 - s / 64 ≡ 1 = omega arith in
+          rw (low, mod-eq-of-lt l) (bits-low 1 (at m (2 * i)) (at m (2 * i + 1)) s (omega arith))
+      | no l ↦
+          let high : 2 * i + (1 - s / 64) ≡ 2 * i = omega arith in
+          let place : s % 64 ≡ s - 64 = omega arith in
+          rw (high, place) (bits-high 1 (at m (2 * i)) (at m (2 * i + 1)) s (omega arith) k)
+    ]
+    ∙ sym (dot-comm (rowAt m i) (2 ^ s) ∙ dot-power s (rowAt m i))
+
 -- ---- a loop that joins the parities of n rows and a vector is their product
-pub multiplied : (n : ℕ) (m : List ℕ) (v p i : ℕ) → Joined 1 n (λ j. dot (rowAt m j) v) p i → n ≤ i → p ≡ product n (rowsOf n m) v
+pub joined-product : (n : ℕ) (f : ℕ → ℕ) (v p i : ℕ) → Joined 1 n (λ j. dot (f j) v) p i → n ≤ i → p ≡ productBy n f v
 unfolding productBy
-multiplied n m v p i g h = joined-all g h ∙ product-rows n (rowAt m) (at (rowsOf n m)) v (λ j l. sym (at-rowsOf n m j l))
+joined-product n f v p i g h = joined-all g h
+
+pub multiplied : (n : ℕ) (m : List ℕ) (v p i : ℕ) → Joined 1 n (λ j. dot (rowAt m j) v) p i → n ≤ i → p ≡ product n (rowsOf n m) v
+multiplied n m v p i g h = joined-product n (rowAt m) v p i g h ∙ product-rows n (rowAt m) (at (rowsOf n m)) v (λ j l. sym (at-rowsOf n m j l))

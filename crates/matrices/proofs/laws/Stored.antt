@@ -2,17 +2,19 @@
 -- Assumes nothing.
 use mathlib.Core.List.{List}
 use mathlib.Core.Path.{_≡_, sym, ap, ap₂, _∙_, subst}
-use Prim.Native.Nat.{ℕ, zero, suc, _+_, _*_, _/_, _%_, _^_, _≤_, _<_}
+use Prim.Native.Nat.{ℕ, zero, suc, _+_, _-_, _*_, _/_, _%_, _^_, _≤_, _<_}
 use native.Mathlib.Nat.{div-add-mod', div-lt-iff-lt-mul, mod-lt, zero-lt-suc}
 use native.Mathlib.Omega.{arith}
 use lib.ListN.{length}
-use Rattle.bits.specs.Bytes.{Bytes, number, byte, bytesOf}
+use Rattle.bits.specs.Bytes.{Bytes, number, byte, bytesOf, placed}
 use Rattle.bits.specs.Lists.{at}
-use Rattle.bits.proofs.laws.Bytes.{length-bytesOf, at-bytesOf, bytesOf-bytes}
+use Rattle.bits.specs.Vectors.{dot}
+use Rattle.bits.proofs.laws.Bytes.{length-bytesOf, at-bytesOf, bytesOf-bytes, placed-power}
 use Rattle.bits.proofs.laws.Groups.{joined-lt, joined-same, joined-group, group-joined}
 use Rattle.bits.proofs.laws.Lists.{tabulate-at, length-tabulate, at-tabulate, ext-at, concat-same, concat-below, length-concat, at-concat}
 use Rattle.bits.proofs.laws.Multiples.{row-inside}
 use Rattle.bits.proofs.laws.Parts.{Parts, parts-all}
+use Rattle.bits.proofs.laws.Vectors.{bit-group, bit-shift, dot-unit}
 use Rattle.matrices.specs.Rows.{rowAt, rowsOf, stored}
 use Rattle.matrices.proofs.laws.Rows.{rows-stored, at-rowsOf}
 use Rattle.matrices.specs.Matrices.{RowsFit, matrixOf, matrixBytes}
@@ -90,3 +92,18 @@ pub matrix-written : (w : ℕ) (m d₀ d : List ℕ) (i : ℕ) → Parts (8 * w)
 unfolding matrixBytes
 matrix-written w m d₀ d i g h e =
     parts-all g h e ∙ concat-same (8 * w) _ _ (λ r l. ap (bytesOf w) (sym (at-rowsOf (8 * w) m r l)))
+
+-- Digit k of byte i of row r, of w bytes to a row: the row's parity with 2^k at that byte.
+pub written-digit : (w : ℕ) (s : List ℕ) (i k r : ℕ) → Bytes s → i < w → k < 8 → r < 8 * w
+    → at s (r * w + i) / 2 ^ k % 2 ≡ dot (at (matrixOf w s) r) (placed w i (2 ^ k))
+written-digit w s i k r b hi hk hr =
+    let v = at (matrixOf w s) r in
+    let digit : 8 - suc (7 - k) ≡ k = omega arith in
+    let place : 8 * w - suc (8 * i + (7 - k)) ≡ 8 * (w - 1 - i) + k = omega arith in
+    sym (ap (dot v) (sym (ap (λ (x : ℕ). 2 ^ x) place ∙ placed-power w i k hi))
+    ∙ dot-unit (8 * w) (8 * i + (7 - k)) v
+    ∙ sym (bit-group 8 w i (7 - k) v hi (omega arith))
+    ∙ bit-shift 8 (7 - k) (byte w i v)
+    ∙ ap (λ (x : ℕ). byte w i v / 2 ^ x % 2) digit
+    ∙ ap (λ (x : ℕ). x / 2 ^ k % 2)
+    (ap (byte w i) (matrixOf-at w s r hr) ∙ group-joined 8 w (λ j. at s (r * w + j)) (λ j q. b (r * w + j)) i hi))

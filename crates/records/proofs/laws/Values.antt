@@ -135,7 +135,7 @@ module _ (S : Shape) (j : ℕ) (mem : List ℕ) (r : EntryPlace) (w : State) whe
     -- The word and the nibble stand at their places in that area.
     word-put : j < 16 → at withWord (j * m) ≡ at mem (r .offset)
     word-put h =
-        paste-first (w .area) (drop (r .offset) mem) (j * m) m (omega (arith, word-room h)) (omega (arith, good .wide)) (word-read h)
+        paste-first (w .area) (j * m) (drop (r .offset) mem) m (omega (arith, word-room h)) (word-read h) (omega (arith, good .wide))
         ∙ getD-drop (r .offset) mem 0 0
         ∙ ap (at mem) (let e : r .offset + 0 ≡ r .offset = omega arith in e)
 

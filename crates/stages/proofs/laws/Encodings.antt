@@ -3,18 +3,22 @@
 use mathlib.Core.List.{List}
 use mathlib.Core.Path.{_≡_, ap, _∙_}
 use Prim.Native.Nat.{ℕ, _+_, _*_, _/_, _%_, _<_}
+use native.Mathlib.Omega.{arith}
 use Rattle.answers.specs.declared.Answer.the-variants.{Accepted}
 use Rattle.bits.specs.Bytes.{Bytes}
 use Rattle.bits.specs.Encodings.{decode, Permutation}
 use Rattle.bits.specs.Lists.{tabulate}
 use Rattle.bits.specs.Nibbles.{pack}
 use Rattle.bits.proofs.laws.Lists.{tabulate-ext}
-use Rattle.bundle.specs.Format.{encodings, partSize, sectionOf, partAt, encodingOf}
+use lib.ListN.{length}
+use Rattle.bundle.specs.Format.{encodings, partCount, partSize, sectionLength, sectionOf, partAt, encodingOf}
+use Rattle.bundle.proofs.laws.Frame.{section-length}
 use Rattle.judgement.specs.Judge.{judge}
 use Rattle.judgement.proofs.laws.Judgements.{accepted-sound}
 use Rattle.layout.specs.Stages.{sourceOf, standingNumber}
 use Rattle.layout.specs.declared.stage.Stage.{Stage}
 use Rattle.entries.specs.Encodings.{encodingIn}
+use Rattle.layers.proofs.laws.Code.{frame-of}
 use Rattle.stages.specs.Spread.{readByte}
 
 module _ (nr : ℕ) (l s : List ℕ) (e : s ≡ sectionOf nr l 0) where
@@ -22,7 +26,11 @@ module _ (nr : ℕ) (l s : List ℕ) (e : s ≡ sectionOf nr l 0) where
   unfolding partAt partSize
   encodings-in = ap {B = ℕ → List ℕ} (λ (t : List ℕ). encodingIn t) e
 
-  -- Each of them is a permutation where the bundle is accepted.
+  -- Where the bundle is accepted, the section has all of them, and each is a permutation.
+  pub encodings-long : judge nr l ≡ Accepted → length s ≡ encodings nr * 8
+  unfolding sectionLength partCount partSize
+  encodings-long accepted = ap length e ∙ section-length nr l (frame-of nr l accepted) 0 (omega arith)
+
   pub encodings-permute : Bytes l → judge nr l ≡ Accepted → (n : ℕ) → n < encodings nr → Permutation (encodingIn s n)
   encodings-permute bytes accepted n h =
       let good = accepted-sound nr l bytes accepted in

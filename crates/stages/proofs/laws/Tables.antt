@@ -1,5 +1,6 @@
 -- Laws, not definitions: what is asked for an XOR table of a stage or half.
 -- Assumes nothing.
+use mathlib.Core.Logic.{inl, inr}
 use mathlib.Core.Path.{_≡_, _∙_}
 use Prim.Native.Nat.{ℕ, _+_, _-_, _≤_, _<_}
 use native.Mathlib.Omega.{arith}
@@ -13,6 +14,7 @@ use Rattle.layout.specs.Stages.{widthOf, firstNumber}
 use Rattle.layout.specs.declared.stage.Stage.{Stage}
 use Rattle.layout.specs.declared.stage.Stage.the-variants.{Entry, First, Second, Exit, Beyond}
 use Rattle.layout.proofs.laws.Stages.{good-16, good-4, results-16, results-4}
+use Rattle.entries.specs.Words.{WordWidth}
 use Rattle.layers.specs.Layers.{InRounds}
 
 -- ---- widths and numbers by stage
@@ -30,6 +32,14 @@ results-fit nr (First r) h = omega (arith, results-4)
 results-fit nr (Second r) h = omega (arith, results-4)
 results-fit nr Exit h = omega (arith, results-16)
 results-fit nr Beyond h = absurd h
+
+-- The words of a stage have one of the two widths that are written.
+pub word-width : (nr : ℕ) (s : Stage) (m : ℕ) → InRounds nr s → m ≡ widthOf s → WordWidth m
+word-width nr Entry m h e = inl e
+word-width nr (First r) m h e = inr e
+word-width nr (Second r) m h e = inr e
+word-width nr Exit m h e = inl e
+word-width nr Beyond m h e = absurd h
 
 -- What an XOR table asks for: the width m and the number `first` are the stage's, the memory has `size` bytes.
 pub xor-asked : (nr : ℕ) (s : Stage) (m first j size : ℕ) → m ≡ widthOf s → first ≡ firstNumber nr s → InRounds nr s

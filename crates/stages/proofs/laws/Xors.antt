@@ -58,13 +58,11 @@ module _ (m : ℕ) (good : GoodWidth m) (first x : ℕ) where
       let e : sumOf m x + addedOf m x + 1 ≡ sumOf m x + suc (addedOf m x) = omega arith in
       ap (λ (z : ℕ). first + z * (2 * m) + nibbleOf m x) e
 
-  -- The table from these numbers and from the section of encodings.
-  pub xor-made : (nr : ℕ) (l section dst : List ℕ) (sum : ℕ) → first + layerResults m ≤ encodings nr → x < xors m → section ≡ sectionOf nr l 0
+  -- They are below the number of encodings, where the layer's results are.
+  pub numbers-below : (count sum : ℕ) → first + layerResults m ≤ count → x < xors m
       → sum ≡ cond (eqb (addedOf m x) 0) (first + sumOf m x * (2 * m) + nibbleOf m x) (first + 16 * (2 * m) + x - 2 * m)
-      → dst ≡ packedBy section sum (first + (sumOf m x + addedOf m x + 1) * (2 * m) + nibbleOf m x) (first + 16 * (2 * m) + x)
-      → dst ≡ xorTable (codingsOf nr l .encoding) m first x
-  unfolding xorTable xorEntry
-  xor-made nr l section dst sum room made is a d =
+      → (sum < count) × (first + (sumOf m x + addedOf m x + 1) * (2 * m) + nibbleOf m x < count) × (first + 16 * (2 * m) + x < count)
+  numbers-below count sum room made a =
       let w = sumOf m x in
       let k = addedOf m x in
       let h = nibbleOf m x in
@@ -72,12 +70,25 @@ module _ (m : ℕ) (good : GoodWidth m) (first x : ℕ) where
       let few = added-lt m good x in
       let hh = nibble-in m good x in
       let wide = good .wide in
-      let lt = number-lt m good first in
-      let own : (i n : ℕ) → i ≡ n → n < encodings nr → encodingIn section i ≡ codingsOf nr l .encoding n = λ i n e g.
-      ap (encodingIn section) e ∙ ap (λ (f : ℕ → List ℕ). f n) (encodings-in nr l section is) ∙ sym (encoding-is nr l n g) in
-      let A = own sum _ (a ∙ so-far-is) (omega (arith, lt w k h (omega arith) (omega arith) hh)) in
-      let B = own _ _ added-is (omega (arith, lt (w + suc k) 0 h within (omega arith) hh)) in
-      let R = own _ _ result-is (omega (arith, lt w (suc k) h (omega arith) (omega arith) hh)) in
+      let lt = number-lt m good first in (
+        rw (a ∙ so-far-is) (omega (arith, lt w k h (omega arith) (omega arith) hh)),
+        rw added-is (omega (arith, lt (w + suc k) 0 h within (omega arith) hh)),
+        rw result-is (omega (arith, lt w (suc k) h (omega arith) (omega arith) hh)),
+      )
+
+  -- The table from these numbers and from the section of encodings.
+  pub xor-made : (nr : ℕ) (l section dst : List ℕ) (sum : ℕ) → first + layerResults m ≤ encodings nr → x < xors m → section ≡ sectionOf nr l 0
+      → sum ≡ cond (eqb (addedOf m x) 0) (first + sumOf m x * (2 * m) + nibbleOf m x) (first + 16 * (2 * m) + x - 2 * m)
+      → dst ≡ packedBy section sum (first + (sumOf m x + addedOf m x + 1) * (2 * m) + nibbleOf m x) (first + 16 * (2 * m) + x)
+      → dst ≡ xorTable (codingsOf nr l .encoding) m first x
+  unfolding xorTable xorEntry
+  xor-made nr l section dst sum room made is a d =
+      let below = numbers-below (encodings nr) sum room made a in
+      let own : (i n : ℕ) → i ≡ n → i < encodings nr → encodingIn section i ≡ codingsOf nr l .encoding n = λ i n e g.
+      ap (λ (f : ℕ → List ℕ). f i) (encodings-in nr l section is) ∙ sym (encoding-is nr l i g) ∙ ap (codingsOf nr l .encoding) e in
+      let A = own sum _ (a ∙ so-far-is) (below .0) in
+      let B = own _ _ added-is (below .1) in
+      let R = own _ _ result-is (below .2) in
       d ∙ packed-ext 128 _ _ (λ e g. ap₂ encode R (ap₂ (λ (u v : List ℕ). bitXor (decode u (e / 16)) (decode v (e % 16))) A B))
 
 -- What the code's sums and products stay below, where there are `count` encodings.
@@ -98,10 +109,8 @@ xor-within count m first x good room made =
     let hh = nibble-in m good x in
     let wide = good .wide in
     let most = good .most in
-    let below = number-lt m good first (sumOf m x) (suc (addedOf m x)) (nibbleOf m x) (omega arith) (omega arith) hh in
-    let e = result-is m good first x in
     record {
-      result = omega arith;
+      result = numbers-below m good first x count _ room made refl .2;
       sum = product-le (sumOf m x) (2 * m) 15 32 (omega arith) (omega arith);
       next = product-le (sumOf m x + addedOf m x + 1) (2 * m) 15 32 (omega arith) (omega arith);
       word = omega arith;

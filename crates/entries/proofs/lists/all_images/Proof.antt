@@ -1,9 +1,12 @@
 -- `entries::lists::all_images` writes the images of `count` encodings one behind the other. The loop's invariant, `Parts` of bits: the
 -- first h lists stand in the front of dst. A turn lends the part of list h and gets the images back that `images` gives of the encoding's 8
--- bytes (`parts-more`). Behind the last the front has all, and the rest of dst is as it was (`parts-whole`).
+-- bytes (`parts-more`), which the section has (`part-length`). Behind the last the front has all, and the rest of dst
+-- is as it was (`parts-whole`).
 -- Assumes nothing.
-use mathlib.Core.Path.{_∙_}
+use mathlib.Core.Path.{ap, _∙_}
 use Prim.Native.Nat.{_+_, _-_}
+use lib.ListN.{length}
+use Rattle.bits.proofs.laws.Cuts.{part-length}
 use Rattle.bits.proofs.laws.Parts.{Parts, parts-none, part-lent, parts-more, parts-whole}
 use Rattle.entries.specs.Encodings.{encodingIn}
 use native.Mathlib.Omega.{arith}
@@ -21,8 +24,10 @@ loop-holds c = parts-none (omega arith)
 
 images-requires : tie.Need-images-requires Inv-loop μ-loop
 images-requires c κs =
+    let part : tie.After-part Inv-loop μ-loop = search in
     let turn : tie.In-loop Inv-loop μ-loop = search in
-    part-lent (turn .before .loop .inv) (turn .loop-test .taken) .long
+    let whole = ap length (part .part .ensures) ∙ part-length 8 _ _ (omega arith) in
+    (omega arith, part-lent (turn .before .loop .inv) (turn .loop-test .taken) .long)
 
 loop-again : tie.Need-loop-again Inv-loop μ-loop
 loop-again c =

@@ -1,38 +1,60 @@
--- `entries::lists::images` fills the 16 places from the front, place v with nibble v of p (`Filled` of bits); filled, they are the images.
+-- `entries::lists::images` fills the 16 places from the front with the nibbles of p (`Filled` of bits), the two of byte i in turn i: `two-more` of
+-- `laws.Entries`. Filled, the places are the images.
 -- Assumes nothing.
-use Prim.Native.Nat.{_-_}
+use Prim.Native.Nat.{_-_, _*_}
+use lib.ListN.{length-set}
 use Rattle.bits.specs.Encodings.{imagesOf}
 use Rattle.bits.specs.Nibbles.{nibble}
-use Rattle.bits.proofs.laws.Filled.{Filled, filled-none, filled-more, filled-all}
+use Rattle.bits.proofs.laws.Filled.{Filled, filled-none, filled-all}
+use Rattle.entries.proofs.laws.Entries.{two-more}
 use native.Mathlib.Omega.{arith}
 use Rattle.entries.proofs.lists.images.Statement.{statement}
 use Rattle.entries.proofs.lists.images.Tie as tie
 
 abbrev Inv-loop : tie.InvT-loop
-Inv-loop p dst₀ v₀ dst v = Filled 16 (nibble p) dst v
+Inv-loop p dst₀ i₀ dst i = Filled 16 (nibble p) dst (2 * i)
 
 abbrev μ-loop : tie.MeasureT-loop
-μ-loop p dst₀ v₀ dst v = 16 - v
+μ-loop p dst₀ i₀ dst i = 8 - i
 
 loop-holds : tie.Need-loop-holds Inv-loop μ-loop
-loop-holds c = filled-none 16 _ _ (search)
+loop-holds c = filled-none 16 _ _ (omega arith)
+
+slice-write-dst-2 : tie.Need-slice-write-dst-2 Inv-loop μ-loop
+slice-write-dst-2 c = simp length-set (omega arith)
 
 loop-again : tie.Need-loop-again Inv-loop μ-loop
-loop-again c = search filled-more
+loop-again c =
+    let turn : tie.In-loop Inv-loop μ-loop = search in
+    two-more _ (turn .before .loop .inv) (turn .loop-test .taken)
 
 returns : tie.Need-returns Inv-loop μ-loop
 unfolding imagesOf
-returns c = search filled-all
+returns c =
+    let done : tie.After-loop Inv-loop μ-loop = search in
+    filled-all (done .before .loop .inv) (omega arith)
 
 -- ---- the needs that the search closes
-nibble-requires : tie.Need-nibble-requires Inv-loop μ-loop
-nibble-requires c κs = omega arith
+shared-slice-read-dst : tie.Need-shared-slice-read-dst Inv-loop μ-loop
+shared-slice-read-dst c = omega arith
+
+mul-dst : tie.Need-mul-dst Inv-loop μ-loop
+mul-dst c = omega arith
 
 slice-write-dst : tie.Need-slice-write-dst Inv-loop μ-loop
 slice-write-dst c = omega arith
 
-add-v : tie.Need-add-v Inv-loop μ-loop
-add-v c = omega arith
+shared-slice-read-dst-2 : tie.Need-shared-slice-read-dst-2 Inv-loop μ-loop
+shared-slice-read-dst-2 c = omega arith
+
+mul-dst-2 : tie.Need-mul-dst-2 Inv-loop μ-loop
+mul-dst-2 c = omega arith
+
+add-dst : tie.Need-add-dst Inv-loop μ-loop
+add-dst c = omega arith
+
+add-i : tie.Need-add-i Inv-loop μ-loop
+add-i c = omega arith
 
 loop-less : tie.Need-loop-less Inv-loop μ-loop
 loop-less c = omega arith
@@ -47,9 +69,14 @@ images-spec =
     Inv-loop
     μ-loop
     loop-holds
-    nibble-requires
+    shared-slice-read-dst
+    mul-dst
     slice-write-dst
-    add-v
+    shared-slice-read-dst-2
+    mul-dst-2
+    add-dst
+    slice-write-dst-2
+    add-i
     loop-less
     loop-again
     same-length

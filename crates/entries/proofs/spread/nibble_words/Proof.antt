@@ -1,74 +1,61 @@
--- `entries::spread::nibble_words` writes the words of the 32 bytes with one nibble one behind the other. The loop's invariant, `Parts` of bits: the
--- first r words stand in the front of dst. A turn lends the part of word r and gets its m bytes back (`parts-more`): they are those of the
--- word of byte r by what the three calls ensure. Behind the last word the front has all and the rest is as it was (`parts-whole`). No sum wraps: the part lies within
--- dst (`part-lent`).
+-- `entries::spread::nibble_words` stores the words of the 32 bytes with one nibble, a row each. The loop's invariant, `Stored` of matrices: the first r rows are
+-- stored. A turn stores what `nibble_word` adds up, which is the word of byte r: `nibble-combined` of `laws.Combined`.
 -- Assumes nothing.
-use mathlib.Core.Path.{_∙_}
+use mathlib.Core.Path.{refl}
 use Prim.Native.Nat.{_-_}
-use Rattle.bits.specs.Bytes.{bytesOf}
-use Rattle.bits.proofs.laws.Parts.{Parts, Part, parts-none, part-lent, parts-more, parts-whole}
 use Rattle.matrices.specs.Rows.{rowAt}
+use Rattle.matrices.proofs.laws.Rows.{Stored, stored-none, stored-more, stored-all}
 use Rattle.entries.specs.Spread.{combined, nibbleByte}
+use Rattle.entries.proofs.laws.Combined.{nibble-combined}
 use native.Mathlib.Omega.{arith}
 use Rattle.entries.proofs.spread.nibble_words.Statement.{statement}
 use Rattle.entries.proofs.spread.nibble_words.Tie as tie
 
 abbrev Inv-loop : tie.InvT-loop
-Inv-loop basis m dst₀ r₀ dst r = Parts 32 m (λ k. bytesOf m (combined (rowAt basis) (nibbleByte k))) dst₀ dst r
+Inv-loop basis dst₀ r₀ dst r = Stored 32 (λ k. combined (rowAt basis) (nibbleByte k)) dst₀ dst r
 
 abbrev μ-loop : tie.MeasureT-loop
-μ-loop basis m dst₀ r₀ dst r = 32 - r
+μ-loop basis dst₀ r₀ dst r = 32 - r
 
 loop-holds : tie.Need-loop-holds Inv-loop μ-loop
-loop-holds c = parts-none (omega arith)
+loop-holds c = stored-none
 
--- the part that a turn lends
-part : (turn : tie.In-loop Inv-loop μ-loop) → Part (turn .before .loop .inv)
-part turn = part-lent (turn .before .loop .inv) (turn .loop-test .taken)
+set-row-requires : tie.Need-set-row-requires Inv-loop μ-loop
+set-row-requires c κs =
+    let turn : tie.In-loop Inv-loop μ-loop = search in
+    omega (arith, turn .before .loop .inv .long)
 
-mul-a : tie.Need-mul-a Inv-loop μ-loop
-mul-a c = omega (arith, part (search))
-
-add-e : tie.Need-add-e Inv-loop μ-loop
-add-e c = omega (arith, part (search))
-
-part-write-end : tie.Need-part-write-end Inv-loop μ-loop
-part-write-end c = omega (arith, part (search))
-
-write-requires : tie.Need-write-requires Inv-loop μ-loop
-write-requires c κs = omega (arith, part (search))
+same-length : tie.Need-same-length Inv-loop μ-loop
+same-length c =
+    let done : tie.After-loop Inv-loop μ-loop = search in
+    done .before .loop .inv .long
 
 loop-again : tie.Need-loop-again Inv-loop μ-loop
 loop-again c =
-    let written : tie.After-write Inv-loop μ-loop = search in
+    let set : tie.After-set-row Inv-loop μ-loop = search in
+    let word : tie.After-nibble-word Inv-loop μ-loop = search in
     let turn : tie.In-loop Inv-loop μ-loop = search in
-    let long = part turn .long in
-    parts-more (turn .before .loop .inv) (turn .loop-test .taken) (written .write .kept .1 .0) (written .write .ensures ∙ cc)
+    stored-more (turn .before .loop .inv) (turn .loop-test .taken) (set .set-row .ensures)
+    (nibble-combined _ (turn .before .loop .r) _ _ _ (turn .loop-test .taken) refl refl (word .nibble-word .ensures))
 
 returns : tie.Need-returns Inv-loop μ-loop
-returns c = search parts-whole
+returns c = search stored-all
 
 -- ---- the needs that the search closes
-nibble-byte-requires : tie.Need-nibble-byte-requires Inv-loop μ-loop
-nibble-byte-requires c κs = omega arith
+mul-nibble-word : tie.Need-mul-nibble-word Inv-loop μ-loop
+mul-nibble-word c = omega arith
 
-word-requires : tie.Need-word-requires Inv-loop μ-loop
-word-requires c κs = omega arith
+cast-nibble-word : tie.Need-cast-nibble-word Inv-loop μ-loop
+cast-nibble-word c = omega arith
 
-sub-write : tie.Need-sub-write Inv-loop μ-loop
-sub-write c = omega arith
-
-part-write-start : tie.Need-part-write-start Inv-loop μ-loop
-part-write-start c = omega arith
+nibble-word-requires : tie.Need-nibble-word-requires Inv-loop μ-loop
+nibble-word-requires c κs = omega arith
 
 add-r : tie.Need-add-r Inv-loop μ-loop
 add-r c = omega arith
 
 loop-less : tie.Need-loop-less Inv-loop μ-loop
 loop-less c = omega arith
-
-same-length : tie.Need-same-length Inv-loop μ-loop
-same-length c = omega arith
 
 pub nibble-words-spec : {M : Type 1} → statement M
 nibble-words-spec =
@@ -77,14 +64,10 @@ nibble-words-spec =
     Inv-loop
     μ-loop
     loop-holds
-    nibble-byte-requires
-    word-requires
-    mul-a
-    add-e
-    sub-write
-    part-write-start
-    part-write-end
-    write-requires
+    mul-nibble-word
+    cast-nibble-word
+    nibble-word-requires
+    set-row-requires
     add-r
     loop-less
     loop-again

@@ -1,53 +1,83 @@
--- `entries::spread::write_word` fills dst from the front, byte k with the sum of the two words' bytes k, both nibbles encoded (`Filled` of
--- bits). A turn's byte is what `encoded` ensures, by `byte-encoded` of `laws.Entries`; behind the last byte dst is the encoded word.
+-- `entries::spread::write_word` writes the bytes of the encoded word one behind the other into their places of the part. The loop's invariant, `Pasted` of
+-- bits: the first k of them are written, at the word's place, and the part is else as it was (`word-none`, `word-more` of `laws.Words`). A turn's byte is
+-- looked up by what `byte` and `encoded_at` ensure. Behind the last the part has the word (`word-all`), and every other byte is as it was: `others-all`,
+-- by the statement `LeavesOthers`.
 -- Assumes nothing.
-use mathlib.Core.Path.{refl}
-use Prim.Native.Nat.{_-_}
-use lib.Bits.{bitXor}
-use Rattle.bits.specs.Lists.{at, tabulate}
-use Rattle.bits.specs.Nibbles.{packed}
-use Rattle.bits.proofs.laws.Filled.{Filled, filled-none, filled-more, filled-all}
-use Rattle.entries.specs.Spread.{encodedBytes}
-use Rattle.entries.proofs.laws.Entries.{encodedByte, byte-encoded}
+use mathlib.Core.Path.{_∙_, sym, ap}
+use Prim.Native.Nat.{ℕ, _+_, _-_, _*_, _≤_}
+use Rattle.bits.specs.Lists.{at}
+use Rattle.bits.specs.Words.{value}
+use Rattle.bits.proofs.laws.Bytes.{byte-from-bottom}
+use Rattle.bits.proofs.laws.Multiples.{product-le}
+use Rattle.bits.proofs.laws.Pasted.{Pasted, length-pasted}
+use Rattle.entries.specs.Spread.{lookedUp}
+use Rattle.entries.proofs.laws.Words.{word-none, word-more, word-all, others-all, length-lookedUp, at-lookedUp}
 use native.Mathlib.Omega.{arith}
 use Rattle.entries.proofs.spread.write_word.Statement.{statement}
 use Rattle.entries.proofs.spread.write_word.Tie as tie
 
 abbrev Inv-loop : tie.InvT-loop
-Inv-loop low high images dst₀ m k₀ dst k = Filled m (encodedByte (at images) (tabulate m (λ i. bitXor (at low i) (at high i)))) dst k
+Inv-loop v encoded m x dst₀ a k₀ dst k = Pasted dst₀ (lookedUp (at encoded) m (value v)) (x * m) 0 m dst k
 
 abbrev μ-loop : tie.MeasureT-loop
-μ-loop low high images dst₀ m k₀ dst k = m - k
+μ-loop v encoded m x dst₀ a k₀ dst k = m - k
+
+-- the word's place does not wrap
+inside : (entry : tie.Start Inv-loop μ-loop) → entry .args .x * entry .args .m ≤ 255 * 16
+inside entry = product-le _ _ 255 16 (omega arith) (omega arith)
+
+mul-a : tie.Need-mul-a Inv-loop μ-loop
+mul-a c = omega (arith, inside (search))
+
+add-dst : tie.Need-add-dst Inv-loop μ-loop
+add-dst c = omega (arith, inside (search))
 
 loop-holds : tie.Need-loop-holds Inv-loop μ-loop
-loop-holds c = filled-none _ _ _ refl
-
-encoded-requires : tie.Need-encoded-requires Inv-loop μ-loop
-encoded-requires c κs =
+loop-holds c =
     let entry : tie.Start Inv-loop μ-loop = search in
-    (omega arith, omega arith, λ i h. entry .pre .4 i (omega arith))
+    word-none (entry .args .x) (omega arith) (length-lookedUp _ _ _)
+
+slice-write-dst : tie.Need-slice-write-dst Inv-loop μ-loop
+slice-write-dst c =
+    let turn : tie.In-loop Inv-loop μ-loop = search in
+    omega (arith, length-pasted (turn .before .loop .inv))
+
+same-length : tie.Need-same-length Inv-loop μ-loop
+same-length c =
+    let done : tie.After-loop Inv-loop μ-loop = search in
+    length-pasted (done .before .loop .inv)
 
 loop-again : tie.Need-loop-again Inv-loop μ-loop
 loop-again c =
+    let read : tie.After-byte Inv-loop μ-loop = search in
     let turn : tie.In-loop Inv-loop μ-loop = search in
     let entry : tie.Start Inv-loop μ-loop = search in
     let a = entry .args in
-    filled-more (turn .before .loop .inv) (turn .loop-test .taken)
-    (byte-encoded (a .images .now) (a .low .now) (a .high .now) _ _ _ (turn .loop-test .taken) (c .encoded .ensures))
+    let k = turn .before .loop .k in
+    let own = byte-from-bottom (a .m) k _ _ (read .byte .ensures) in
+    word-more (a .x) (turn .before .loop .inv) (turn .loop-test .taken)
+    (c .encoded-at .ensures ∙ ap (λ (b : ℕ). at (a .encoded .now) (k * 256 + b)) own ∙ sym (at-lookedUp _ _ _ k (turn .loop-test .taken)))
 
 returns : tie.Need-returns Inv-loop μ-loop
-unfolding encodedBytes packed
-returns c = search filled-all
+returns c =
+    let done : tie.After-loop Inv-loop μ-loop = search in
+    let entry : tie.Start Inv-loop μ-loop = search in
+    let x = entry .args .x in
+    let inv = done .before .loop .inv in
+    (word-all x inv (done .loop-test .left), others-all x inv (done .loop-test .left) (length-lookedUp _ _ _))
 
 -- ---- the needs that the search closes
-shared-slice-read-encoded : tie.Need-shared-slice-read-encoded Inv-loop μ-loop
-shared-slice-read-encoded c = omega arith
+sub-byte : tie.Need-sub-byte Inv-loop μ-loop
+sub-byte c = omega arith
 
-shared-slice-read-encoded-2 : tie.Need-shared-slice-read-encoded-2 Inv-loop μ-loop
-shared-slice-read-encoded-2 c = omega arith
+sub-byte-2 : tie.Need-sub-byte-2 Inv-loop μ-loop
+sub-byte-2 c = omega arith
 
-slice-write-dst : tie.Need-slice-write-dst Inv-loop μ-loop
-slice-write-dst c = omega arith
+byte-requires : tie.Need-byte-requires Inv-loop μ-loop
+byte-requires c κs = omega arith
+
+encoded-at-requires : tie.Need-encoded-at-requires Inv-loop μ-loop
+encoded-at-requires c κs = omega arith
 
 add-k : tie.Need-add-k Inv-loop μ-loop
 add-k c = omega arith
@@ -55,19 +85,19 @@ add-k c = omega arith
 loop-less : tie.Need-loop-less Inv-loop μ-loop
 loop-less c = omega arith
 
-same-length : tie.Need-same-length Inv-loop μ-loop
-same-length c = omega arith
-
 pub write-word-spec : {M : Type 1} → statement M
 write-word-spec =
     tie.close
     (tie.spec
     Inv-loop
     μ-loop
+    mul-a
     loop-holds
-    shared-slice-read-encoded
-    shared-slice-read-encoded-2
-    encoded-requires
+    sub-byte
+    sub-byte-2
+    byte-requires
+    encoded-at-requires
+    add-dst
     slice-write-dst
     add-k
     loop-less

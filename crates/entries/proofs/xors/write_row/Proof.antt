@@ -1,5 +1,5 @@
 -- `entries::xors::write_row` fills the 8 bytes of a row from the front, byte k with the entries 2 k and 2 k + 1 (`Filled` of bits). Both entries
--- are elements of `result`, so nibbles by the `requires`: packing them wraps nowhere, and the bytes are the row, packed.
+-- are images of sums of two nibbles, so elements of `result` and nibbles (`sum-image` of `laws.Entries`): packing them wraps nowhere, and the bytes are the row, packed.
 -- Assumes nothing.
 use mathlib.Core.Path.{ap₂}
 use Prim.Native.Nat.{_+_, _-_, _*_, _<_}
@@ -7,6 +7,7 @@ use lib.Bits.{bitXor}
 use Rattle.bits.specs.Lists.{at}
 use Rattle.bits.specs.Nibbles.{pack, packed}
 use Rattle.bits.proofs.laws.Filled.{Filled, filled-none, filled-more, filled-all}
+use Rattle.entries.proofs.laws.Entries.{sum-image}
 use native.Mathlib.Omega.{arith}
 use Rattle.entries.proofs.xors.write_row.Statement.{statement}
 use Rattle.entries.proofs.xors.write_row.Tie as tie
@@ -21,52 +22,64 @@ abbrev μ-loop : tie.MeasureT-loop
 loop-holds : tie.Need-loop-holds Inv-loop μ-loop
 loop-holds c = filled-none 8 _ _ (omega arith)
 
-mul-dst : tie.Need-mul-dst Inv-loop μ-loop
-mul-dst c =
-    let high : tie.After-element Inv-loop μ-loop = search in
+image-of-sum-requires : tie.Need-image-of-sum-requires Inv-loop μ-loop
+image-of-sum-requires c κs =
+    let turn : tie.In-loop Inv-loop μ-loop = search in
     let entry : tie.Start Inv-loop μ-loop = search in
-    let high-lt : high .element .result < 16 = rw (high .element .ensures) (entry .pre .2 _) in
-    omega arith
+    (omega arith, omega arith, entry .pre .2 _ (omega arith))
+
+image-of-sum-requires-2 : tie.Need-image-of-sum-requires-2 Inv-loop μ-loop
+image-of-sum-requires-2 c κs =
+    let turn : tie.In-loop Inv-loop μ-loop = search in
+    let entry : tie.Start Inv-loop μ-loop = search in
+    (omega arith, omega arith, entry .pre .2 _ (omega arith))
+
+-- the entries are nibbles
+high-lt : (high : tie.After-image-of-sum Inv-loop μ-loop) → high .image-of-sum .result < 16
+high-lt high =
+    let turn : tie.In-loop Inv-loop μ-loop = search in
+    let entry : tie.Start Inv-loop μ-loop = search in
+    let a = entry .args in
+    sum-image (a .added .now) (a .result .now) _ (2 * turn .before .loop .k) _ (entry .pre .0) (entry .pre .2) (omega arith) (entry .pre .4) (high .image-of-sum .ensures)
+
+low-lt : (low : tie.After-image-of-sum2 Inv-loop μ-loop) → low .image-of-sum2 .result < 16
+low-lt low =
+    let turn : tie.In-loop Inv-loop μ-loop = search in
+    let entry : tie.Start Inv-loop μ-loop = search in
+    let a = entry .args in
+    sum-image (a .added .now) (a .result .now) _ (2 * turn .before .loop .k + 1) _ (entry .pre .0) (entry .pre .2) (omega arith) (entry .pre .4) (low .image-of-sum2 .ensures)
+
+mul-dst : tie.Need-mul-dst Inv-loop μ-loop
+mul-dst c = omega (arith, high-lt (search))
 
 add-dst : tie.Need-add-dst Inv-loop μ-loop
-add-dst c =
-    let high : tie.After-element Inv-loop μ-loop = search in
-    let entry : tie.Start Inv-loop μ-loop = search in
-    let high-lt : high .element .result < 16 = rw (high .element .ensures) (entry .pre .2 _) in
-    let low-lt : c .element2 .result < 16 = rw (c .element2 .ensures) (entry .pre .2 _) in
-    omega arith
+add-dst c = omega (arith, high-lt (search), low-lt (search))
 
 loop-again : tie.Need-loop-again Inv-loop μ-loop
 loop-again c =
-    let high : tie.After-element Inv-loop μ-loop = search in
+    let high : tie.After-image-of-sum Inv-loop μ-loop = search in
     let turn : tie.In-loop Inv-loop μ-loop = search in
-    filled-more (turn .before .loop .inv) (turn .loop-test .taken) (ap₂ pack (high .element .ensures) (c .element2 .ensures))
+    filled-more (turn .before .loop .inv) (turn .loop-test .taken) (ap₂ pack (high .image-of-sum .ensures) (c .image-of-sum2 .ensures))
 
 returns : tie.Need-returns Inv-loop μ-loop
 unfolding packed
 returns c = search filled-all
 
 -- ---- the needs that the search closes
-mul-element : tie.Need-mul-element Inv-loop μ-loop
-mul-element c = omega arith
+mul-image-of-sum : tie.Need-mul-image-of-sum Inv-loop μ-loop
+mul-image-of-sum c = omega arith
 
-shared-slice-read-element : tie.Need-shared-slice-read-element Inv-loop μ-loop
-shared-slice-read-element c = omega arith
+shared-slice-read-image-of-sum : tie.Need-shared-slice-read-image-of-sum Inv-loop μ-loop
+shared-slice-read-image-of-sum c = omega arith
 
-element-requires : tie.Need-element-requires Inv-loop μ-loop
-element-requires c κs = omega arith
+mul-image-of-sum-2 : tie.Need-mul-image-of-sum-2 Inv-loop μ-loop
+mul-image-of-sum-2 c = omega arith
 
-mul-element-2 : tie.Need-mul-element-2 Inv-loop μ-loop
-mul-element-2 c = omega arith
+add-image-of-sum : tie.Need-add-image-of-sum Inv-loop μ-loop
+add-image-of-sum c = omega arith
 
-add-element : tie.Need-add-element Inv-loop μ-loop
-add-element c = omega arith
-
-shared-slice-read-element-2 : tie.Need-shared-slice-read-element-2 Inv-loop μ-loop
-shared-slice-read-element-2 c = omega arith
-
-element-requires-2 : tie.Need-element-requires-2 Inv-loop μ-loop
-element-requires-2 c κs = omega arith
+shared-slice-read-image-of-sum-2 : tie.Need-shared-slice-read-image-of-sum-2 Inv-loop μ-loop
+shared-slice-read-image-of-sum-2 c = omega arith
 
 slice-write-dst : tie.Need-slice-write-dst Inv-loop μ-loop
 slice-write-dst c = omega arith
@@ -87,13 +100,13 @@ write-row-spec =
     Inv-loop
     μ-loop
     loop-holds
-    mul-element
-    shared-slice-read-element
-    element-requires
-    mul-element-2
-    add-element
-    shared-slice-read-element-2
-    element-requires-2
+    mul-image-of-sum
+    shared-slice-read-image-of-sum
+    image-of-sum-requires
+    mul-image-of-sum-2
+    add-image-of-sum
+    shared-slice-read-image-of-sum-2
+    image-of-sum-requires-2
     mul-dst
     add-dst
     slice-write-dst

@@ -4,6 +4,7 @@
 -- measure is the number of rows left.
 -- Assumes nothing.
 use Prim.Native.Nat.{_-_}
+use Rattle.inversion.specs.Work.{lefts, rights}
 use Rattle.inversion.proofs.laws.Loops.{Cleared, cleared-none, cleared-more, cleared-all}
 use Rattle.inversion.proofs.laws.Work.{coefficient-small}
 use native.Mathlib.Omega.{arith}
@@ -28,6 +29,7 @@ loop-again : tie.Need-loop-again Inv-loop μ-loop
 loop-again c = search cleared-more
 
 returns : tie.Need-returns Inv-loop μ-loop
+unfolding lefts rights
 returns c =
     let end : tie.At-loop Inv-loop μ-loop = search in
     cleared-all (end .loop .inv) (search)

@@ -4,13 +4,14 @@
 -- inverse (`reduced-all`). The measure is the number of columns left.
 -- Assumes nothing.
 use Prim.Native.Nat.{_-_}
+use Rattle.inversion.specs.Work.{leftAt, rightAt, lefts, rights}
 use Rattle.inversion.proofs.laws.Loops.{Reduced, reduced-none, reduced-singular, reduced-next, reduced-all, found-within}
 use native.Mathlib.Omega.{arith}
 use Rattle.inversion.proofs.elimination.eliminate.Statement.{statement}
 use Rattle.inversion.proofs.elimination.eliminate.Tie as tie
 
 abbrev Inv-loop : tie.InvT-loop
-Inv-loop work₀ n k₀ work k = Reduced work₀ n work k
+Inv-loop work₀ n k₀ work k = Reduced leftAt rightAt work₀ n work k
 
 abbrev μ-loop : tie.MeasureT-loop
 μ-loop work₀ n k₀ work k = n - k
@@ -19,7 +20,11 @@ loop-holds : tie.Need-loop-holds Inv-loop μ-loop
 loop-holds c = search reduced-none
 
 returns : tie.Need-returns Inv-loop μ-loop
-returns c = search reduced-singular
+unfolding lefts rights
+returns c =
+    let found : tie.After-find Inv-loop μ-loop = search in
+    let head : tie.At-loop Inv-loop μ-loop = search in
+    reduced-singular (head .loop .inv) (search) (found .find .ensures) (search)
 
 pivot-requires : tie.Need-pivot-requires Inv-loop μ-loop
 pivot-requires c κs =
@@ -35,10 +40,14 @@ clear-requires c κs =
     omega (arith, entry .pre, turn, pivoted .pivot)
 
 loop-again : tie.Need-loop-again Inv-loop μ-loop
+unfolding lefts rights
 loop-again c = search reduced-next
 
 returns-2 : tie.Need-returns-2 Inv-loop μ-loop
-returns-2 c = search reduced-all
+unfolding lefts rights
+returns-2 c =
+    let end : tie.At-loop Inv-loop μ-loop = search in
+    reduced-all (end .loop .inv) (search)
 
 -- ---- the needs that the search closes
 find-requires : tie.Need-find-requires Inv-loop μ-loop

@@ -1,6 +1,7 @@
 -- `inversion::elimination::pivot` meets its contract. The digit read is bit k of row k on the left; row p is added to row k where that bit is
 -- 0, which is the step of `pivotBy` (`pivot-step` of `laws.Work`). Its premises are what the calls ensure.
 -- Assumes nothing.
+use Rattle.inversion.specs.Work.{lefts, rights}
 use Rattle.inversion.proofs.laws.Work.{pivot-step}
 use native.Mathlib.Omega.{arith}
 use borrow.Author.Needs.{needs}
@@ -8,6 +9,7 @@ use Rattle.inversion.proofs.elimination.pivot.Statement.{statement}
 use Rattle.inversion.proofs.elimination.pivot.Tie as tie
 
 returns : tie.Need-returns
+unfolding lefts rights
 returns c =
     let added : tie.After-add-row = search in
     let digit : tie.After-digit = search in

@@ -1,27 +1,26 @@
--- `layers::words::placed_basis` writes eight rows, for the bytes 2^0 to 2^7. The loop's invariant, `Stored` of matrices: the rows below k
--- are the words of their bytes (`readWord`). A turn places 2^k at i of a block and multiplies it by the matrix that was read,
--- which makes the word (`read-row`), and stores it as row k (`stored-more`); behind row 7 the basis is whole (`stored-all`).
+-- `layers::words::placed_basis` writes eight rows, for the bytes 2^0 to 2^7. The loop's invariant, `Stored` of matrices: the rows below k are the
+-- products of the matrix that the bytes write and their bytes, placed at i of a block. A turn stores one more as row k (`stored-more`), the column
+-- that `written_column` gives; behind row 7 the basis is whole (`stored-all`).
 -- Assumes nothing.
 use Prim.Native.Nat.{_-_, _^_}
 use Rattle.bits.specs.Bytes.{placed}
+use Rattle.matrices.specs.Matrices.{product, matrixOf}
 use Rattle.matrices.proofs.laws.Rows.{Stored, stored-none, stored-more, stored-all}
-use Rattle.layers.proofs.laws.Bases.{readWord, read-row}
 use native.Mathlib.Omega.{arith}
-use borrow.Author.Needs.{needs}
 use Rattle.layers.proofs.words.placed_basis.Statement.{statement}
 use Rattle.layers.proofs.words.placed_basis.Tie as tie
 
 abbrev Inv-loop : tie.InvT-loop
-Inv-loop p i basis₀ m k₀ basis k = Stored 8 (λ j. readWord 16 p (placed 16 i) (2 ^ j)) basis₀ basis k
+Inv-loop p i basis₀ k₀ basis k = Stored 8 (λ j. product 128 (matrixOf 16 p) (placed 16 i (2 ^ j))) basis₀ basis k
 
 abbrev μ-loop : tie.MeasureT-loop
-μ-loop p i basis₀ m k₀ basis k = 8 - k
+μ-loop p i basis₀ k₀ basis k = 8 - k
 
 loop-holds : tie.Need-loop-holds Inv-loop μ-loop
 loop-holds c = stored-none
 
 loop-again : tie.Need-loop-again Inv-loop μ-loop
-loop-again c = search (stored-more, read-row, needs)
+loop-again c = search stored-more
 
 returns : tie.Need-returns Inv-loop μ-loop
 returns c =
@@ -30,23 +29,8 @@ returns c =
     stored-all (rows .loop .inv) (all .loop-test .left)
 
 -- ---- the needs that the search closes
-slice-aggregate-read : tie.Need-slice-aggregate-read Inv-loop μ-loop
-slice-aggregate-read c = omega arith
-
-read-requires : tie.Need-read-requires Inv-loop μ-loop
-read-requires c κs = omega arith
-
-slice-aggregate-multiply : tie.Need-slice-aggregate-multiply Inv-loop μ-loop
-slice-aggregate-multiply c = omega arith
-
-power-requires : tie.Need-power-requires Inv-loop μ-loop
-power-requires c κs = omega arith
-
-placed-requires : tie.Need-placed-requires Inv-loop μ-loop
-placed-requires c κs = omega arith
-
-multiply-requires : tie.Need-multiply-requires Inv-loop μ-loop
-multiply-requires c κs = omega arith
+written-column-requires : tie.Need-written-column-requires Inv-loop μ-loop
+written-column-requires c κs = omega arith
 
 set-row-requires : tie.Need-set-row-requires Inv-loop μ-loop
 set-row-requires c κs = omega arith
@@ -66,13 +50,8 @@ placed-basis-spec =
     (tie.spec
     Inv-loop
     μ-loop
-    slice-aggregate-read
-    read-requires
     loop-holds
-    slice-aggregate-multiply
-    power-requires
-    placed-requires
-    multiply-requires
+    written-column-requires
     set-row-requires
     add-k
     loop-less

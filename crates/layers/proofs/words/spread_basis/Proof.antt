@@ -1,7 +1,7 @@
 -- `layers::words::spread_basis` writes eight rows, for the bytes 2^0 to 2^7. The loop's invariant, `Stored` of matrices: the rows below k
--- are the words of their bytes (`spreadWord`). A turn places 2^k at i of n bytes, multiplies it by the matrix m and each byte by its byte
--- matrix, which makes the word (`spread-row`), and stores it as row k (`stored-more`); behind row 7 the basis is whole (`stored-all`). The section
--- that `by_bytes` asks for has 160 byte matrices, since the bundle's frame is right (`byte-section-long`).
+-- are the words of their bytes (`spreadWord`). A turn takes the column of m at digit k of byte i, which is the product with 2^k at i of n bytes, and
+-- multiplies each byte by its byte matrix, which makes the word (`spread-row`), and stores it as row k (`stored-more`); behind row 7 the basis is whole
+-- (`stored-all`). The section that `by_bytes` asks for has 160 byte matrices, since the bundle's frame is right (`byte-section-long`).
 -- Assumes nothing.
 use Prim.Native.Nat.{_-_, _*_, _^_}
 use Rattle.matrices.specs.Rows.{rowsOf}
@@ -43,17 +43,23 @@ returns c =
 section-requires : tie.Need-section-requires Inv-loop μ-loop
 section-requires c κs = omega arith
 
-mul-multiply : tie.Need-mul-multiply Inv-loop μ-loop
-mul-multiply c = omega arith
+mul-column : tie.Need-mul-column Inv-loop μ-loop
+mul-column c = omega arith
 
-power-requires : tie.Need-power-requires Inv-loop μ-loop
-power-requires c κs = omega arith
+sub-column : tie.Need-sub-column Inv-loop μ-loop
+sub-column c = omega arith
 
-placed-requires : tie.Need-placed-requires Inv-loop μ-loop
-placed-requires c κs = omega arith
+sub-column-2 : tie.Need-sub-column-2 Inv-loop μ-loop
+sub-column-2 c = omega arith
 
-multiply-requires : tie.Need-multiply-requires Inv-loop μ-loop
-multiply-requires c κs = omega arith
+mul-column-2 : tie.Need-mul-column-2 Inv-loop μ-loop
+mul-column-2 c = omega arith
+
+add-column : tie.Need-add-column Inv-loop μ-loop
+add-column c = omega arith
+
+column-requires : tie.Need-column-requires Inv-loop μ-loop
+column-requires c κs = omega arith
 
 set-row-requires : tie.Need-set-row-requires Inv-loop μ-loop
 set-row-requires c κs = omega arith
@@ -75,10 +81,12 @@ spread-basis-spec =
     μ-loop
     section-requires
     loop-holds
-    mul-multiply
-    power-requires
-    placed-requires
-    multiply-requires
+    mul-column
+    sub-column
+    sub-column-2
+    mul-column-2
+    add-column
+    column-requires
     by-bytes-requires
     set-row-requires
     add-k

@@ -1,12 +1,16 @@
 -- `stages::table::spread_table`: each call fills one list, the values, the basis of words, the images of the word's encodings; `write` makes
 -- the table of them, and `spread-made` of `laws.Spread` says that it is the spread table of the cipher. Its premises are what the calls ensure. No sum wraps:
--- p words of 2 m nibbles are at most 15 times 32 of them.
+-- p words of 2 m nibbles are at most 15 times 32 of them. The section has all encodings (`encodings-long`), and the words have one of the two widths that are
+-- written (`word-width`).
 -- Assumes nothing.
 use Prim.Native.Nat.{_*_, _≤_}
 use Rattle.bits.proofs.laws.Multiples.{product-le}
+use Rattle.bundle.specs.Format.{encodings}
 use Rattle.whitebox.specs.Parts.{partsFor}
 use Rattle.whitebox.proofs.laws.Ciphers.{parts-fine, parts-read}
+use Rattle.stages.proofs.laws.Encodings.{encodings-long}
 use Rattle.stages.proofs.laws.Spread.{spread-made}
+use Rattle.stages.proofs.laws.Tables.{word-width}
 use Rattle.stages.proofs.laws.Words.{images-lt}
 use native.Mathlib.Omega.{arith}
 use borrow.Author.Needs.{needs}
@@ -24,9 +28,18 @@ add-first : tie.Need-add-first
 add-first c = omega (arith, rows-fit (search) (search))
 
 all-images-requires : tie.Need-all-images-requires
+unfolding encodings
 all-images-requires c κs =
-    let rows = rows-fit (search) (search) in
-    (omega arith, omega arith, omega arith)
+    let section : tie.After-section = search in
+    let first : tie.After-first-number = search in
+    let values : tie.After-values-of = search in
+    let width : tie.After-width-of = search in
+    let start : tie.Start = search in
+    let rows = rows-fit start width in
+    let most = width .width-of .ensures .1 in
+    let last = first .first-number .ensures .1 in
+    let long = encodings-long 10 _ _ (section .section .ensures) (start .pre .0) in
+    (omega (arith, rows, last), omega (arith, most), omega (arith, rows, most, last, long), omega (arith, most))
 
 write-requires : tie.Need-write-requires
 write-requires c κs =
@@ -40,7 +53,7 @@ write-requires c κs =
     let nibbles = images-lt 10 _ _ _ _ _ _ (λ i. bytes .shared-slice-known .given i .fits) (section .section .ensures) (images .all-images .ensures) in (
       omega (arith, values .values-of),
       omega (arith, basis .basis-of),
-      width .width-of .ensures .1,
+      word-width 10 (start .args .s) _ (start .pre .3) (width .width-of .ensures .0),
       omega (arith, images .all-images),
       λ i h. nibbles i (omega arith),
       rw (width .width-of .ensures .0) (start .pre .5),

@@ -30,8 +30,8 @@ xor-table-requires c κs =
     let branch : tie.Else1 = search in
     let start : tie.Start = search in
     let p = start .pre in
-    xor-asked 10 (start .args .s) _ _ _ _ (width .width-of .ensures .0) (first .first-number .ensures .0)
-    (p .3) (branch .if1 .left) (p .4) (p .5)
+    let asked = xor-asked 10 (start .args .s) _ _ _ _ (width .width-of .ensures .0) (first .first-number .ensures .0) (p .3) (branch .if1 .left) (p .4) (p .5) in
+    (p .0, asked .0, asked .1, asked .2, asked .3)
 
 returns-2 : tie.Need-returns-2
 unfolding numbersOf

@@ -1,9 +1,10 @@
 -- `stages::table::xor_table` works out the numbers of three encodings: of the sum so far, of the nibble that is added, and of the result. `write`
 -- makes the table of them; `xor-made` of `laws.Xors` says that these are the numbers of XOR x, and that it is the XOR table. Nothing wraps, as
--- every number is below the bundle's 6,048 encodings: `xor-within`.
+-- every number is below the bundle's 6,048 encodings: `xor-within`; so each of the three is a permutation (`numbers-below`, `encodings-permute`).
 -- Assumes nothing.
 use Rattle.bundle.specs.Format.{encodings, tenEncodings}
-use Rattle.stages.proofs.laws.Xors.{Within, xor-within, xor-made}
+use Rattle.stages.proofs.laws.Encodings.{encodings-permute}
+use Rattle.stages.proofs.laws.Xors.{Within, numbers-below, xor-within, xor-made}
 use native.Mathlib.Omega.{arith}
 use borrow.Author.Needs.{needs}
 use Rattle.stages.proofs.table.xor_table.Statement.{statement}
@@ -17,11 +18,23 @@ returns c =
     let sum : tie.After-sum-so-far = search in
     let start : tie.Start = search in
     let p = start .pre in
-    xor-made _ (p .0) _ _ 10 _ _ _ _ (p .1) (p .2) (section .section .ensures) (sum .sum-so-far .ensures) (written .write .ensures)
+    xor-made _ (p .1) _ _ 10 _ _ _ _ (p .2) (p .3) (section .section .ensures) (sum .sum-so-far .ensures) (written .write .ensures)
+
+write-requires : tie.Need-write-requires
+unfolding encodings
+write-requires c κs =
+    let section : tie.After-section = search in
+    let sum : tie.After-sum-so-far = search in
+    let bytes : tie.After-shared-slice-known = search in
+    let start : tie.Start = search in
+    let p = start .pre in
+    let below = numbers-below _ (p .1) _ _ tenEncodings _ (p .2) (p .3) (sum .sum-so-far .ensures) in
+    let permutes = encodings-permute 10 _ _ (section .section .ensures) (λ i. bytes .shared-slice-known .given i .fits) (p .0) in
+    (permutes _ (below .0), permutes _ (below .1), permutes _ (below .2), p .4)
 
 -- ---- no sum and no product wraps
 fits : (s : tie.Start) → Within tenEncodings (s .args .m) (s .args .first) (s .args .x)
-fits s = xor-within tenEncodings _ _ _ (s .pre .0) (s .pre .1) (s .pre .2)
+fits s = xor-within tenEncodings _ _ _ (s .pre .1) (s .pre .2) (s .pre .3)
 
 mul-word : tie.Need-mul-word
 mul-word c = omega (arith, fits (search))
@@ -89,9 +102,6 @@ sum-so-far-requires c κs = search needs
 
 section-requires : tie.Need-section-requires
 section-requires c κs = search needs
-
-write-requires : tie.Need-write-requires
-write-requires c κs = search needs
 
 same-length : tie.Need-same-length
 same-length c = search needs
