@@ -125,7 +125,7 @@ fn write_words(values: &[u8], words: &[u64], encoded: &[u8], m: usize, dst: &mut
 }
 
 // The 256 words of m bytes, each in its place: `values` has the byte whose word stands at x. Each width is named, so that the compiler unrolls the
-// loop over a word's bytes: with a width that it does not know, the words take twice as long and more.
+// loop over a word's bytes.
 pub fn write(values: &[u8], basis: &[u64], images: &[u8], m: usize, dst: &mut [u8])
     requires { ⌜ (length (now values) ≡ 256) × (16 ≤ length (now basis)) × WordWidth m × (32 * m ≤ length (now images)) × Nibbles (32 * m) (now images) × (length (now dst) ≡ 256 * m) ⌝ }
     ensures { λ _. ⌜ now (dst .exit) ≡ concat 256 (λ x. encodedWord (at (now (images .entry))) m (combined (rowAt (now (basis .entry))) (at (now (values .entry)) x))) ⌝ }

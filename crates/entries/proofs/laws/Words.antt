@@ -50,9 +50,10 @@ module _ (x : ℕ) {d w : List ℕ} {m : ℕ} where
   word-none room long = pasted-none room (omega arith)
 
   module _ {a : List ℕ} {b : ℕ} (I : Pasted d w (x * m) 0 m a b) where
-    pub word-more : {v : ℕ} → b < m → v ≡ at w b → Pasted d w (x * m) 0 m (set a (x * m + b) v) (b + 1)
-    word-more h e =
-        subst (λ (v : ℕ). Pasted d w (x * m) 0 m (set a (x * m + b) v) (b + 1)) (ap (at w) (zero-add b) ∙ sym e) (pasted-more I h)
+    -- v is put to place p.
+    pub word-more : {p v : ℕ} → b < m → p ≡ x * m + b → v ≡ at w b → Pasted d w (x * m) 0 m (set a p v) (b + 1)
+    word-more h place e =
+        subst (λ (a : List ℕ). Pasted d w (x * m) 0 m a (b + 1)) (ap₂ (set a) (sym place) (ap (at w) (zero-add b) ∙ sym e)) (pasted-more I h)
 
     pub word-all : m ≤ b → a ≡ withWord m x w d
     word-all = pasted-all I
@@ -75,9 +76,11 @@ pub word-room : {n m : ℕ} {t : ℕ → List ℕ} {d : List ℕ} {x : ℕ} → 
 word-room {n} {m} I i h = omega (arith, row-inside i m n h, I .long)
 
 module _ {n m : ℕ} {t : ℕ → List ℕ} (sized : (i : ℕ) → i < n → length (t i) ≡ m) {d : List ℕ} {x : ℕ} (I : Written n m t d x) where
-  -- Word x is put to its place, and every other byte is left alone.
-  pub written-more : {w e : List ℕ} → x < n → e ≡ withWord m x w d → w ≡ t x → OthersAlone m x d e → Written n m t e (x + 1)
-  written-more {w} {e} h is own others =
+  -- Word x is put to place y, which is its own, and every other byte is left alone.
+  pub written-more : {y : ℕ} {w e : List ℕ} → x < n → y ≡ x → e ≡ withWord m y w d → w ≡ t x → OthersAlone m y d e → Written n m t e (x + 1)
+  written-more {w = w} {e} h place put own alone =
+      let is : e ≡ withWord m x w d = put ∙ ap (λ (y : ℕ). withWord m y w d) place in
+      let others : OthersAlone m x d e = subst (λ (y : ℕ). OthersAlone m y d e) place alone in
       let room = word-room I x h in
       let long = ap length own ∙ sized x h in
       let next : (x + 1) * m ≡ x * m + m = add-mul x 1 m ∙ ap (λ (k : ℕ). x * m + k) (one-mul m) in

@@ -55,7 +55,7 @@ loop-again c =
     let a = entry .args in
     let k = turn .before .loop .k in
     let own = byte-from-bottom (a .m) k _ _ (read .byte .ensures) in
-    word-more (a .x) (turn .before .loop .inv) (turn .loop-test .taken)
+    word-more (a .x) (turn .before .loop .inv) (turn .loop-test .taken) (omega arith)
     (c .encoded-at .ensures ∙ ap (λ (b : ℕ). at (a .encoded .now) (k * 256 + b)) own ∙ sym (at-lookedUp _ _ _ k (turn .loop-test .taken)))
 
 returns : tie.Need-returns Inv-loop μ-loop

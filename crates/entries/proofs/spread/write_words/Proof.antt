@@ -40,7 +40,7 @@ loop-again c =
     let turn : tie.In-loop Inv-loop μ-loop = search in
     let entry : tie.Start Inv-loop μ-loop = search in
     let a = entry .args in
-    written-more (λ i h. length-lookedUp _ _ _) (turn .before .loop .inv) (turn .loop-test .taken)
+    written-more (λ i h. length-lookedUp _ _ _) (turn .before .loop .inv) (turn .loop-test .taken) (omega arith)
     (written .write-word .ensures .0) (ap (lookedUp (at (a .encoded .now)) (a .m)) (word .word-of .ensures)) (written .write-word .ensures .1)
 
 returns : tie.Need-returns Inv-loop μ-loop

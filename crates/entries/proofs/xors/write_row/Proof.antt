@@ -50,7 +50,7 @@ low-lt low =
     sum-image (a .added .now) (a .result .now) _ (2 * turn .before .loop .k + 1) _ (entry .pre .0) (entry .pre .2) (omega arith) (entry .pre .4) (low .image-of-sum2 .ensures)
 
 mul-dst : tie.Need-mul-dst Inv-loop μ-loop
-mul-dst c = omega (arith, high-lt (search))
+mul-dst c = omega (arith, high-lt (search), low-lt (search))
 
 add-dst : tie.Need-add-dst Inv-loop μ-loop
 add-dst c = omega (arith, high-lt (search), low-lt (search))
