@@ -13,6 +13,7 @@
 #include <time.h>
 
 enum { ROUNDS = 101, CIPHERS = 2, ENTRY_TABLE = 0, SPREAD_TABLE = 496, XOR_TABLE = 512, EXIT_TABLE = 2512, RECORDS = 25, ENTRY_BYTES = 5, STRIDE = 7919 };
+enum { SET_BITS = 8 * TAZHIKKO_SET_BYTES, SEARCHES = TAZHIKKO_BITS_READ / 16 };
 
 static uint8_t key[TAZHIKKO_KEY_BYTES];
 static uint8_t bundle[TAZHIKKO_BUNDLE_MAX_BYTES];
@@ -25,6 +26,9 @@ static uint8_t our_block[TAZHIKKO_BLOCK_BYTES], plain_block[TAZHIKKO_BLOCK_BYTES
 static struct recorded {
     uint8_t block[TAZHIKKO_BLOCK_BYTES], ours[TAZHIKKO_RECORD_BYTES], plain[TAZHIKKO_RECORD_BYTES];
 } recorded[CIPHERS][RECORDS];
+
+/* For each cipher the bits that the walk from the first of these blocks reads. */
+static size_t bits[CIPHERS][TAZHIKKO_BITS_READ];
 
 /* The cipher at hand, TAZHIKKO_FORWARD or TAZHIKKO_INVERSE. */
 static uint64_t cipher;
@@ -98,6 +102,25 @@ static void record_next_plain(void) { record_plain(next()); }
 static void replay_next_ours(void) { replay_ours(next()); }
 static void replay_next_plain(void) { replay_plain(next()); }
 
+static size_t bit_ours(const struct recorded *r, size_t from)
+{
+    size_t bit = SET_BITS;
+    tazhikko_next_bit(cipher, our_set[cipher], TAZHIKKO_SET_BYTES, r->block, sizeof r->block, from, &bit);
+    return bit;
+}
+
+static size_t bit_plain(const struct recorded *r, size_t from) { return plain_next_bit(cipher, plain_set[cipher], r->block, from); }
+
+/* Behind every 16th bit of the list in turn: the searches of a round take a sixteenth of the time of the whole list. */
+static size_t next_from(void)
+{
+    static size_t turn;
+    return bits[cipher][16 * (turn++ % SEARCHES)] + 1;
+}
+
+static void bit_next_ours(void) { bit_ours(recorded[cipher], next_from()); }
+static void bit_next_plain(void) { bit_plain(recorded[cipher], next_from()); }
+
 /* In strides, so that a call finds other rows than the one before; they share no factor with the catalogue's length, so every position has its turn. */
 static size_t next_position(void)
 {
@@ -132,6 +155,7 @@ static const struct task {
     {"walk a block", TAZHIKKO_FORWARD, walk_ours, walk_plain, 50},
     {"record a walk", TAZHIKKO_FORWARD, record_next_ours, record_next_plain, 2 * RECORDS},
     {"replay a record", TAZHIKKO_FORWARD, replay_next_ours, replay_next_plain, 2 * RECORDS},
+    {"the next bit that is read", TAZHIKKO_FORWARD, bit_next_ours, bit_next_plain, SEARCHES},
     {"an entry of the catalogue", TAZHIKKO_FORWARD, entry_ours, entry_plain, TAZHIKKO_CATALOGUE_MATRICES},
     {"inverse: make a set", TAZHIKKO_INVERSE, set_ours, set_plain, 1},
     {"inverse: one spread table", TAZHIKKO_INVERSE, spread_ours, spread_plain, 2},
@@ -141,6 +165,7 @@ static const struct task {
     {"inverse: walk a block", TAZHIKKO_INVERSE, walk_ours, walk_plain, 50},
     {"inverse: record a walk", TAZHIKKO_INVERSE, record_next_ours, record_next_plain, 2 * RECORDS},
     {"inverse: replay a record", TAZHIKKO_INVERSE, replay_next_ours, replay_next_plain, 2 * RECORDS},
+    {"inverse: the next bit", TAZHIKKO_INVERSE, bit_next_ours, bit_next_plain, SEARCHES},
 };
 
 enum { COUNT = sizeof TASKS / sizeof *TASKS };
@@ -241,6 +266,28 @@ static void check_records(void)
     }
 }
 
+static void check_from(const struct recorded *r, size_t from)
+{
+    require(bit_ours(r, from) == bit_plain(r, from), "next bit");
+}
+
+/* The whole list of the first block; of each block, bits from numbers in strides on, and none behind the set. */
+static void check_bits(void)
+{
+    size_t from = 0;
+    for (size_t n = 0; n < TAZHIKKO_BITS_READ; n++, from++) {
+        check_from(recorded[cipher], from);
+        from = bits[cipher][n] = bit_ours(recorded[cipher], from);
+    }
+    require(bit_ours(recorded[cipher], from) == TAZHIKKO_NONE, "number of bits");
+    for (size_t k = 0; k < RECORDS; k++) {
+        for (from = k; from < SET_BITS; from += STRIDE)
+            check_from(&recorded[cipher][k], from);
+        check_from(&recorded[cipher][k], SET_BITS);
+        check_from(&recorded[cipher][k], SIZE_MAX);
+    }
+}
+
 /* What a refused call leaves too. */
 static void check_entry(size_t position)
 {
@@ -297,6 +344,7 @@ int main(void)
         check_tables();
         check_walks();
         check_records();
+        check_bits();
     }
     measure();
     return 0;

@@ -19,9 +19,9 @@ GROUPS = {
     }),
     "answers": ("#e4e7eb", {"answers": 1.2}),
     "the bundle": ("#fdebc8", {"bundle": 1.6, "judgement": 2.1, "external": 2.1, "view": 0.9}),
-    "the table set, as definitions and theorems": ("#ecdff7", {"network": 5.2, "layout": 5.2, "whitebox": 3.5}),
+    "the table set, as definitions and theorems": ("#ecdff7", {"network": 5.2, "layout": 5.2, "whitebox": 3.5, "sensitivity": 3.6}),
     "the maker": ("#dcf2e3", {"entries": 0, "layers": 0.7, "stages": 0.7, "tables": 0.7}),
-    "the walk": ("#f8dcdc", {"lookups": 5.5, "evaluate": 5.4, "records": 5.0}),
+    "the walk": ("#f8dcdc", {"lookups": 5.5, "evaluate": 5.4, "passes": 5.6, "records": 5.6, "next_bit": 4.7}),
     "calls for C, chains of calls, programs": ("#ffffff", {"host": 2, "chains": 3.4, "streams": 6.5, "maker": 6.1, "walker": 7, "catalogue_list": 7.5}),
 }
 TESTS = {"matrix_cases", "aes_vectors", "bundle_cases", "walk_cases"}

@@ -16,8 +16,8 @@ extern "C" {
 /* The version of these calls: 10,000 times the major number, 100 times the minor one, and the patch. Where the major number is another, a
  * call takes or answers something else. Since version 2, make_set, make_table and walk name a cipher as their first argument; since 2.1 there are
  * record and replay, since 2.2 catalogue_entry. Since version 3, a bundle is refused also where an aligned 4 by 4 block of a byte or column matrix
- * has no inverse. */
-#define TAZHIKKO_VERSION 30000
+ * has no inverse; since 3.1 there is next_bit. */
+#define TAZHIKKO_VERSION 30100
 
 /* The ciphers of a set and of a walk: 0 is the forward one and any other number the inverse one. No number is refused. */
 #define TAZHIKKO_FORWARD 0
@@ -30,6 +30,9 @@ extern "C" {
 #define TAZHIKKO_BUNDLE_MAX_BYTES 65536
 #define TAZHIKKO_SET_BYTES 770048
 #define TAZHIKKO_RECORD_BYTES 15040
+
+/* Bits of a set that a walk over a block reads. */
+#define TAZHIKKO_BITS_READ 24064
 
 /* Tables in a set. Tables 0 to 15 and 2512 to 2527 have 4096 bytes; of the 112 tables of a half round the first 16 have 1024; all others 128. */
 #define TAZHIKKO_TABLES 3008
@@ -92,6 +95,13 @@ uint64_t tazhikko_record(
 uint64_t tazhikko_replay(
     uint64_t cipher, const uint8_t *set, size_t set_len, const uint8_t *block, size_t block_len, const uint8_t *record, size_t record_len,
     size_t *differs);
+
+/* The bits of the set that the walk reads, one by one: *bit becomes the smallest at or after `from`, which may be any number, or TAZHIKKO_NONE where none
+ * is left. Bits count from the top bit of byte 0 of the set: bit n is 0x80 >> n % 8 of byte n / 8. Over any memory as long as a set, made or not, a walk
+ * reads TAZHIKKO_BITS_READ of them. Where one bit of a made set is turned over, the answer of the walk for its cipher changes exactly if the bit is one
+ * of them. `bit` must not be null; a refused call leaves *bit as it was. */
+uint64_t tazhikko_next_bit(
+    uint64_t cipher, const uint8_t *set, size_t set_len, const uint8_t *block, size_t block_len, size_t from, size_t *bit);
 
 /* The entry of the catalogue at a position, from 0. The catalogue has every 4 by 4 bit matrix that has an inverse, each once, in rising order of the
  * 16-bit number that its rows make, row 0 highest, column 0 the top bit of a row: *matrix becomes that number. `matrix` must not be null; a refused

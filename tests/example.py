@@ -18,7 +18,7 @@ import openssl_aes
 import tickets
 import wbref
 
-RULES = tickets.Rules(5)
+RULES = tickets.Rules(7)
 CIPHERS = ("forward", "inverse")
 
 
@@ -103,6 +103,25 @@ def check_bench(rng, folder):
         check_walk(rng, folder, program, cipher, rng.randbytes(wbref.SET_LEN))
 
 
+# ---- cells.c -------------------------------------------------------------------------------
+
+def cells(cipher, memory, block):
+    cause, second, _ = RULES.next_bit(memory, block, 0, cipher)
+    if cause:
+        return refused(cause, second)
+    return b"".join(b"%d %d\n" % (bit // 8, 7 - bit % 8) for bit in RULES.bits(memory, block, cipher)), 0
+
+
+def check_cells(rng, folder):
+    program = build(folder, "cells")
+    for cipher, name in enumerate(CIPHERS):
+        made = tickets.Maker(cipher, rng.randbytes(16), tickets.random_bundle(rng)).tables()
+        for memory in (made, rng.randbytes(wbref.SET_LEN), bytes(wbref.SET_LEN), b"\xff" * wbref.SET_LEN):
+            block = rng.randbytes(16)
+            for m, b in ((memory, block), (memory[1:], b""), (memory + b"\x00", block), (memory, block[1:]), (memory, block + b"\x00")):
+                assert run(folder, program, name, memory=m, block=b) == cells(cipher, m, b)
+
+
 # ---- mixing.c ------------------------------------------------------------------------------
 
 def positions(data):
@@ -161,6 +180,7 @@ def main():
     with tempfile.TemporaryDirectory() as folder:
         check_host(rng, folder)
         check_bench(rng, folder)
+        check_cells(rng, folder)
         check_mixing(rng, folder)
     print("examples: as OpenSSL and the reference")
 

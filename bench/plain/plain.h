@@ -19,6 +19,9 @@ void plain_walk(uint64_t cipher, const uint8_t *set, const uint8_t *block, uint8
 void plain_record(uint64_t cipher, const uint8_t *set, const uint8_t *block, uint8_t *record);
 size_t plain_replay(uint64_t cipher, const uint8_t *set, const uint8_t *block, const uint8_t *record);
 
+/* The smallest bit at or after a number that the walk reads, or SIZE_MAX where none is left. */
+size_t plain_next_bit(uint64_t cipher, const uint8_t *set, const uint8_t *block, size_t from);
+
 /* The entry of the catalogue at a position: 0, or the refusal, which leaves *matrix. */
 uint64_t plain_catalogue_entry(size_t position, size_t *matrix);
 

@@ -6,22 +6,22 @@ enum { ENTRY_BYTES = 5 };
 /* An offset is turned round as one word, which is right where the machine has the least significant byte first. */
 
 /* The state is the place of the next entry, here and below. */
-INLINED bool note(void *state, size_t offset, uint8_t value)
+INLINED bool note(void *state, reading r)
 {
     uint8_t **next = state;
-    uint32_t most_significant_first = __builtin_bswap32((uint32_t)offset);
+    uint32_t most_significant_first = __builtin_bswap32((uint32_t)r.offset);
     memcpy(*next, &most_significant_first, 4);
-    (*next)[4] = value;
+    (*next)[4] = r.value;
     *next += ENTRY_BYTES;
     return true;
 }
 
-INLINED bool compare(void *state, size_t offset, uint8_t value)
+INLINED bool compare(void *state, reading r)
 {
     const uint8_t **next = state;
     uint32_t most_significant_first;
     memcpy(&most_significant_first, *next, 4);
-    if (__builtin_bswap32(most_significant_first) != offset || (*next)[4] != value)
+    if (__builtin_bswap32(most_significant_first) != r.offset || (*next)[4] != r.value)
         return false;
     *next += ENTRY_BYTES;
     return true;

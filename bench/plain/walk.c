@@ -1,9 +1,9 @@
 #include "plain.h"
 #include "walk.h"
 
-INLINED bool ignore(void *state, size_t offset, uint8_t value)
+INLINED bool ignore(void *state, reading r)
 {
-    (void)state, (void)offset, (void)value;
+    (void)state, (void)r;
     return true;
 }
 

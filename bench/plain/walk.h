@@ -9,16 +9,30 @@
 
 #define INLINED static inline __attribute__((always_inline))
 
+/* What a lookup read: the offset within the set of the entry, its first byte or, of an XOR table's entry, its half-byte, and which bits of the set,
+ * from the top bit of byte 0. */
 typedef struct {
-    /* The offset within the set of the entry that was read, and its first byte or, of an XOR table's entry, its half-byte. False ends the walk. */
-    bool (*visit)(void *state, size_t offset, uint8_t value);
+    size_t offset;
+    uint8_t value;
+    size_t first_bit, bits;
+} reading;
+
+typedef struct {
+    bool (*visit)(void *state, reading r); /* false ends the walk */
     void *state;
     const uint8_t *set;
 } visitor;
 
-INLINED bool told(visitor v, const uint8_t *entry, uint8_t value)
+INLINED bool told_word(visitor v, const uint8_t *entry, size_t word)
 {
-    return v.visit(v.state, (size_t)(entry - v.set), value);
+    size_t offset = (size_t)(entry - v.set);
+    return v.visit(v.state, (reading){offset, *entry, 8 * offset, 8 * word});
+}
+
+INLINED bool told_half(visitor v, const uint8_t *byte, unsigned half, uint8_t value)
+{
+    size_t offset = (size_t)(byte - v.set);
+    return v.visit(v.state, (reading){offset, value, 8 * offset + 4 * half, 4});
 }
 
 /* One layer over its tables: standing is the block's bytes, as they are after it. The tables behind, or null where the visitor ends the walk. */
@@ -28,7 +42,7 @@ INLINED const uint8_t *walk_layer(size_t word, bool inverse, kind k, const uint8
     for (size_t p = 0; p < 16; p++) {
         const uint8_t *entry = tables + word * standing[source(inverse, k, p)];
         memcpy(area + word * p, entry, word);
-        if (!told(v, entry, *entry))
+        if (!told_word(v, entry, word))
             return NULL;
         tables += 256 * word;
     }
@@ -40,7 +54,7 @@ INLINED const uint8_t *walk_layer(size_t word, bool inverse, kind k, const uint8
                 unsigned high = (a & 0xf0u) | b >> 4, low = (a & 15u) << 4 | (b & 15u);
                 const uint8_t *h = tables + high / 2, *l = tables + 128 + low / 2;
                 uint8_t x = *h >> (high % 2 ? 0 : 4) & 15, y = *l >> (low % 2 ? 0 : 4) & 15;
-                if (!told(v, h, x) || !told(v, l, y))
+                if (!told_half(v, h, high % 2, x) || !told_half(v, l, low % 2, y))
                     return NULL;
                 sum[i] = (uint8_t)(x << 4 | y);
                 tables += 256;

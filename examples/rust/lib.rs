@@ -11,9 +11,10 @@ mod tests;
 pub const SET_BYTES: usize = 770_048;
 pub const TABLES: usize = 3_008;
 pub const RECORD_BYTES: usize = 15_040;
+pub const BITS_READ: usize = 24_064;
 pub const CATALOGUE_MATRICES: usize = 20_160;
 
-/// What stands for no lookup where a call tells one through a pointer.
+/// What stands for no lookup, and for no bit, where a call tells one through a pointer.
 const NONE: usize = usize::MAX;
 
 pub type Block = [u8; 16];
@@ -109,6 +110,15 @@ extern "C" {
         record_len: usize,
         differs: *mut usize,
     ) -> u64;
+    fn tazhikko_next_bit(
+        cipher: u64,
+        set: *const u8,
+        set_len: usize,
+        block: *const u8,
+        block_len: usize,
+        from: usize,
+        bit: *mut usize,
+    ) -> u64;
     fn tazhikko_catalogue_entry(position: usize, matrix: *mut usize) -> u64;
 }
 
@@ -188,6 +198,15 @@ pub fn replay(cipher: Cipher, set: &[u8], block: &[u8], record: &[u8]) -> Result
         tazhikko_replay(cipher as u64, set.as_ptr(), set.len(), block.as_ptr(), block.len(), recorded, recorded_len, &mut differs)
     })?;
     Ok(if differs == NONE { None } else { Some(differs) })
+}
+
+/// The smallest bit at or after `from`, any number, that the walk reads, or `None` where none is left. Bits count from the top bit of byte 0 of the
+/// set. The walk reads `BITS_READ` in all: turning over one bit of a set made for the cipher changes the answer for the block exactly if it is one of them.
+pub fn next_bit(cipher: Cipher, set: &[u8], block: &[u8], from: usize) -> Result<Option<usize>, Refusal> {
+    let mut bit = NONE;
+    // SAFETY: two slices' pointers and lengths, and a number that is borrowed alone.
+    answer(unsafe { tazhikko_next_bit(cipher as u64, set.as_ptr(), set.len(), block.as_ptr(), block.len(), from, &mut bit) })?;
+    Ok(if bit == NONE { None } else { Some(bit) })
 }
 
 /// The entry of the catalogue at a position, from 0: the number that the rows of a 4 by 4 bit matrix make, row 0 highest, column 0 the top bit of a

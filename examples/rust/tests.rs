@@ -1,4 +1,4 @@
-//! FIPS 197's published examples, through bundles built here by document 01's format, records of walks, the catalogue, and every refusal.
+//! FIPS 197's published examples, through bundles built here by document 01's format, records of walks, the bits that they read, the catalogue, and every refusal.
 use super::*;
 
 /// FIPS 197, appendix C.1: key, block, cipher block.
@@ -139,6 +139,48 @@ fn replays() {
     }
 }
 
+/// All bits that the walk reads, each found behind the one before.
+fn bits_read(cipher: Cipher, set: &[u8], block: &Block) -> Vec<usize> {
+    let behind = |from: usize| next_bit(cipher, set, block, from).unwrap();
+    std::iter::successors(behind(0), |bit| behind(bit + 1)).collect()
+}
+
+/// Over zeros the first sixteen lookups read the words of the block's bytes; each other one reads the first entry of its table, word or half-byte.
+#[test]
+fn bits_of_zeros() {
+    let (mut expected, mut start) = (vec![], 0);
+    for number in 0..TABLES {
+        let len = table_bytes(number);
+        let first = 8 * (start + 16 * BLOCK.get(number).map_or(0, |x| usize::from(*x)));
+        expected.extend(first..first + if len == 128 { 4 } else { len / 32 });
+        start += len;
+    }
+    assert_eq!(expected.len(), BITS_READ);
+    for cipher in [Cipher::Forward, Cipher::Inverse] {
+        let zeros = [0; SET_BYTES];
+        assert!(bits_read(cipher, &zeros, &BLOCK) == expected);
+        for from in [8 * (SET_BYTES - 128) + 4, 8 * SET_BYTES, 1 << 32, 1 << 63, usize::MAX] {
+            assert_eq!(next_bit(cipher, &zeros, &BLOCK, from), Ok(None));
+        }
+    }
+}
+
+/// Every 61st bit of the list, and the bits of every 997th byte of the set.
+#[test]
+fn a_bit_turned_over() {
+    let bundle = bundle(false);
+    for cipher in [Cipher::Forward, Cipher::Inverse] {
+        let mut set = make_set(cipher, &KEY, &bundle).unwrap();
+        let (bits, answer) = (bits_read(cipher, &set, &BLOCK), walk(cipher, &set, &BLOCK));
+        assert_eq!(bits.len(), BITS_READ);
+        for bit in bits.iter().copied().step_by(61).chain((0..8 * SET_BYTES).filter(|bit| bit / 8 % 997 == 0)) {
+            set[bit / 8] ^= 0x80 >> (bit % 8);
+            assert_eq!(walk(cipher, &set, &BLOCK) != answer, bits.binary_search(&bit).is_ok());
+            set[bit / 8] ^= 0x80 >> (bit % 8);
+        }
+    }
+}
+
 /// A matrix has an inverse where it takes no vector but 0 to 0: some row shares an odd number of ones with each other vector.
 fn has_inverse(matrix: u16) -> bool {
     (1..16).all(|vector: u16| (0..4).any(|row| (matrix >> (4 * row) & vector).count_ones() % 2 == 1))
@@ -206,5 +248,7 @@ fn refused_calls() {
     assert_eq!(replay(forward, &set[1..], &[], &[]), Err(Refusal::SetLength));
     assert_eq!(replay(inverse, &set, &[], &[]), Err(Refusal::BlockLength));
     assert_eq!(replay(forward, &set, &BLOCK, &[0; RECORD_BYTES - 1]), Err(Refusal::RecordLength));
+    assert_eq!(next_bit(forward, &set[1..], &[], 0), Err(Refusal::SetLength));
+    assert_eq!(next_bit(inverse, &set, &[], usize::MAX), Err(Refusal::BlockLength));
     assert_eq!(for_cipher(tazhikko_record, 0, &set, &BLOCK, &mut [0; RECORD_BYTES + 1]), Err(Refusal::RecordLength));
 }

@@ -201,6 +201,21 @@ static void read_replays(struct file file, struct cases *c)
     }
 }
 
+static void read_bits(struct file file, struct cases *c)
+{
+    for (; more(&file); c->bits_count++) {
+        c->bits = grown(c->bits, c->bits_count, sizeof *c->bits);
+        struct bits *b = &c->bits[c->bits_count];
+        *b = (struct bits){.memory = number(&file)};
+        b->inverse = number(&file) != 0;
+        b->block = taken(&file, 16);
+        b->count = number(&file);
+        b->list = grown(NULL, b->count, sizeof *b->list);
+        for (size_t i = 0; i < b->count; i++)
+            b->list[i] = number(&file);
+    }
+}
+
 static void read_crossed(struct file file, struct cases *c)
 {
     for (; more(&file); c->crossed_count++) {
@@ -233,6 +248,7 @@ struct cases read_cases(const char *folder)
     read_walks(opened(folder, "walks"), &c);
     read_records(opened(folder, "records"), &c);
     read_replays(opened(folder, "replays"), &c);
+    read_bits(opened(folder, "bits"), &c);
     read_crossed(opened(folder, "crossed"), &c);
     read_entries(opened(folder, "entries"), &c);
     return c;

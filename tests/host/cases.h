@@ -88,6 +88,15 @@ struct replay {
     size_t differs; /* as the call tells it */
 };
 
+/* The bits that a walk reads, rising. */
+struct bits {
+    size_t memory; /* a number of the walks' memories */
+    bool inverse;
+    const uint8_t *block;
+    size_t count;
+    size_t *list;
+};
+
 /* Two accepted bundles: the input coding of each is the output coding of the other. */
 struct crossed {
     struct string bundles[2];
@@ -110,10 +119,11 @@ struct cases {
     struct walks *walks;
     struct record *records;
     struct replay *replays;
+    struct bits *bits;
     struct crossed *crossed;
     struct entry *entries;
     size_t bundle_count, judgement_count, place_count, coding_count, set_count, table_count, walks_count, record_count, replay_count, crossed_count;
-    size_t entry_count;
+    size_t bits_count, entry_count;
 };
 
 /* Ends the program where a file is missing or cut short. */

@@ -14,6 +14,7 @@ walks        memory as long as a set; how many walks; for each a cipher, a block
 records      a number of a memory, in the order of walks; a cipher; a block; the record of that walk
 replays      a number of a record, whose walk is replayed; the number of the record that is altered, its own or another; how many parts of it are
              changed, for each its start and, a string, what is there now; the first lookup that differs, or 2^32 - 1 for none
+bits         a number of a memory, in the order of walks; a cipher; a block; how many bits of the memory that walk reads; for each its number, rising
 crossed      two accepted bundles, the input coding of each the output coding of the other
 entries      a position, as two numbers, the higher half first; its judgement; the matrix at it, or 0 where it is refused
 A judgement is the two numbers of a refusal, the cause first, or 0 and 0. A cipher is 0, forward, or 1, inverse: the tests name the inverse one by any
@@ -32,7 +33,7 @@ import openssl_aes
 import tickets
 import wbref
 
-RULES = mixing.Rules(5)
+RULES = mixing.Rules(7)
 CIPHERS = (openssl_aes.encipher, openssl_aes.decipher)
 CODINGS = (("in", wbref.code), ("in", wbref.uncode), ("out", wbref.code), ("out", wbref.uncode))
 LONGEST = 65536
@@ -290,6 +291,16 @@ def replays(rng, made):
             yield number(n) + number(m) + number(len(changes)) + parts + number(record.replayed(mixing.changed(made[m].own, changes)))
 
 
+# ---- the bits that a walk reads ------------------------------------------------------------
+
+def bits(rng, memories):
+    for n, memory in enumerate(memories):
+        for cipher in range(2):
+            block = rng.choice(blocks(rng, 3))
+            read = RULES.bits(memory, block, cipher)
+            yield number(n) + number(cipher) + block + number(len(read)) + b"".join(map(number, read))
+
+
 # ---- crossed bundles -----------------------------------------------------------------------
 
 def across(rng, bundle):
@@ -340,7 +351,8 @@ def main():
     pool = list(accepted(rng))
     bundles = [bundle for bundle, _ in pool]
     made, others = sets(rng, bundles), unfilled(rng)
-    recorded = list(records(rng, [s.bytes for s in made] + others))
+    memories = [s.bytes for s in made] + others
+    recorded = list(records(rng, memories))
     write(folder, "bundles", (bundle_row(*b) for b in pool))
     write(folder, "judgements", (string(b) + judged(b) for b in all_judgements(rng, bundles[1:4])))
     write(folder, "places", (number(look.off) + number(look.size) for look in wbref.LOOKS))
@@ -350,6 +362,7 @@ def main():
     write(folder, "walks", walks(rng, made, others))
     write(folder, "records", (r.row() for r in recorded))
     write(folder, "replays", replays(rng, recorded))
+    write(folder, "bits", bits(rng, memories))
     write(folder, "crossed", crossed(rng, bundles[:3]))
     write(folder, "entries", entries(rng))
 

@@ -44,6 +44,9 @@ int main(int argc, char **argv)
     test_record(&t);
     test_replay(&t);
     test_record_and_replay(&t);
+    test_next_bit(&t);
+    test_bits(&t);
+    test_turned_bits(&t);
     test_demand2(&t);
     test_round_trip(&t);
     test_catalogue_entry(&t);

@@ -14,6 +14,7 @@ pub mod Vectors
 pub mod Words
 pub mod Bytes
 pub mod Nibbles
+pub mod Flips
 pub mod Encodings
 pub mod Images
 pub mod Cuts

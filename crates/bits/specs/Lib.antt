@@ -3,6 +3,7 @@ pub mod Groups
 pub mod Vectors
 pub mod Bytes
 pub mod Nibbles
+pub mod Flips
 pub mod Encodings
 pub mod Words
 pub mod Counts

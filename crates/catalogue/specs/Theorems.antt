@@ -6,7 +6,7 @@ use lib.ListN.{length}
 use Rattle.answers.specs.Answers.{accepted, refused, replyOf}
 use Rattle.answers.specs.declared.Refusal.{Refusal}
 use Rattle.answers.specs.declared.Refusal.the-variants.{CataloguePosition}
-use Rattle.bits.specs.Lists.{at}
+use Rattle.bits.specs.Lists.{at, Listed, Rising}
 use Rattle.bits.specs.Vectors.{bit}
 use Rattle.matrices.specs.Matrices.{Square, Invertible}
 use Rattle.inversion.specs.Inverses.{UndoesBothWays}
@@ -34,17 +34,8 @@ module _ (n : ℕ) where
   Sound = (p : ℕ) → p < length (catalogueOf n) → Member (at (catalogueOf n) p)
 
   -- Every matrix whose product some map undoes, whatever map it is, stands in it, under the number that its rows make.
-  pub record ListedAt (m : List ℕ) : Type 0 where
-    pub position : ℕ
-    pub inside : position < length (catalogueOf n)
-    pub number : at (catalogueOf n) position ≡ numberOfRows n m
-
   abbrev pub Complete : Type 0
-  Complete = (m : List ℕ) → Square n m → Invertible n m → ListedAt m
-
-  -- The numbers rise, so each is there once.
-  abbrev pub Rising : Type 0
-  Rising = (p q : ℕ) → p < q → q < length (catalogueOf n) → at (catalogueOf n) p < at (catalogueOf n) q
+  Complete = (m : List ℕ) → Square n m → Invertible n m → Listed (catalogueOf n) (numberOfRows n m)
 
 -- ---- the call at a position, by its contract's definition
 pub record Calls : Type 0 where
@@ -69,5 +60,6 @@ pub record Catalogued : Type 0 where
   pub numbered : (n : ℕ) → Numbered n
   pub sound : (n : ℕ) → Sound n
   pub complete : (n : ℕ) → Complete n
-  pub rising : (n : ℕ) → Rising n
+  -- The numbers rise, so each is there once.
+  pub rising : (n : ℕ) → Rising (catalogueOf n)
   pub calls : Calls

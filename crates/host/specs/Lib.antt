@@ -1,4 +1,5 @@
 pub mod Walks
 pub mod Told
+pub mod Bits
 pub mod Entries
 pub mod Returned

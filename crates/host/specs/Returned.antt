@@ -7,6 +7,7 @@ use Rattle.judgement.specs.Judge.{judge}
 use Rattle.external.specs.Calls.{answer}
 use Rattle.tables.specs.Calls.{setAnswer, tableAnswer}
 use Rattle.catalogue.specs.Catalogue.{catalogueEntry, entryAnswer}
+use Rattle.whitebox.specs.Calls.{judgeWhole}
 use Rattle.records.specs.Replay.{judgeRecord}
 use Rattle.host.specs.Walks.{walkAnswer}
 
@@ -19,4 +20,5 @@ pub record Returned : Type 0 where
   pub singles : (key : ℕ) (l : List ℕ) (number memory : ℕ) → ReadOff (tableAnswer key l number memory)
   pub walks : (set block answer : ℕ) → ReadOff (walkAnswer set block answer)
   pub records : (set block rec : ℕ) → ReadOff (judgeRecord 10 set block rec)
+  pub bits : (set block : ℕ) → ReadOff (judgeWhole 10 set block)
   pub entries : (position : ℕ) → ReadOff (entryAnswer (catalogueEntry position))

@@ -13,7 +13,7 @@ use Rattle.records.specs.Theorems.{Agrees}
 use Rattle.records.specs.declared.replay.Verdict.{Verdict}
 use Rattle.records.specs.declared.replay.Verdict.the-variants.{Own, Differs, Refused}
 
--- TAZHIKKO_NONE of C, SIZE_MAX: the largest number of 64 bits, which is no lookup's.
+-- TAZHIKKO_NONE of C, SIZE_MAX: the largest number of 64 bits, which is no lookup's and no bit's.
 abbrev pub none : ℕ
 none = 2 ^ 64 - 1
 

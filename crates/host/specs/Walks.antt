@@ -4,14 +4,13 @@ use Prim.Native.Nat.{ℕ}
 use lib.ListN.{length}
 use Rattle.answers.specs.Answers.{wantsLength, andThen, ifAccepted}
 use Rattle.answers.specs.declared.Answer.{Answer}
-use Rattle.answers.specs.declared.Refusal.the-variants.{SetLength, BlockLength}
-use Rattle.layout.specs.Stages.{setBytes}
+use Rattle.answers.specs.declared.Refusal.the-variants.{BlockLength}
+use Rattle.whitebox.specs.Calls.{judgeWhole}
 use Rattle.whitebox.specs.Demand2.{walkedOver}
 
 -- For a set, a block and an answer of these lengths: 9, "set .. of wrong length", then 10, "block not 16 bytes, in or out".
 unfoldable pub walkAnswer : ℕ → ℕ → ℕ → Answer
-walkAnswer set block answer =
-    andThen (wantsLength (setBytes 10) set SetLength) (andThen (wantsLength 16 block BlockLength) (wantsLength 16 answer BlockLength))
+walkAnswer set block answer = andThen (judgeWhole 10 set block) (wantsLength 16 answer BlockLength)
 
 -- What the call leaves of the lent answer: demand 2's block, or the bytes that it held.
 unfoldable pub walkLeaves : ℕ → List ℕ → List ℕ → List ℕ → List ℕ

@@ -2,6 +2,7 @@
 // else cause * 2^32 + the number returned with it.
 pub mod entry;
 pub mod make;
+pub mod read_bits;
 pub mod replay;
 pub mod walk;
 
@@ -13,6 +14,9 @@ ghost use Rattle.aes.specs.Answers.{answerOf, enciphered, deciphered};
 ghost use Rattle.judgement.specs.Judge.{judge};
 ghost use Rattle.external.specs.Calls.{answer, leaves};
 ghost use Rattle.external.specs.Coding.{encodeInput, decodeInput, encodeOutput, decodeOutput};
+
+// What stands for none, of lookups or of bits, behind a pointer: the largest number of 64 bits.
+pub(crate) const NONE: usize = 18446744073709551615;
 
 // The judgement of a bundle, causes 2 to 7.
 #[no_mangle]

@@ -4,14 +4,12 @@ ghost use lib.ListN.{length};
 ghost use Rattle.answers.specs.Numbers.{numberOf};
 ghost use Rattle.records.specs.Replay.{judgeRecord, recordLeft, replayed};
 ghost use Rattle.host.specs.Told.{differsLeft};
+use crate::NONE;
 use answers::Answer;
 use answers::number;
 use records::record::record_walk;
 use records::replay::Verdict;
 use records::replay::replay;
-
-// What stands for no lookup: the largest number of 64 bits.
-const NONE: usize = 18446744073709551615;
 
 // Writes the record of the walk for a cipher, over a whole set, from a block.
 #[no_mangle]

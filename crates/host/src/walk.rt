@@ -10,18 +10,15 @@ use evaluate::walk::fetch;
 use evaluate::walk::move_to;
 use evaluate::walk::start;
 use layout::stage::LOOKUPS;
-use layout::stage::SET_BYTES;
 
 // The answer for these lengths.
 fn judged(set: usize, block: usize, answer: usize) -> Answer
     ensures { λ r. ⌜ r ≡ walkAnswer set block answer ⌝ }
 {
-    if set != SET_BYTES {
-        return Answer::Refused(Refusal::SetLength);
-    }
-    if block != 16 {
-        return Answer::Refused(Refusal::BlockLength);
-    }
+    let whole = passes::judged(set, block);
+    let Answer::Accepted = whole else {
+        return whole;
+    };
     if answer != 16 {
         return Answer::Refused(Refusal::BlockLength);
     }

@@ -98,6 +98,10 @@ halfLookups = 112
 abbrev pub roundLookups : ℕ
 roundLookups = 224
 
+-- The bytes of a half's tables, two of which are a round's.
+abbrev pub halfBytes : ℕ
+halfBytes = 28672
+
 -- The first lookup of a stage or half.
 abbrev pub firstLookup : ℕ → Stage → ℕ
 firstLookup nr Entry = 0

@@ -38,16 +38,18 @@ pub const HALF_LOOKUPS: usize = 112;
 const ROUND_LOOKUPS: usize = 224;
 
 // The exit's first lookup, of ten rounds.
-const EXIT_FIRST: usize = 2512;
+pub const EXIT_FIRST: usize = 2512;
 
-// Where tables begin: those of round 1's first and second half, and of ten rounds' exit. A round has `ROUND_BYTES` bytes of tables.
-const FIRST_HALF_START: usize = 126976;
+// Where tables begin: those of round 1's first and second half, and of ten rounds' exit. A half has `HALF_BYTES` bytes of tables.
+pub const FIRST_HALF_START: usize = 126976;
 
-const SECOND_HALF_START: usize = 155648;
+const SECOND_HALF_START: usize = FIRST_HALF_START + HALF_BYTES;
 
-const EXIT_START: usize = 643072;
+pub const EXIT_START: usize = 643072;
 
-const ROUND_BYTES: usize = 57344;
+pub const HALF_BYTES: usize = 28672;
+
+const ROUND_BYTES: usize = 2 * HALF_BYTES;
 
 // A lookup's stage or half, its number there, and the size and the offset of its table.
 pub struct Place {

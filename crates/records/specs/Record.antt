@@ -7,11 +7,11 @@ use lib.Dec.{ltb}
 use Rattle.bits.specs.Bytes.{bytesOf}
 use Rattle.bits.specs.Lists.{at, concat, partOf}
 use Rattle.bits.specs.Nibbles.{half}
-use Rattle.network.specs.Lookups.{State, stateAt, zeroArea}
+use Rattle.network.specs.Lookups.{State}
 use Rattle.network.specs.declared.EntryPlace.{EntryPlace}
 use Rattle.layout.specs.Ciphers.{readsOf}
 use Rattle.layout.specs.Stages.{lookups, tenLookups, indexOf}
-use Rattle.whitebox.specs.Calls.{advance, readNext}
+use Rattle.whitebox.specs.Calls.{stateFrom, readNext}
 use Rattle.records.specs.declared.entry.Entry.{Entry}
 
 -- ---- an entry of a record
@@ -37,9 +37,9 @@ entryNext reads nr mem s = entryRead (indexOf nr (s .count)) mem (readNext reads
 
 -- ---- the record of the walk for the cipher c, from a block, over the memory `set`
 module _ (c nr : ℕ) (set block : List ℕ) where
-  -- The walk's state after k lookups. "At the start the standing bytes are the presented block and the area is zero."
+  -- The walk's state after k lookups.
   abbrev pub walkAt : ℕ → State
-  walkAt k = advance (readsOf c) nr set k (stateAt 0 block zeroArea)
+  walkAt k = stateFrom (readsOf c) nr set block k
 
   -- The bytes that are recorded of lookup k.
   abbrev pub entryAt : ℕ → List ℕ

@@ -10,10 +10,11 @@ use Rattle.answers.specs.Search.{first}
 use Rattle.answers.specs.declared.Answer.{Answer}
 use Rattle.answers.specs.declared.Answer.the-variants as answer
 use Rattle.answers.specs.declared.Answer.the-variants.{Accepted}
-use Rattle.answers.specs.declared.Refusal.the-variants.{SetLength, BlockLength, RecordLength}
+use Rattle.answers.specs.declared.Refusal.the-variants.{RecordLength}
 use Rattle.answers.specs.declared.found.Found.{Found}
 use Rattle.answers.specs.declared.found.Found.the-variants.{At, Nothing}
-use Rattle.layout.specs.Stages.{lookups, setBytes}
+use Rattle.layout.specs.Stages.{lookups}
+use Rattle.whitebox.specs.Calls.{judgeWhole}
 use Rattle.records.specs.Record.{entryAt, recordOf, recordBytes, entryIn}
 use Rattle.records.specs.declared.replay.Verdict.{Verdict}
 use Rattle.records.specs.declared.replay.Verdict.the-variants.{Own, Differs, Refused}
@@ -21,9 +22,7 @@ use Rattle.records.specs.declared.replay.Verdict.the-variants.{Own, Diff
 -- ---- what is turned down, from the lengths of the set, the block and the record: 9, 10, and "a record of a length other than 15,040 gets number 13, tested
 -- after 10"
 unfoldable pub judgeRecord : ℕ → ℕ → ℕ → ℕ → Answer
-judgeRecord nr setLen blockLen recLen =
-    andThen (wantsLength (setBytes nr) setLen SetLength)
-    (andThen (wantsLength 16 blockLen BlockLength) (wantsLength (recordBytes nr) recLen RecordLength))
+judgeRecord nr setLen blockLen recLen = andThen (judgeWhole nr setLen blockLen) (wantsLength (recordBytes nr) recLen RecordLength)
 
 -- ---- the record of a walk into lent memory
 -- What the call leaves of the memory that held `lent`: the walk's record, or what it held.

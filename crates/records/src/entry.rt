@@ -5,14 +5,13 @@ ghost use lib.ListN.{length};
 ghost use Rattle.bits.specs.Lists.{at};
 ghost use Rattle.layout.specs.Ciphers.{readsOf};
 ghost use Rattle.layout.specs.Stages.{tenLookups, tenSetBytes};
+ghost use Rattle.passes.specs.InPlace.{placeTold};
 ghost use Rattle.records.specs.InPlace.{EntryMade};
 ghost use Rattle.records.specs.Record.{entrySize, written, entryRead};
 ghost use Rattle.records.specs.Replay.{same};
 use bits::encoding;
 use layout::stage::SPREADS;
-use layout::stage::place_of;
-use lookups::layer;
-use network::EntryPlace;
+use passes::Lookup;
 
 // The bytes of an offset, and of an entry.
 const OFFSET_BYTES: usize = 4;
@@ -64,12 +63,13 @@ pub(crate) fn write(part: &mut [u8], e: Entry)
     }
 }
 
-// What is recorded of the place that lookup `index` of a stage or half read: "the entry's first byte, or its half-byte as a number 0 to 15".
-fn entry_read(set: &[u8], read: EntryPlace, index: usize) -> Entry
+// What is recorded of a lookup, by the place that it read: "the entry's first byte, or its half-byte as a number 0 to 15".
+fn entry_read(set: &[u8], read: Lookup) -> Entry
     requires { ⌜ (length (now set) ≡ tenSetBytes) × (read .offset < tenSetBytes) × (read .half ≤ 1) ⌝ }
-    ensures { λ r. ⌜ r ≡ entryRead index (now (set .entry)) read ⌝ }
+    ensures { λ r. ⌜ r ≡ entryRead (read .index) (now (set .entry)) (placeTold read) ⌝ }
 {
     let at = read.offset;
+    let index = read.index;
     if index < SPREADS {
         return Entry {
             offset: at,
@@ -93,11 +93,6 @@ pub(crate) fn look_up(
     requires { ⌜ (length (now set) ≡ tenSetBytes) × (n < tenLookups) × (length (now standing) ≡ 16) × (length (now area) ≡ 256) ⌝ }
     ensures { λ r. ⌜ EntryMade (readsOf cipher) 10 (now (set .entry)) n (now (standing .entry)) (now (area .entry)) r (now (standing .exit)) (now (area .exit)) ⌝ }
 {
-    let p = place_of(n);
-    let from = p.offset;
-    let stage = p.stage;
-    let index = p.index;
-    let to = from + p.size;
-    let read = layer::lookup_in(cipher, standing, area, &set[from..to], from, stage, index);
-    entry_read(set, read, index)
+    let read = passes::look_up(cipher, standing, area, set, n);
+    entry_read(set, read)
 }

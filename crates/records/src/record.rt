@@ -11,7 +11,6 @@ use answers::Answer;
 use answers::Refusal;
 use bits::block::load;
 use layout::stage::LOOKUPS;
-use layout::stage::SET_BYTES;
 
 // The bytes of a record.
 const RECORD_BYTES: usize = LOOKUPS * ENTRY_BYTES;
@@ -20,12 +19,10 @@ const RECORD_BYTES: usize = LOOKUPS * ENTRY_BYTES;
 pub(crate) fn judged(set: usize, block: usize, recorded: usize) -> Answer
     ensures { λ r. ⌜ r ≡ judgeRecord 10 set block recorded ⌝ }
 {
-    if set != SET_BYTES {
-        return Answer::Refused(Refusal::SetLength);
-    }
-    if block != 16 {
-        return Answer::Refused(Refusal::BlockLength);
-    }
+    let whole = passes::judged(set, block);
+    let Answer::Accepted = whole else {
+        return whole;
+    };
     if recorded != RECORD_BYTES {
         return Answer::Refused(Refusal::RecordLength);
     }

@@ -16,6 +16,7 @@ pub mod Named
 pub mod Joined
 pub mod KeepsBytes
 pub mod PlaceRead
+pub mod PutDown
 pub mod Demands
 pub mod RoundTrip
 pub mod Cases

@@ -43,6 +43,10 @@ started c block =
     ifAccepted (judgeStart (length block)) (holding (kept c) (stateAt 0 block zeroArea)) (holding 0 (stateAt 0 (replicate 16 0) zeroArea))
 
 -- ---- what is turned down, from lengths, the stop and the count
+-- By a call that is lent a whole set and a block: 9, "set [..] of wrong length", then 10. "The lowest number that applies is given."
+unfoldable pub judgeWhole : ℕ → ℕ → ℕ → Answer
+judgeWhole nr setLen blockLen = andThen (wantsLength (setBytes nr) setLen SetLength) (wantsLength 16 blockLen BlockLength)
+
 -- 9: "set or single table of wrong length"; 11: "stop above 3,008 or below the count".
 unfoldable pub judgeStop : ℕ → ℕ → ℕ → ℕ → Answer
 judgeStop nr len stop count = andThen (wantsLength (setBytes nr) len SetLength) (refusedIf (ltb (lookups nr) stop || ltb stop count) Stop)
@@ -79,6 +83,10 @@ module _ (reads : ℕ → ℕ) (nr : ℕ) where
   unfoldable pub advance : List ℕ → ℕ → State → State
   advance mem zero s = s
   advance mem (suc n) s = advance mem n (step (tablePart nr mem (s .count)) s)
+
+  -- The state after k lookups over the set's memory, from a presented block. "At the start the standing bytes are the presented block and the area is zero."
+  abbrev pub stateFrom : List ℕ → List ℕ → ℕ → State
+  stateFrom mem block k = advance mem k (stateAt 0 block zeroArea)
 
   -- The place in a set that the lookup of the state's count reads.
   abbrev pub readNext : State → EntryPlace

@@ -1,7 +1,7 @@
 -- Laws, not definitions: a rule of a table, or of all numbers below n, from one test that antt computes over them all.
 -- Assumes nothing.
 use mathlib.Core.Path.{_≡_, refl, _∙_, subst, sym}
-use mathlib.Core.Bool.{Bool, true, false, _||_}
+use mathlib.Core.Bool.{Bool, true, false, cond, _||_}
 use mathlib.Core.List.{List, [], _∷_, _++_}
 use Prim.Native.Nat.{ℕ, zero, suc, _+_, _<_}
 use native.Mathlib.Nat.{add-zero, zero-add, add-suc, suc-add, le-of-suc-le-suc, not-suc-le-zero}
@@ -75,3 +75,8 @@ all-at (suc n) f t i h = go (all-at n f (both-right (f n) (all n f) t) i) (ℕ-d
     go : (i < n → T (f i)) → Dec (i ≡ n) → T (f i)
     go ih (yes e) = rw e (both-left (f n) (all n f) t)
     go ih (no e) = ih (lt-of-le-ne (le-of-suc-le-suc h) e)
+
+-- What both have, the one that a test picks has.
+pub either-has : {A : Type 0} (Q : A → Type 0) (t : Bool) (x y : A) → Q x → Q y → Q (cond t x y)
+either-has Q true x y p q = p
+either-has Q false x y p q = q

@@ -161,19 +161,19 @@ nibble-set l q v inside small =
     new : Bool → ℕ
     new t = cond t (pack v (at l (q / 2) % 16)) (pack (at l (q / 2) / 16) v)
 
-pub nibble-even : (s : List ℕ) (i : ℕ) → nibble s (2 * i) ≡ at s i / 16
+-- The halves of byte i.
+pub nibble-half : (l : List ℕ) (i r : ℕ) → r < 2 → nibble l (2 * i + r) ≡ half r (at l i)
 unfolding nibble
-nibble-even s i =
-    let p : (2 * i) % 2 ≡ 0 = omega arith in
-    let q : (2 * i) / 2 ≡ i = omega arith in
-    rw (p, q)
+nibble-half l i r h =
+    let e : (2 * i + r) % 2 ≡ r = omega arith in
+    let f : (2 * i + r) / 2 ≡ i = omega arith in
+    rw (e, f)
 
-pub nibble-odd : (s : List ℕ) (i : ℕ) → nibble s (2 * i + 1) ≡ at s i % 16
-unfolding nibble
-nibble-odd s i =
-    let p : (2 * i + 1) % 2 ≡ 1 = omega arith in
-    let q : (2 * i + 1) / 2 ≡ i = omega arith in
-    rw (p, q)
+pub nibble-even : (l : List ℕ) (i : ℕ) → nibble l (2 * i) ≡ at l i / 16
+nibble-even l i = ap (nibble l) (let e : 2 * i ≡ 2 * i + 0 = omega arith in e) ∙ nibble-half l i 0 (omega arith)
+
+pub nibble-odd : (l : List ℕ) (i : ℕ) → nibble l (2 * i + 1) ≡ at l i % 16
+nibble-odd l i = nibble-half l i 1 (omega arith)
 
 -- A number of n bytes is that of their nibbles.
 pub number-nibbles : (s : List ℕ) (a n : ℕ) → number n (λ i. at s (a + i)) ≡ joined 4 (2 * n) (λ q. nibble s (2 * a + q))

@@ -70,6 +70,13 @@ xor-zero-eq a b e = omega (arith, xor-add-and a b, and-le-l a b, and-le-r a b)
 pub xor-back : (a b : ℕ) → bitXor (bitXor a b) b ≡ a
 xor-back a b = xor-assoc a b b ∙ ap (bitXor a) (xor-self b) ∙ xor-zero-r a
 
+-- What changes nothing is 0, and what is changed alike was alike.
+pub xor-none : (a b : ℕ) → bitXor a b ≡ a → b ≡ 0
+xor-none a b e = sym (xor-back b a) ∙ ap (λ (x : ℕ). bitXor x a) (xor-comm b a ∙ e) ∙ xor-self a
+
+pub xor-apart : (a b k : ℕ) → bitXor a k ≡ bitXor b k → a ≡ b
+xor-apart a b k e = sym (xor-back a k) ∙ ap (λ (x : ℕ). bitXor x k) e ∙ xor-back b k
+
 pub xor-four : (p q r s : ℕ) → bitXor (bitXor p q) (bitXor r s) ≡ bitXor (bitXor p r) (bitXor q s)
 xor-four p q r s =
     xor-assoc p q (bitXor r s)

@@ -8,13 +8,13 @@ use Prim.Native.Nat.{ℕ, _*_, _^_, _<_}
 use native.Mathlib.Decide.{decLt}
 use native.Mathlib.Omega.{arith}
 use lib.ListN.{length}
-use Rattle.bits.specs.Lists.{at}
+use Rattle.bits.specs.Lists.{at, Rising}
 use Rattle.bits.proofs.laws.Counts.{counted, counted-lt, length-chosen, Stands, stands-at, at-stands}
 use Rattle.matrices.specs.Matrices.{Invertible}
 use Rattle.inversion.specs.Inverses.{UndoesBothWays}
 use Rattle.inversion.proofs.laws.Inverses.{passes-undone, invertible-passes}
 use Rattle.catalogue.specs.Catalogue.{numberOfRows, rowsOfNumber, isInvertible, catalogueOf}
-use Rattle.catalogue.specs.Theorems.{Sound, Complete, Rising}
+use Rattle.catalogue.specs.Theorems.{Sound, Complete}
 use Rattle.catalogue.proofs.laws.Numbered.{square, number-lt, rows-of-rows}
 
 module _ (n : ℕ) where
@@ -51,7 +51,7 @@ module _ (n : ℕ) where
       }
 
   -- Of two places the later has more before it, so its number is higher.
-  pub rising : Rising n
+  pub rising : Rising (catalogueOf n)
   rising p q l h =
       let P = placed p (omega arith) in
       let Q = placed q h in

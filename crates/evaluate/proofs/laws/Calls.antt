@@ -28,6 +28,7 @@ use Rattle.layout.proofs.laws.Ranges.{by-stage}
 use Rattle.whitebox.specs.Calls.{Held, holding, Call, toStop, oneLookup, started, judgeStop, judgeOne, judgeFetch, advance, readNext, lastOffset}
 use Rattle.whitebox.specs.Calls.{answer, reply, handed, passedOn, blockLeft}
 use Rattle.whitebox.specs.PlaceRead.{InTable}
+use Rattle.whitebox.proofs.laws.Calls.{advance-split}
 use Rattle.whitebox.proofs.laws.Judged as judged
 use Rattle.whitebox.proofs.laws.Judged.{presented-wrong, presented-right, set-wrong, stop-right, none-left, table-wrong, table-right, block-wrong, count-wrong, count-right}
 use Rattle.whitebox.proofs.laws.Named.{refused-leaves}
@@ -40,7 +41,7 @@ use Rattle.evaluate.specs.Advanced.{Refuses, Advanced, Advances}
 use Rattle.evaluate.specs.Contracts.{Opens, Moves, Fetches}
 use Rattle.evaluate.specs.declared.walk.Move.{Move}
 use Rattle.evaluate.specs.declared.walk.Walk.{Walk}
-use Rattle.evaluate.proofs.laws.Stages.{advance-split, last-split, layer-walk, layer-read, layer-inside}
+use Rattle.evaluate.proofs.laws.Stages.{last-split, layer-walk, layer-read, layer-inside}
 
 -- ---- the place of a lookup
 module _ {nr count bytes : ℕ} (N : Sizes nr count bytes) (n : ℕ) (p : Place) (h : n < count) (e : p ≡ placeOf nr n) where

@@ -29,7 +29,7 @@ same-walk : (v w : Walk) → held v ≡ held w → v ≡ w
 unfolding unheld
 same-walk v w e = ap unheld e
 
-whole-walk : (nr : ℕ) → WholeWalk nr
+pub whole-walk : (nr : ℕ) → WholeWalk nr
 whole-walk nr c set x lent left w =
     w .fetches .block ∙ ap (blockLeft nr (fetch lent)) (w .moves .walk ∙ ap (handed nr (toStop set (lookups nr))) (w .opens .walk))
 

@@ -5,7 +5,6 @@ use mathlib.Core.List.{List}
 use mathlib.Core.Logic.{⊎-elim}
 use mathlib.Core.Path.{_≡_, sym, ap, ap₂, _∙_, subst}
 use Prim.Native.Nat.{ℕ, zero, suc, _+_, _-_, _≤_, _<_}
-use native.Mathlib.Numerals.{add-one}
 use native.Mathlib.Omega.{arith}
 use lib.ListN.{take, drop}
 use Rattle.network.specs.Lookups.{State, stateAt, Shape, zeroArea, sums, lookup, lookupIn}
@@ -20,35 +19,21 @@ use Rattle.layout.specs.declared.stage.Stage.{Stage}
 use Rattle.layout.proofs.laws.Lookup.{first-byte}
 use Rattle.layout.proofs.laws.Ranges.{in-stage, by-stage}
 use Rattle.layout.proofs.laws.Stages.{lookups-16, lookups-4}
-use Rattle.whitebox.specs.Calls.{advance, readNext, lastOffset}
+use Rattle.whitebox.specs.Calls.{tablePart, step, advance, readNext, lastOffset}
 use Rattle.whitebox.specs.PlaceRead.{InTable}
+use Rattle.whitebox.proofs.laws.Calls.{advance-split, advance-last}
 use Rattle.whitebox.proofs.laws.PlaceRead.{in-table}
 use Rattle.lookups.specs.InPlace.{tableFrom, spreadsIn, xorsIn, placeOfLast, sumsIn}
 use Rattle.lookups.proofs.laws.Layers.{at-spread, at-xor, at-last}
 
 module _ (reads : ℕ → ℕ) (nr : ℕ) (set : List ℕ) where
-  -- ---- the walk in two parts, and its last lookup
-  abbrev stepOver : State → State
-  stepOver w = lookup (shapes reads nr) (take (tableSize nr (w .count)) (drop (tableOffset nr (w .count)) set)) w
-
-  pub advance-split : (j k : ℕ) (w : State) → advance reads nr set (j + k) w ≡ advance reads nr set k (advance reads nr set j w)
-  unfolding advance
-  advance-split zero k w = ap (λ (x : ℕ). advance reads nr set x w) (let e : 0 + k ≡ k = omega arith in e)
-  advance-split (suc j) k w =
-      let e : suc j + k ≡ suc (j + k) = omega arith in
-      ap (λ (x : ℕ). advance reads nr set x w) e ∙ advance-split j k (stepOver w)
-
-  advance-last : (k : ℕ) (w : State) → advance reads nr set (suc k) w ≡ stepOver (advance reads nr set k w)
-  unfolding advance
-  advance-last k w = ap (λ (x : ℕ). advance reads nr set x w) (sym (add-one k)) ∙ advance-split k 1 w
-
   -- What is passed on is the last part's, where that makes a lookup.
   pub last-split : (j k : ℕ) (w : State) → 0 < k → lastOffset reads nr set (j + k) w ≡ lastOffset reads nr set k (advance reads nr set j w)
   unfolding lastOffset
   last-split j zero w h = absurd (omega arith)
   last-split j (suc k) w h =
       let e : j + suc k ≡ suc (j + k) = omega arith in
-      ap (λ (x : ℕ). lastOffset reads nr set x w) e ∙ ap (λ (w : State). readNext reads nr w .offset) (advance-split j k w)
+      ap (λ (x : ℕ). lastOffset reads nr set x w) e ∙ ap (λ (w : State). readNext reads nr w .offset) (advance-split reads nr set j k w)
 
   -- ---- from the first lookup n of a stage or half
   module _ (n : ℕ) (h : n < lookups nr) (z : indexOf nr n ≡ 0) where
@@ -103,8 +88,8 @@ module _ (reads : ℕ → ℕ) (nr : ℕ) (set : List ℕ) where
           → advance reads nr set (suc k) w ≡ lookupIn S k (table k) (stateAt (n + k) u a)
       unfolding lookup
       next w u a e =
-          advance-last k w
-          ∙ ap stepOver e
+          advance-last reads nr set k w
+          ∙ ap (λ (v : State). step reads nr (tablePart nr set (v .count)) v) e
           ∙ ap (λ (t : List ℕ). lookup (shapes reads nr) t (stateAt (n + k) u a)) table-is
           ∙ by-stage nr .lookup-is reads (n + k) below (table k) (stateAt (n + k) u a)
           ∙ ap₂ (λ (s : Stage) (j : ℕ). lookupIn (shapeAt reads s) j (table k) (stateAt (n + k) u a)) stage-is index-is

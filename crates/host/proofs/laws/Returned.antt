@@ -22,6 +22,7 @@ use Rattle.judgement.specs.Judge.{judgeEncodings, judgeByteMatrices, judgeColum
 use Rattle.external.specs.Calls.{answer}
 use Rattle.layout.specs.Stages.{lookups, setBytes, tableSize}
 use Rattle.tables.specs.Calls.{judgedFor, setAnswerFor, tableAnswerFor, judged, setAnswer, tableAnswer}
+use Rattle.whitebox.specs.Calls.{judgeWhole}
 use Rattle.records.specs.Record.{recordBytes}
 use Rattle.records.specs.Replay.{judgeRecord}
 use Rattle.host.specs.Returned.{Returned}
@@ -93,15 +94,18 @@ table-small key l number memory =
     let table = small-length (tableSize 10 number) memory SetLength (omega arith) in
     small-andThen _ _ (judged-small key l) (small-andThen _ _ (small-test (not (ltb number (lookups 10))) TableNumber (omega arith)) table)
 
+-- A whole set and a block.
+whole-small : (set block : ℕ) → Small (judgeWhole 10 set block)
+unfolding judgeWhole
+whole-small set block = small-andThen _ _ (small-length (setBytes 10) set SetLength (omega arith)) (small-length 16 block BlockLength (omega arith))
+
 walk-small : (set block answer : ℕ) → Small (walkAnswer set block answer)
 unfolding walkAnswer
-walk-small set block answer = small-andThen _ _ (small-length (setBytes 10) set SetLength (omega arith)) (blocks-small block answer)
+walk-small set block answer = small-andThen _ _ (whole-small set block) (small-length 16 answer BlockLength (omega arith))
 
 record-small : (set block rec : ℕ) → Small (judgeRecord 10 set block rec)
 unfolding judgeRecord
-record-small set block rec =
-    small-andThen _ _ (small-length (setBytes 10) set SetLength (omega arith))
-    (small-andThen _ _ (small-length 16 block BlockLength (omega arith)) (small-length (recordBytes 10) rec RecordLength (omega arith)))
+record-small set block rec = small-andThen _ _ (whole-small set block) (small-length (recordBytes 10) rec RecordLength (omega arith))
 
 pub returned : Returned
 returned = record {
@@ -112,5 +116,6 @@ returned = record {
   singles = λ key l number memory. readable _ (table-small key l number memory .below);
   walks = λ set block answer. readable _ (walk-small set block answer .below);
   records = λ set block rec. readable _ (record-small set block rec .below);
+  bits = λ set block. readable _ (whole-small set block .below);
   entries = λ position. readable _ (entry-small position .below);
 }

@@ -4,15 +4,15 @@ use mathlib.Core.List.{List}
 use mathlib.Core.Path.{_≡_, sym, _∙_}
 use Prim.Native.Nat.{ℕ}
 use lib.ListN.{length}
-use Rattle.answers.specs.Answers.{wantsLength, andThen}
+use Rattle.answers.specs.Answers.{wantsLength}
 use Rattle.answers.specs.declared.Answer.{Answer}
 use Rattle.answers.specs.declared.Answer.the-variants.{Accepted, Refused}
 use Rattle.answers.specs.declared.Refusal.{Refusal}
-use Rattle.answers.specs.declared.Refusal.the-variants.{SetLength, BlockLength}
-use Rattle.answers.proofs.laws.Tests.{first-refuses, second-decides, length-wrong, length-right, from-wrong, to-wrong, lengths-right, left-new, left-old}
-use Rattle.layout.specs.Stages.{tenLookups, setBytes, tenSetBytes}
+use Rattle.answers.specs.declared.Refusal.the-variants.{BlockLength}
+use Rattle.answers.proofs.laws.Tests.{first-refuses, second-decides, length-wrong, length-right, left-new, left-old}
+use Rattle.layout.specs.Stages.{tenLookups}
 use Rattle.layout.proofs.laws.Cases.{starred}
-use Rattle.whitebox.specs.Calls.{toStop}
+use Rattle.whitebox.specs.Calls.{toStop, judgeWhole}
 use Rattle.evaluate.specs.Contracts.{Opens, Moves, Fetches}
 use Rattle.evaluate.specs.Demands.{WalkMade}
 use Rattle.evaluate.specs.declared.walk.Move.{Move}
@@ -20,24 +20,21 @@ use Rattle.evaluate.specs.declared.walk.Opening.{Opening}
 use Rattle.evaluate.proofs.laws.Demands.{calls}
 use Rattle.host.specs.Walks.{walkAnswer, walkLeaves}
 
--- ---- The answer, test by test.
-module _ (set block answer : ℕ) where
-  pub bad-set : (set ≡ tenSetBytes → ⊥) → Refused SetLength ≡ walkAnswer set block answer
+-- ---- The answer, test by test, behind the answer w for set and block.
+module _ (set block answer : ℕ) {w : Answer} (e : w ≡ judgeWhole 10 set block) where
+  pub bad-whole : {r : Refusal} → w ≡ Refused r → w ≡ walkAnswer set block answer
   unfolding walkAnswer
-  bad-set n = first-refuses _ _ _ (sym (length-wrong (setBytes 10) set SetLength (λ e. n (e ∙ starred .all-bytes))))
+  bad-whole f = f ∙ first-refuses _ _ _ (sym e ∙ f)
 
-  by-blocks : set ≡ tenSetBytes → andThen (wantsLength 16 block BlockLength) (wantsLength 16 answer BlockLength) ≡ walkAnswer set block answer
+  by-last : w ≡ Accepted → wantsLength 16 answer BlockLength ≡ walkAnswer set block answer
   unfolding walkAnswer
-  by-blocks e = second-decides _ _ (sym (length-right (setBytes 10) set SetLength (e ∙ sym (starred .all-bytes))))
+  by-last f = second-decides _ _ (sym e ∙ f)
 
-  pub bad-block : set ≡ tenSetBytes → (block ≡ 16 → ⊥) → Refused BlockLength ≡ walkAnswer set block answer
-  bad-block e n = from-wrong 16 block answer BlockLength n ∙ by-blocks e
+  pub bad-answer : w ≡ Accepted → (answer ≡ 16 → ⊥) → Refused BlockLength ≡ walkAnswer set block answer
+  bad-answer f n = length-wrong 16 answer BlockLength n ∙ by-last f
 
-  pub bad-answer : set ≡ tenSetBytes → block ≡ 16 → (answer ≡ 16 → ⊥) → Refused BlockLength ≡ walkAnswer set block answer
-  bad-answer e f n = to-wrong 16 block answer BlockLength f n ∙ by-blocks e
-
-  pub good : set ≡ tenSetBytes → block ≡ 16 → answer ≡ 16 → Accepted ≡ walkAnswer set block answer
-  good e f g = lengths-right 16 block answer BlockLength f g ∙ by-blocks e
+  pub good : w ≡ Accepted → answer ≡ 16 → Accepted ≡ walkAnswer set block answer
+  good f l = length-right 16 answer BlockLength l ∙ by-last f
 
 -- ---- What the call, by a walk for the cipher c, leaves of the lent answer, where the code has the answer a.
 module _ (c : ℕ) (set block lent : List ℕ) {a : Answer} (e : a ≡ walkAnswer (length set) (length block) (length lent)) where

@@ -13,9 +13,9 @@ use Rattle.bits.proofs.laws.Nibbles.{nibble-packed, packed-ext, packed-bytes, p
 use Rattle.bits.specs.Bytes.{Bytes, Block}
 use Rattle.bits.specs.Encodings.{encode}
 use Rattle.bits.specs.Lists.{at}
-use Rattle.bits.specs.Nibbles.{nibble}
+use Rattle.bits.specs.Nibbles.{nibble, packed}
 use Rattle.network.specs.Due.{summed, valuesIn, valuesOf, leftBy, standingDue, areaDue, dueState, closed, encoded, decoded}
-use Rattle.network.specs.Lookups.{State, stateAt, Shape, zeroArea, lookupIn, lookupAt, lookup, walked}
+use Rattle.network.specs.Lookups.{State, stateAt, Shape, zeroArea, leaving, lookupIn, lookupAt, lookup, walked}
 use Rattle.network.specs.Numbers.{Numbers, nextNumbers, startNumbers, numbersAfter}
 use Rattle.network.specs.Order.{layerLookups}
 use Rattle.network.specs.Sizes.{lookupsIn}
@@ -23,11 +23,11 @@ use Rattle.network.specs.Tables.{Layer, AllGood, shapeOf, widthsOf, shap
 use Rattle.network.specs.Theorems.{Permutations, FromAnyLayer, AtTheEnd}
 use Rattle.network.proofs.laws.Layers.{lookup-past, table-past}
 use Rattle.network.proofs.laws.Order.{layer-lookups}
-use Rattle.network.proofs.laws.Steps.{same-state, zero-area, cell, cells, layerState, layer-step, layer-last, layer-start}
+use Rattle.network.proofs.laws.Steps.{same-state, zero-area, cell, cells, layerState, area-step, left-within, left-last, layer-start}
 use Rattle.network.proofs.laws.Values.{summed-bytes}
 
 -- ---- the closed form inside the first layer, and past it
-closed-past : (E : ℕ → List ℕ) (L : Layer) (Ls : List Layer) (N : Numbers) (l : List ℕ) (from k : ℕ) → layerLookups (L .width) ≤ k
+pub closed-past : (E : ℕ → List ℕ) (L : Layer) (Ls : List Layer) (N : Numbers) (l : List ℕ) (from k : ℕ) → layerLookups (L .width) ≤ k
     → closed E (L ∷ Ls) N l from k ≡ closed E Ls (nextNumbers (L .width) N) (summed (valuesIn L l)) (from + layerLookups (L .width)) (k - layerLookups (L .width))
 unfolding dueState valuesOf leftBy standingDue areaDue
 closed-past E L Ls N l from k b =
@@ -43,7 +43,7 @@ unfolding dueState valuesOf leftBy standingDue areaDue encoded
 closed-none E N l from k = same-state refl refl zero-area
 
 module _ (E : ℕ → List ℕ) (perm : Permutations E) where
-  closed-in : (L : Layer) (Ls : List Layer) (g : AllGood (L ∷ Ls)) (N : Numbers) (l : List ℕ) (b : Bytes l) (from k : ℕ) → k < layerLookups (L .width)
+  pub closed-in : (L : Layer) (Ls : List Layer) (g : AllGood (L ∷ Ls)) (N : Numbers) (l : List ℕ) (b : Bytes l) (from k : ℕ) → k < layerLookups (L .width)
       → closed E (L ∷ Ls) N l from k ≡ layerState E perm L (g .0) N l b from k
   unfolding dueState valuesOf leftBy standingDue areaDue encoded cells cell
   closed-in L Ls g N l b from k c = rw (lt-ltb k (layerLookups (L .width)) c)
@@ -56,36 +56,46 @@ module _ (E : ℕ → List ℕ) (perm : Permutations E) where
   left-bytes : (L : Layer) (Ls : List Layer) → AllGood (L ∷ Ls) → (l : List ℕ) → Bytes (summed (valuesIn L l))
   left-bytes L Ls g l = summed-bytes (valuesIn L l) (λ p. g .0 .bytes p (at l (L .source p)))
 
-  pub one-lookup : (Ls : List Layer) → AllGood Ls → (N : Numbers) (l : List ℕ) → Bytes l → (from k : ℕ) → k < lookupsIn (widthsOf Ls)
-      → lookupAt (shapesOf Ls) k (tableAt E Ls N k) (closed E Ls N l from k) ≡ closed E Ls N l from (suc k)
-  unfolding lookupsIn lookupAt tableAt
-  one-lookup [] g N l b from k h = absurd (not-suc-le-zero h)
-  one-lookup (L ∷ Ls) g N l b from k h =
-      go (decLt (suc k) T) (decLt k T) (λ c. one-lookup Ls (g .1) (nextNumbers (L .width) N) (summed (valuesIn L l)) (left-bytes L Ls g l) (from + T) (k - T) c)
+  -- What a lookup leaves of the area of the next count is the closed form there, within the layer and behind it.
+  pub layer-left : (L : Layer) (Ls : List Layer) (g : AllGood (L ∷ Ls)) (N : Numbers) (l : List ℕ) (b : Bytes l) (from k : ℕ) → k < layerLookups (L .width)
+      → leaving (shapeOf L) k (packed 256 (cells E perm L (g .0) N l b (suc k))) (layerState E perm L (g .0) N l b from k) ≡ closed E (L ∷ Ls) N l from (suc k)
+  layer-left L Ls g N l b from k h = go (decLt (suc k) T)
     where
       T : ℕ
       T = layerLookups (L .width)
 
-      go : Dec (suc k < T) → Dec (k < T)
+      go : Dec (suc k < T)
+          → leaving (shapeOf L) k (packed 256 (cells E perm L (g .0) N l b (suc k))) (layerState E perm L (g .0) N l b from k) ≡ closed E (L ∷ Ls) N l from (suc k)
+      go (yes c) = left-within E perm L (g .0) N l b from k c ∙ sym (closed-in L Ls g N l b from (suc k) c)
+      go (no c) =
+          let f : suc k - T ≡ 0 = omega arith in
+          left-last E perm L (g .0) N l b from k (omega arith)
+          ∙ sym (closed-zero Ls (g .1) (nextNumbers (L .width) N) (summed (valuesIn L l)) (left-bytes L Ls g l) (from + T))
+          ∙ ap (closed E Ls (nextNumbers (L .width) N) (summed (valuesIn L l)) (from + T)) (sym f)
+          ∙ sym (closed-past E L Ls N l from (suc k) (omega arith))
+
+  pub one-lookup : (Ls : List Layer) → AllGood Ls → (N : Numbers) (l : List ℕ) → Bytes l → (from k : ℕ) → k < lookupsIn (widthsOf Ls)
+      → lookupAt (shapesOf Ls) k (tableAt E Ls N k) (closed E Ls N l from k) ≡ closed E Ls N l from (suc k)
+  unfolding lookupsIn lookupIn lookupAt tableAt
+  one-lookup [] g N l b from k h = absurd (not-suc-le-zero h)
+  one-lookup (L ∷ Ls) g N l b from k h =
+      go (decLt k T) (λ c. one-lookup Ls (g .1) (nextNumbers (L .width) N) (summed (valuesIn L l)) (left-bytes L Ls g l) (from + T) (k - T) c)
+    where
+      T : ℕ
+      T = layerLookups (L .width)
+
+      go : Dec (k < T)
           → (k - T < lookupsIn (widthsOf Ls)
           → lookupAt (shapesOf Ls) (k - T) (tableAt E Ls (nextNumbers (L .width) N) (k - T)) (closed E Ls (nextNumbers (L .width) N) (summed (valuesIn L l)) (from + T) (k - T))
           ≡ closed E Ls (nextNumbers (L .width) N) (summed (valuesIn L l)) (from + T) (suc (k - T)))
           → lookupAt (shapesOf (L ∷ Ls)) k (tableAt E (L ∷ Ls) N k) (closed E (L ∷ Ls) N l from k) ≡ closed E (L ∷ Ls) N l from (suc k)
-      go (yes c) d ih =
-          rw (lt-ltb k T (omega arith))
-          (ap (lookupIn (shapeOf L) k (tableIn E L N k)) (closed-in L Ls g N l b from k (omega arith))
-          ∙ layer-step E perm L (g .0) N l b from k c
-          ∙ sym (closed-in L Ls g N l b from (suc k) c))
-      go (no c) (yes d) ih =
-          let e : suc k ≡ T = omega arith in
-          let f : suc k - T ≡ 0 = omega arith in
+      go (yes d) ih =
+          let w : State = layerState E perm L (g .0) N l b from k in
           rw (lt-ltb k T d)
           (ap (lookupIn (shapeOf L) k (tableIn E L N k)) (closed-in L Ls g N l b from k d)
-          ∙ layer-last E perm L (g .0) N l b from k e
-          ∙ sym (closed-zero Ls (g .1) (nextNumbers (L .width) N) (summed (valuesIn L l)) (left-bytes L Ls g l) (from + T))
-          ∙ ap (closed E Ls (nextNumbers (L .width) N) (summed (valuesIn L l)) (from + T)) (sym f)
-          ∙ sym (closed-past E L Ls N l from (suc k) (omega arith)))
-      go (no c) (no d) ih =
+          ∙ ap (λ (a : List ℕ). leaving (shapeOf L) k a w) (area-step E perm L (g .0) N l b from k d)
+          ∙ layer-left L Ls g N l b from k d)
+      go (no d) ih =
           let f : suc k - T ≡ suc (k - T) = omega arith in
           rw (le-ltb k T (omega arith))
           (ap (lookupAt (shapesOf Ls) (k - T) (tableAt E Ls (nextNumbers (L .width) N) (k - T))) (closed-past E L Ls N l from k (omega arith))

@@ -260,3 +260,30 @@ module _ (m : ℕ) (good : GoodWidth m) where
       let n : 1 ≤ 2 * m = omega (arith, good) in
       let g : 1 ≤ 16 / m = le-div-iff-mul-le pos .1 (omega (arith, good)) in
       mul-le-mul (mul-le-mul g r) n
+
+-- ---- the largest number of words that are added
+added-most : (m x w h : ℕ) → added m x w h ≤ m - 1
+unfolding added
+added-most m x w h = two (eqb (w % m) 0)
+  where
+    two : (t : Bool) → cond t (min (m - 1) (turnOf m x + min 1 (nibbleOf m x - h) - w / m * (m - 1))) 0 ≤ m - 1
+    two true = omega arith
+    two false = omega arith
+
+-- A sum that begins before the first word of a group ends before it.
+pub before-group : (m x w h w₀ : ℕ) → GoodWidth m → w₀ % m ≡ 0 → w < w₀ → w + added m x w h < w₀
+before-group m x w h w₀ good e l = go (ℕ-discrete (w % m) 0)
+  where
+    a : w / m * m + w % m ≡ w
+    a = div-add-mod' w m
+
+    b : w₀ / m * m + w₀ % m ≡ w₀
+    b = div-add-mod' w₀ m
+
+    groups : w % m ≡ 0 → Dec (w / m < w₀ / m) → w + added m x w h < w₀
+    groups z (yes c) = omega (arith, a, b, good, added-most m x w h, mul-le-mul-right m c)
+    groups z (no c) = absurd (omega (arith, a, b, mul-le-mul-right m (let y : w₀ / m ≤ w / m = omega arith in y)))
+
+    go : Dec (w % m ≡ 0) → w + added m x w h < w₀
+    go (yes z) = groups z (decLt (w / m) (w₀ / m))
+    go (no z) = omega (arith, added-not m good x w h z)

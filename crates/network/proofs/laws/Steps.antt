@@ -21,7 +21,7 @@ use Rattle.bits.specs.Encodings.{encode, decode, Permutation}
 use Rattle.bits.specs.Lists.{at}
 use Rattle.bits.specs.Nibbles.{pack, nibble, packed}
 use Rattle.network.specs.Due.{sum, summed, valuesIn, held, blank, shown, dueIn, encoded}
-use Rattle.network.specs.Lookups.{State, stateAt, zeroArea, spreadArea, xorArea, sums, lookupIn}
+use Rattle.network.specs.Lookups.{State, stateAt, zeroArea, xorArea, spreadArea, sums, areaIn, leaving}
 use Rattle.network.specs.Numbers.{Numbers, encodingNumber, nextNumbers}
 use Rattle.network.specs.Order.{xors, layerLookups, nibbleOf, addedOf, sumOf, place, sumPlace, addedPlace, added}
 use Rattle.network.specs.Tables.{Layer, Good, shapeOf, spreadEntry, spreadTable, xorEntry, xorTable, tableIn}
@@ -89,11 +89,11 @@ module _ (E : ℕ → List ℕ) (perm : (n : ℕ) → Permutation (E n)) where
     unfoldable pub cells : ℕ → ℕ → ℕ
     cells j q = cell j (q / (2 * L .width)) (q % (2 * L .width))
 
-    cells-lt : (j q : ℕ) → cells j q < 16
+    pub cells-lt : (j q : ℕ) → cells j q < 16
     unfolding cells cell dueIn
     cells-lt j q = shown-cond (ltb (q / (2 * L .width)) (min j 16)) _ _
 
-    cells-at : (j w h : ℕ) → h < 2 * L .width → cells j (place (L .width) w h) ≡ cell j w h
+    pub cells-at : (j w h : ℕ) → h < 2 * L .width → cells j (place (L .width) w h) ≡ cell j w h
     unfolding cells
     cells-at j w h b = ap₂ (cell j) (at-div (2 * L .width) w h b) (at-mod (2 * L .width) w h b)
 
@@ -316,36 +316,38 @@ module _ (E : ℕ → List ℕ) (perm : (n : ℕ) → Permutation (E n)) where
     abbrev pub layerState : ℕ → ℕ → State
     layerState from k = stateAt (from + k) (encoded E (N .standing) l) (packed 256 (cells k))
 
-    pub layer-step : (from k : ℕ) → suc k < layerLookups (L .width) → lookupIn (shapeOf L) k (tableIn E L N k) (layerState from k) ≡ layerState from (suc k)
-    unfolding lookupIn tableIn
-    layer-step from k b = go (decLt k 16)
+    -- The area that lookup k makes over its table.
+    pub area-step : (from k : ℕ) → k < layerLookups (L .width) → areaIn (shapeOf L) k (tableIn E L N k) (layerState from k) ≡ packed 256 (cells (suc k))
+    unfolding tableIn
+    area-step from k b = go (decLt k 16)
+      where
+        go : Dec (k < 16) → areaIn (shapeOf L) k (tableIn E L N k) (layerState from k) ≡ packed 256 (cells (suc k))
+        go (yes c) = rw (lt-ltb k 16 c) (spread-step k c)
+        go (no c) =
+            let e : k ≡ 16 + (k - 16) = omega arith in
+            rw (le-ltb k 16 (omega arith))
+            (subst (λ (n : ℕ). xorArea (L .width) (k - 16) (xorTable E (L .width) (N .first) (k - 16)) (packed 256 (cells n)) ≡ packed 256 (cells (suc n))) (sym e)
+            (xor-step (k - 16) (xor-in (L .width) k (omega arith) b)))
+
+    -- What it leaves of that area, within the layer and as its last lookup.
+    pub left-within : (from k : ℕ) → suc k < layerLookups (L .width) → leaving (shapeOf L) k (packed 256 (cells (suc k))) (layerState from k) ≡ layerState from (suc k)
+    left-within from k b = go (decLt k 16)
       where
         more : suc (from + k) ≡ from + suc k
         more = omega arith
 
-        go : Dec (k < 16) → lookupIn (shapeOf L) k (tableIn E L N k) (layerState from k) ≡ layerState from (suc k)
-        go (yes c) = rw (lt-ltb k 16 c) (same-state more refl (spread-step k c))
-        go (no c) =
-            let e : k ≡ 16 + (k - 16) = omega arith in
-            rw (le-ltb k 16 (omega arith), ne-eqb (suc k) (layerLookups (L .width)) (λ z. omega arith))
-            (same-state more refl
-            (subst (λ (n : ℕ). xorArea (L .width) (k - 16) (xorTable E (L .width) (N .first) (k - 16)) (packed 256 (cells n)) ≡ packed 256 (cells (suc n))) (sym e)
-            (xor-step (k - 16) (xor-in (L .width) k (omega arith) (omega arith)))))
+        go : Dec (k < 16) → leaving (shapeOf L) k (packed 256 (cells (suc k))) (layerState from k) ≡ layerState from (suc k)
+        go (yes c) = rw (lt-ltb k 16 c) (same-state more refl refl)
+        go (no c) = rw (le-ltb k 16 (omega arith), ne-eqb (suc k) (layerLookups (L .width)) (λ z. omega arith)) (same-state more refl refl)
 
-    pub layer-last : (from k : ℕ) → suc k ≡ layerLookups (L .width)
-        → lookupIn (shapeOf L) k (tableIn E L N k) (layerState from k)
+    pub left-last : (from k : ℕ) → suc k ≡ layerLookups (L .width)
+        → leaving (shapeOf L) k (packed 256 (cells (suc k))) (layerState from k)
         ≡ stateAt (from + layerLookups (L .width)) (encoded E (nextNumbers (L .width) N .standing) (summed (valuesIn L l))) zeroArea
-    unfolding lookupIn tableIn
-    layer-last from k b =
+    left-last from k b =
         let g : 16 ≤ k = omega (arith, layer-lookups (L .width), xors-pos (L .width) (good .groups)) in
-        let e : k ≡ 16 + (k - 16) = omega arith in
-        let f : suc (16 + (k - 16)) ≡ 16 + xors (L .width) = omega (arith, layer-lookups (L .width)) in
+        let f : suc k ≡ 16 + xors (L .width) = omega (arith, layer-lookups (L .width)) in
         rw (le-ltb k 16 g, eq-eqb (suc k) (layerLookups (L .width)) b)
-        (same-state (omega arith)
-        (ap (λ (n : ℕ). sums (L .width) (xorArea (L .width) (k - 16) (xorTable E (L .width) (N .first) (k - 16)) (packed 256 (cells n)))) e
-        ∙ ap (sums (L .width)) (xor-step (k - 16) (xor-in (L .width) k g (omega arith)) ∙ ap (λ (n : ℕ). packed 256 (cells n)) f)
-        ∙ sums-end)
-        refl)
+        (same-state (omega arith) (ap (λ (n : ℕ). sums (L .width) (packed 256 (cells n))) f ∙ sums-end) refl)
 
     pub layer-start : packed 256 (cells 0) ≡ zeroArea
     layer-start = packed-ext 256 (cells 0) (λ q. 0) (λ q b. unfold cells in cell-blank 0 (q / (2 * L .width)) (q % (2 * L .width)) (omega arith)) ∙ zero-area

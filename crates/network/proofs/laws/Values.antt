@@ -13,7 +13,7 @@ use lib.Bits.{bitXor, xor-zero-l, xor-shr, xor-mod}
 use lib.Dec.{ltb}
 use Rattle.bits.proofs.laws.XorAll.{xorAll-same, xorAll-linear, xorAll-lt}
 use Rattle.bits.proofs.laws.Lists.{at-tabulate, tabulate-below, tabulate-ext}
-use Rattle.bits.proofs.laws.Nibbles.{nibble-lt}
+use Rattle.bits.proofs.laws.Nibbles.{nibble-lt, nibble-half}
 use Rattle.bits.specs.Bytes.{Bytes}
 use Rattle.bits.specs.Groups.{xorAll}
 use Rattle.bits.specs.Lists.{at, tabulate}
@@ -49,13 +49,6 @@ summed-bytes D b = tabulate-below 256 16 _ (omega arith) (λ q h. xorAll-lt 8 (D
 half-xor : (r a b : ℕ) → half r (bitXor a b) ≡ bitXor (half r a) (half r b)
 half-xor zero a b = xor-shr a b 4
 half-xor (suc r) a b = xor-mod a b 4
-
-nibble-half : (l : List ℕ) (b r : ℕ) → r < 2 → nibble l (2 * b + r) ≡ half r (at l b)
-unfolding nibble
-nibble-half l b r h =
-    let e : (2 * b + r) % 2 ≡ r = omega arith in
-    let f : (2 * b + r) / 2 ≡ b = omega arith in
-    rw (e, f)
 
 pub nibble-summed : (D : Values) → GoodWidth (D .width) → (q : ℕ) → q < 32
     → nibble (summed D) q ≡ sum (D .word) (q / (2 * D .width) * D .width) (D .width - 1) (q % (2 * D .width))

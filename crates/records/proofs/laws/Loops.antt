@@ -16,16 +16,17 @@ use Rattle.bits.proofs.laws.Parts.{Parts, parts-none, parts-more, parts-all}
 use Rattle.network.specs.Lookups.{zeroArea}
 use Rattle.layout.specs.Ciphers.{readsOf}
 use Rattle.layout.proofs.laws.Lookup.{Sizes}
+use Rattle.passes.proofs.laws.Walking.{Walking, walking-none, walking-more}
 use Rattle.records.specs.InPlace.{EntryMade}
 use Rattle.records.specs.Record.{entrySize, written, entryAt, recordOf}
 use Rattle.records.specs.Replay.{same, differsAt, told}
 use Rattle.records.specs.declared.entry.Entry.{Entry}
 use Rattle.records.specs.declared.replay.Verdict.the-variants.{Own, Differs}
-use Rattle.records.proofs.laws.Walking.{Walking, walking-none, walking-more, walking-entry}
+use Rattle.records.proofs.laws.Walking.{walking-entry}
 
 -- ---- the record is written: of the memory d₀, which d has become, the first n entries are those of the walk
 pub record Recording (c nr count : ℕ) (set block d₀ d s a : List ℕ) (n : ℕ) : Type 0 where
-  pub walk : Walking c nr set block s a n
+  pub walk : Walking (readsOf c) nr set block s a n
   pub parts : Parts count entrySize (entryAt c nr set block) d₀ d n
 
 module _ {c nr count : ℕ} {set block : List ℕ} where
@@ -38,7 +39,7 @@ module _ {c nr count : ℕ} {set block : List ℕ} where
         → length ys ≡ length (cut d (n * entrySize) (n * entrySize + entrySize)) → ys ≡ written e
         → Recording c nr count set block d₀ (putMid (n * entrySize) (n * entrySize + entrySize - n * entrySize) d ys) s′ a′ (n + 1)
     recording-more h made l is =
-        record { walk = walking-more (R .walk) made; parts = parts-more (R .parts) h l (is ∙ walking-entry (R .walk) made) }
+        record { walk = walking-more (R .walk) (made .walk) (made .kept) (made .long); parts = parts-more (R .parts) h l (is ∙ walking-entry c (R .walk) made) }
 
     pub recording-all : {bytes : ℕ} → Sizes nr count bytes → count ≤ n → length d₀ ≡ count * entrySize → d ≡ recordOf c nr set block
     unfolding recordOf
@@ -46,7 +47,7 @@ module _ {c nr count : ℕ} {set block : List ℕ} where
 
 -- ---- a record is compared: its first n entries are those of the walk
 pub record Comparing (c nr count : ℕ) (set block rec s a : List ℕ) (n : ℕ) : Type 0 where
-  pub walk : Walking c nr set block s a n
+  pub walk : Walking (readsOf c) nr set block s a n
   pub searched : Searched count (differsAt c nr set block rec) n
 
 module _ {c nr count : ℕ} {set block rec : List ℕ} where
@@ -59,13 +60,13 @@ module _ {c nr count : ℕ} {set block rec : List ℕ} where
         (t : r ≡ same (cut rec (n * entrySize) (n * entrySize + entrySize)) (written e)) where
       tested : not r ≡ differsAt c nr set block rec n
       unfolding partOf
-      tested = ap not (t ∙ ap₂ same (cut-is rec (n * entrySize) entrySize) (walking-entry (C .walk) made))
+      tested = ap not (t ∙ ap₂ same (cut-is rec (n * entrySize) entrySize) (walking-entry c (C .walk) made))
 
       pub comparing-here : not r ≡ true → Differs n ≡ told (first count (differsAt c nr set block rec))
       comparing-here f = ap told (searched-here (C .searched) h tested f)
 
       pub comparing-next : not r ≡ false → Comparing c nr count set block rec s′ a′ (n + 1)
-      comparing-next f = record { walk = walking-more (C .walk) made; searched = searched-next (C .searched) h tested f }
+      comparing-next f = record { walk = walking-more (C .walk) (made .walk) (made .kept) (made .long); searched = searched-next (C .searched) h tested f }
 
     pub comparing-all : count ≤ n → Own ≡ told (first count (differsAt c nr set block rec))
     comparing-all h = ap told (searched-all (C .searched) h)

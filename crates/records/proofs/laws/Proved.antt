@@ -18,12 +18,13 @@ use Rattle.layout.proofs.laws.Cases.{starred}
 use Rattle.layout.proofs.laws.Lookup.{own-sizes}
 use Rattle.whitebox.specs.Calls.{advance}
 use Rattle.whitebox.proofs.laws.Named.{reads-kept}
+use Rattle.passes.proofs.laws.Judged.{bad-set, bad-block, good as whole-good}
 use Rattle.records.specs.Cases.{Numbers}
 use Rattle.records.specs.Record.{entrySize, written, entryNext, recordOf}
 use Rattle.records.specs.Replay.{judgeRecord, differsAt, told, verdictBy, answerOf, replayed}
 use Rattle.records.specs.Theorems.{TestsInOrder, ReplayAnswers, RecordsShaped, RecordsAndReplays}
 use Rattle.records.proofs.laws.Exact.{record-long, record-entry, replays-exact}
-use Rattle.records.proofs.laws.Judged.{bad-set, bad-block, bad-record, good}
+use Rattle.records.proofs.laws.Judged.{bad-whole, bad-record, good}
 use Rattle.records.proofs.laws.Values.{values-put-down}
 use Rattle.records.proofs.laws.Written.{refused-leaves, written-is-own, written-of-moves}
 
@@ -32,10 +33,10 @@ tests-in-order : TestsInOrder
 tests-in-order nr set block rec =
     let N = own-sizes nr in
     record {
-      set-first = λ n. ap replyOf (sym (bad-set N set block rec n));
-      block-second = λ e n. ap replyOf (sym (bad-block N set block rec e n));
-      record-third = λ e f n. ap replyOf (sym (bad-record N set block rec e f n));
-      none = λ e f g. sym (good N set block rec e f g);
+      set-first = λ n. ap replyOf (sym (bad-whole nr set block rec (bad-set N set block n) refl));
+      block-second = λ e n. ap replyOf (sym (bad-whole nr set block rec (bad-block N set block e n) refl));
+      record-third = λ e f n. ap replyOf (sym (bad-record N set block rec (whole-good N set block e f) refl n));
+      none = λ e f g. sym (good N set block rec (whole-good N set block e f) refl g);
     }
 
 answered : (a : Answer) (f : Found) → answerOf (verdictBy a (told f)) ≡ a

@@ -2,7 +2,7 @@
 -- count k leaves the state in which lookup k reads, and the offset that the next one passes on is that of the place read.
 -- Assumes nothing.
 use mathlib.Core.List.{List, [], _∷_}
-use mathlib.Core.Path.{_≡_, sym, ap, ap₂, _∙_, subst}
+use mathlib.Core.Path.{_≡_, refl, sym, ap, ap₂, _∙_, subst}
 use Prim.Native.Nat.{ℕ, suc, _-_, _*_, _^_, _≤_, _<_}
 use native.Mathlib.Omega.{arith}
 use lib.ListN.{length, take, List·getD-append}
@@ -29,6 +29,7 @@ use Rattle.evaluate.specs.Contracts.{Opens, Moves}
 use Rattle.evaluate.specs.declared.walk.Move.{Move}
 use Rattle.evaluate.specs.declared.walk.Opening.{Opening}
 use Rattle.evaluate.proofs.laws.PlaceRead.{places-made}
+use Rattle.passes.proofs.laws.Judged.{good as whole-good}
 use Rattle.records.specs.Contracts.{Records}
 use Rattle.records.specs.Record.{offsetBytes, entrySize, written, entryRead, walkAt, entryAt, recordOf, entryIn}
 use Rattle.records.specs.Replay.{judgeRecord, recordLeft}
@@ -79,8 +80,9 @@ refused-leaves c nr set block lent left a R turned =
 pub written-is-own : WrittenIsOwn
 written-is-own c nr set block lent left a r R ok replays =
     let whole : length left ≡ lookups nr * entrySize = ap length (left-is R ok) ∙ record-long c nr set block in
+    let N = own-sizes nr in
     let sizes = right R ok in
-    let good-again = sym (good (own-sizes nr) _ _ _ (sizes .0) (sizes .1) whole) in
+    let good-again = sym (good N _ _ _ (whole-good N _ _ (sizes .0) (sizes .1)) refl whole) in
     replays ∙ replays-exact c nr set block left good-again .own-if (left-is R ok)
 
 pub written-of-moves : WrittenOfMoves

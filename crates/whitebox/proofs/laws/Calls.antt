@@ -6,6 +6,7 @@ use mathlib.Core.Logic.{⊎-elim, _⊎_, inl, inr}
 use mathlib.Core.Path.{_≡_, refl, sym, ap, _∙_, subst}
 use Prim.Native.Nat.{ℕ, zero, suc, _+_, _-_, _≤_, _<_}
 use native.Mathlib.Decide.{ℕ-discrete, decLt}
+use native.Mathlib.Numerals.{add-one}
 use native.Mathlib.Omega.{arith}
 use borrow.Author.Tests.{lt-ltb, le-ltb, eq-eqb, ne-eqb}
 use lib.ListN.{length, replicate}
@@ -169,6 +170,19 @@ module _ (reads : ℕ → ℕ) (nr : ℕ) where
       let one : step reads nr t s .count ≡ suc (s .count) = step-count t s (omega arith) in
       let rest : advance reads nr mem n (step reads nr t s) .count ≡ step reads nr t s .count + n = advance-count mem n (step reads nr t s) (omega arith) in
       omega arith
+
+  -- Lookups in two parts, and the last of them.
+  pub advance-split : (mem : List ℕ) (j k : ℕ) (s : State) → advance reads nr mem (j + k) s ≡ advance reads nr mem k (advance reads nr mem j s)
+  unfolding advance
+  advance-split mem zero k s = ap (λ (n : ℕ). advance reads nr mem n s) (let e : 0 + k ≡ k = omega arith in e)
+  advance-split mem (suc j) k s =
+      let e : suc j + k ≡ suc (j + k) = omega arith in
+      ap (λ (n : ℕ). advance reads nr mem n s) e ∙ advance-split mem j k (step reads nr (tablePart nr mem (s .count)) s)
+
+  pub advance-last : (mem : List ℕ) (k : ℕ) (s : State)
+      → advance reads nr mem (suc k) s ≡ step reads nr (tablePart nr mem (advance reads nr mem k s .count)) (advance reads nr mem k s)
+  unfolding advance
+  advance-last mem k s = ap (λ (n : ℕ). advance reads nr mem n s) (sym (add-one k)) ∙ advance-split mem k 1 s
 
 module _ (nr : ℕ) where
   -- The walk that an accepted move of one lookup hands back.

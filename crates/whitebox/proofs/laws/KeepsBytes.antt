@@ -1,7 +1,6 @@
 -- Laws, not definitions: lookups over bytes keep a state of bytes. A spread lookup copies bytes into the area, an XOR lookup replaces a nibble by a nibble, and
 -- what a layer's last lookup leaves are bytes of the area and zeros.
 -- Assumes nothing.
-use mathlib.Core.Bool.{Bool, true, false, cond}
 use mathlib.Core.List.{List, [], _∷_, _++_}
 use Prim.Native.Nat.{ℕ, zero, suc, _+_, _-_, _*_}
 use native.Mathlib.Omega.{arith}
@@ -9,6 +8,7 @@ use lib.Dec.{eqb, ltb}
 use lib.ListN.{take, drop}
 use Rattle.bits.specs.Bytes.{Bytes}
 use Rattle.bits.specs.Lists.{at}
+use Rattle.bits.proofs.laws.Checked.{either-has}
 use Rattle.bits.proofs.laws.Lists.{append-below, tabulate-below, zero-at}
 use Rattle.bits.proofs.laws.Nibbles.{nibble-lt, setNibble-bytes}
 use Rattle.bits.proofs.laws.Cuts.{take-bytes, drop-bytes}
@@ -17,11 +17,6 @@ use Rattle.network.specs.Order.{layerLookups, sumPlace}
 use Rattle.layout.specs.Stages.{shapes, tableSize, tableOffset}
 use Rattle.whitebox.specs.Calls.{tablePart, step, advance}
 use Rattle.whitebox.specs.PlaceRead.{OfBytes}
-
--- What both have, the one that a test picks has.
-pub either-has : {A : Type 0} (Q : A → Type 0) (t : Bool) (x y : A) → Q x → Q y → Q (cond t x y)
-either-has Q true x y p q = p
-either-has Q false x y p q = q
 
 -- ---- one lookup of a layer
 spread-bytes : (m s p : ℕ) (t standing area : List ℕ) → Bytes t → Bytes area → Bytes (spreadArea m s p t standing area)
@@ -40,7 +35,7 @@ sums-bytes : (m : ℕ) (area : List ℕ) → Bytes area → Bytes (sums m area)
 unfolding sums
 sums-bytes m area b = tabulate-below 256 16 _ (omega arith) (λ q h. b _)
 
-zero-bytes : Bytes zeroArea
+pub zero-bytes : Bytes zeroArea
 zero-bytes i = rw (zero-at 256 i) (omega arith)
 
 module _ (S : Shape) (j : ℕ) (t : List ℕ) (w : State) (bt : Bytes t) (b : OfBytes w) where

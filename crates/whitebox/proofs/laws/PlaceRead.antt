@@ -13,6 +13,7 @@ use lib.Seq.{take-all}
 use Rattle.answers.specs.Answers.{accepted, replyOf, ifAccepted}
 use Rattle.answers.specs.declared.Answer.the-variants.{Accepted}
 use Rattle.answers.proofs.laws.Tests.{differ, reply-was, left-new, left-back, left-either}
+use Rattle.bits.proofs.laws.Checked.{either-has}
 use Rattle.network.specs.Lookups.{State, Shape, lookupIn, lookup}
 use Rattle.network.specs.Read.{readIn, lookupFrom, entryBytes}
 use Rattle.network.specs.Theorems.{WithinTable}
@@ -28,7 +29,7 @@ use Rattle.whitebox.specs.PlaceRead.{OfBytes, LookupsRead, InTable, Last
 use Rattle.whitebox.proofs.laws.Calls.{StopOk, stop-view, step-count, advance-count, one-handed}
 use Rattle.whitebox.proofs.laws.Joined.{stop-accepted}
 use Rattle.whitebox.proofs.laws.Judged.{accepted-was, stop-right}
-use Rattle.whitebox.proofs.laws.KeepsBytes.{either-has, advance-bytes}
+use Rattle.whitebox.proofs.laws.KeepsBytes.{advance-bytes}
 use Rattle.whitebox.proofs.laws.Named.{reads-kept}
 
 -- ---- one lookup

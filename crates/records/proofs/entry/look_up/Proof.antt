@@ -1,66 +1,28 @@
--- `records::entry::look_up` meets its contract. `place_of` ensures the stage or half and the table of lookup n, which is a part of the set (`part-within`, `part-fits`
--- of evaluate's `laws.Calls`); `lookup_in` makes the lookup over it and hands back a place of the set (`read-in-set` of `laws.Walking`), of which `entry_read` tells what
--- is recorded. Together they are the walk's lookup and its entry (`entry-made`). The laws are over the sizes of a set, and `ten` are those of the code.
+-- `records::entry::look_up` meets its contract. passes' `look_up` makes the lookup and tells a place of the set (`read-in-set` of passes' `laws.Walking`), and `entry_read`
+-- what is recorded of it: together they are the walk's lookup and its entry (`entry-made` of `laws.Walking`). The laws are over the sizes of a set, and `ten` are those of
+-- the code.
 -- Assumes nothing.
-use Prim.Native.Nat.{_+_, _≤_}
-use Rattle.layout.specs.Stages.{tenSetBytes}
 use Rattle.layout.proofs.laws.Ten.{ten}
-use Rattle.evaluate.proofs.laws.Calls.{part-within, part-fits}
-use Rattle.records.proofs.laws.Walking.{read-in-set, entry-made}
-use native.Mathlib.Omega.{arith}
+use Rattle.passes.proofs.laws.Walking.{read-in-set}
+use Rattle.records.proofs.laws.Walking.{entry-made}
 use borrow.Author.Needs.{needs}
 use Rattle.records.proofs.entry.look_up.Statement.{statement}
 use Rattle.records.proofs.entry.look_up.Tie as tie
 
--- the table of lookup n lies within the set
-within : (c : tie.After-place-of) → c .place-of .result .offset + c .place-of .result .size ≤ tenSetBytes
-within c = part-within ten _ _ (omega arith) (c .place-of .ensures)
-
-add-to : tie.Need-add-to
-add-to c = omega (arith, within (search))
-
-part-lookup-in-end : tie.Need-part-lookup-in-end
-part-lookup-in-end c = omega (arith, within (search))
-
-lookup-in-requires : tie.Need-lookup-in-requires
-lookup-in-requires c κs =
-    let place : tie.After-place-of = search in
-    let entry : tie.Start = search in
-    (part-fits ten _ _ (omega arith) (place .place-of .ensures) _ (entry .pre .0), omega (arith, within (search)), entry .pre .3, entry .pre .2)
-
 entry-read-requires : tie.Need-entry-read-requires
 entry-read-requires c κs =
-    let place : tie.After-place-of = search in
-    let looked : tie.After-lookup-in = search in
+    let looked : tie.After-look-up = search in
     let entry : tie.Start = search in
-    (entry .pre .0, read-in-set _ ten _ (place .place-of .ensures) (entry .pre .1) (looked .lookup-in .ensures), looked .lookup-in .ensures .table .half)
+    (entry .pre .0, read-in-set ten (looked .look-up .ensures), looked .look-up .ensures .half)
 
 returns : tie.Need-returns
-returns c =
-    let place : tie.After-place-of = search in
-    let looked : tie.After-lookup-in = search in
-    let entry : tie.Start = search in
-    entry-made _ ten _ (place .place-of .ensures) (entry .pre .1) (looked .lookup-in .ensures) (c .entry-read .ensures)
+returns c = search entry-made
 
 -- ---- the needs that the search closes
-place-of-requires : tie.Need-place-of-requires
-place-of-requires c κs = search needs
-
-sub-lookup-in : tie.Need-sub-lookup-in
-sub-lookup-in c = search needs
-
-part-lookup-in-start : tie.Need-part-lookup-in-start
-part-lookup-in-start c = search needs
+look-up-requires : tie.Need-look-up-requires
+look-up-requires c κs = search needs
 
 pub look-up-spec : {M : Type 1} → statement M
 look-up-spec =
     tie.close
-    (tie.spec
-    place-of-requires
-    add-to
-    sub-lookup-in
-    part-lookup-in-start
-    part-lookup-in-end
-    lookup-in-requires
-    entry-read-requires
-    returns)
+    (tie.spec look-up-requires entry-read-requires returns)

@@ -1,22 +1,31 @@
--- `records::record::judged`: each way out has a law of `laws.Judged`, whose premises are the tests on the way: a set of another length (`bad-set`), a block that is not of
--- 16 bytes (`bad-block`), a record of another length (`bad-record`), none of these (`good`). They are over the sizes of a set, and `ten` are those of the code.
+-- `records::record::judged`: each way out has a law of `laws.Judged`, whose premises are what passes' `judged` answers and the test on the way: it refuses (`bad-whole`), or it
+-- accepts, and the record has another length (`bad-record`) or its own (`good`). They are over the sizes of a set, and `ten` are those of the code.
 -- Assumes nothing.
 use Rattle.layout.proofs.laws.Ten.{ten}
-use Rattle.records.proofs.laws.Judged.{bad-set, bad-block, bad-record, good}
+use Rattle.records.proofs.laws.Judged.{bad-whole, bad-record, good}
+use borrow.Author.Needs.{needs}
 use Rattle.records.proofs.record.judged.Statement.{statement}
 use Rattle.records.proofs.record.judged.Tie as tie
 
 returns : tie.Need-returns
-returns c = search (bad-set, ten)
+returns c = search bad-whole
 
 returns-2 : tie.Need-returns-2
-returns-2 c = search (bad-block, ten)
+returns-2 c = search (bad-record, ten)
 
 returns-3 : tie.Need-returns-3
-returns-3 c = search (bad-record, ten)
+returns-3 c = search (good, ten)
 
-returns-4 : tie.Need-returns-4
-returns-4 c = search (good, ten)
+-- ---- the needs that the search closes
+judged-requires : tie.Need-judged-requires
+judged-requires c κs = search needs
+
+enum-told : tie.Need-enum-told
+enum-told c = search needs
+
+enum-told-2 : tie.Need-enum-told-2
+enum-told-2 c = search needs
 
 pub judged-spec : {M : Type 1} → statement M
-judged-spec = tie.close (tie.spec returns returns-2 returns-3 returns-4)
+judged-spec =
+    tie.close (tie.spec judged-requires enum-told enum-told-2 returns returns-2 returns-3)

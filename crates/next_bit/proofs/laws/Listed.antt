@@ -1,0 +1,129 @@
+-- Laws, not definitions: the statements of specs/Search.antt. In a list that rises the first number at or after `from` is the smallest such number.
+-- Assumes nothing.
+use mathlib.Core.List.{List, [], _∷_}
+use mathlib.Core.Path.{_≡_, refl, ap, subst}
+use Prim.Native.Nat.{ℕ, zero, suc, _≤_, _<_, suc-le-suc}
+use native.Mathlib.Decide.{decLt}
+use native.Mathlib.Nat.{not-suc-le-zero, le-of-suc-le-suc, zero-lt-suc}
+use native.Mathlib.Omega.{arith}
+use lib.ListN.{length}
+use Rattle.bits.specs.Lists.{at, Listed, Rising}
+use Rattle.next_bit.specs.NextBit.{nextIn}
+use Rattle.next_bit.specs.Search.{Smallest, AllBefore, SearchesExact, startOf, SearchesEnumerate}
+use Rattle.next_bit.specs.declared.search.NextBit.{NextBit}
+use Rattle.next_bit.specs.declared.search.NextBit.the-variants.{Bit, NoneLeft, Refused}
+use Rattle.next_bit.proofs.laws.Runs.{next-behind, next-first}
+
+-- ---- the numbers of a list that rises
+module _ (v : ℕ) (vs : List ℕ) where
+  -- Without its first number it rises too.
+  rest : Rising (v ∷ vs) → Rising vs
+  rest r p q a b = r (suc p) (suc q) (suc-le-suc a) (suc-le-suc b)
+
+  -- The first is the smallest.
+  head-least : Rising (v ∷ vs) → (u : ℕ) → Listed (v ∷ vs) u → v ≤ u
+  head-least r u L = by (L .position) (L .inside) (L .number)
+    where
+      by : (p : ℕ) → p < length (v ∷ vs) → at (v ∷ vs) p ≡ u → v ≤ u
+      by zero h e = omega (arith, e)
+      by (suc p) h e = omega (arith, e, r 0 (suc p) (zero-lt-suc p) h)
+
+  head-listed : Listed (v ∷ vs) v
+  head-listed = record { position = 0; inside = zero-lt-suc (length vs); number = refl }
+
+  tail-listed : {u : ℕ} → Listed vs u → Listed (v ∷ vs) u
+  tail-listed L = record { position = suc (L .position); inside = suc-le-suc (L .inside); number = L .number }
+
+  -- One above it is one of the others.
+  listed-behind : {u : ℕ} → v < u → Listed (v ∷ vs) u → Listed vs u
+  listed-behind {u} h L = by (L .position) (L .inside) (L .number)
+    where
+      by : (p : ℕ) → p < length (v ∷ vs) → at (v ∷ vs) p ≡ u → Listed vs u
+      by zero k e = absurd (omega (arith, e))
+      by (suc p) k e = record { position = p; inside = le-of-suc-le-suc k; number = e }
+
+-- ---- what the search says is so
+abbrev Says : List ℕ → ℕ → NextBit → Type 0
+Says l from (Bit v) = Smallest l from v
+Says l from NoneLeft = AllBefore l from
+Says l from (Refused why) = ⊥
+
+-- It says the same behind a number that lies before `from`.
+says-behind : (v : ℕ) (vs : List ℕ) (from : ℕ) → v < from → (r : NextBit) → Says vs from r → Says (v ∷ vs) from r
+says-behind v vs from h (Bit w) s = record {
+  listed = tail-listed v vs (s .listed);
+  reached = s .reached;
+  least = λ u L a. s .least u (listed-behind v vs (omega arith) L) a;
+}
+says-behind v vs from h NoneLeft s = λ u L. by u L (decLt v u)
+  where
+    by : (u : ℕ) → Listed (v ∷ vs) u → Dec (v < u) → u < from
+    by u L (yes k) = s u (listed-behind v vs k L)
+    by u L (no k) = omega arith
+says-behind v vs from h (Refused why) s = s
+
+says : (l : List ℕ) → Rising l → (from : ℕ) → Says l from (nextIn l from)
+says [] r from = unfold nextIn in λ u L. absurd (not-suc-le-zero (L .inside))
+says (v ∷ vs) r from = by (decLt v from) (says vs (rest v vs r) from)
+  where
+    by : Dec (v < from) → Says vs from (nextIn vs from) → Says (v ∷ vs) from (nextIn (v ∷ vs) from)
+    by (yes h) s = rw (next-behind v vs from h) (says-behind v vs from h (nextIn vs from) s)
+    by (no h) s =
+        rw (next-first v vs from (omega arith))
+        (record { listed = head-listed v vs; reached = omega arith; least = λ u L a. head-least v vs r u L })
+
+-- ---- and nothing else
+module _ (l : List ℕ) (from : ℕ) where
+  only-bit : (v : ℕ) → Smallest l from v → (r : NextBit) → Says l from r → r ≡ Bit v
+  only-bit v S (Bit w) s = ap Bit (let e : w ≡ v = omega (arith, s .least v (S .listed) (S .reached), S .least w (s .listed) (s .reached)) in e)
+  only-bit v S NoneLeft s = absurd (omega (arith, s v (S .listed), S .reached))
+  only-bit v S (Refused why) s = absurd s
+
+  only-none : AllBefore l from → (r : NextBit) → Says l from r → r ≡ NoneLeft
+  only-none A (Bit w) s = absurd (omega (arith, A w (s .listed), s .reached))
+  only-none A NoneLeft s = refl
+  only-none A (Refused why) s = absurd s
+
+pub searches-exact : SearchesExact
+searches-exact l r from = record {
+  bit-only = λ v e. subst (Says l from) e (says l r from);
+  bit-if = λ v S. only-bit l from v S (nextIn l from) (says l r from);
+  none-only = λ e. subst (Says l from) e (says l r from);
+  none-if = λ A. only-none l from A (nextIn l from) (says l r from);
+}
+
+-- ---- one search after the other
+module _ (l : List ℕ) (r : Rising l) where
+  -- Where the search for position p starts lies above every number before, and not above the number there.
+  start-above : (p q : ℕ) → q < p → p ≤ length l → at l q < startOf l p
+  unfolding startOf
+  start-above zero q h k = absurd (not-suc-le-zero h)
+  start-above (suc p) q h k = by (decLt q p)
+    where
+      by : Dec (q < p) → at l q < suc (at l p)
+      by (yes a) = omega (arith, r q p a k)
+      by (no a) = let e : q ≡ p = omega arith in rw e (omega arith)
+
+  start-reached : (p : ℕ) → p < length l → startOf l p ≤ at l p
+  unfolding startOf
+  start-reached zero h = omega arith
+  start-reached (suc p) h = r p (suc p) (omega arith) h
+
+  smallest-at : (p : ℕ) → p < length l → Smallest l (startOf l p) (at l p)
+  smallest-at p h = record {
+    listed = record { position = p; inside = h; number = refl };
+    reached = start-reached p h;
+    least = λ u L a. by u L a (decLt (L .position) p) (decLt p (L .position));
+  }
+    where
+      by : (u : ℕ) (L : Listed l u) → startOf l p ≤ u → Dec (L .position < p) → Dec (p < L .position) → at l p ≤ u
+      by u L a (yes b) d = absurd (omega (arith, L .number, start-above p (L .position) b (omega arith)))
+      by u L a (no b) (yes d) = omega (arith, L .number, r p (L .position) d (L .inside))
+      by u L a (no b) (no d) = let e : p ≡ L .position = omega arith in rw e (omega (arith, L .number))
+
+pub searches-enumerate : SearchesEnumerate
+searches-enumerate l r = record {
+  each = λ p h. searches-exact l r (startOf l p) .bit-if (at l p) (smallest-at l r p h);
+  end = searches-exact l r (startOf l (length l)) .none-if
+      (λ u L. subst (λ (v : ℕ). v < startOf l (length l)) (L .number) (start-above l r (length l) (L .position) (L .inside) (omega arith)));
+}

@@ -1,0 +1,4 @@
+pub mod NextBit
+pub mod Contracts
+pub mod Search
+pub mod Theorems

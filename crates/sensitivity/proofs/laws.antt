@@ -1,0 +1,11 @@
+pub mod Runs
+pub mod Unread
+pub mod Listed
+pub mod Changed
+pub mod Struck
+pub mod Turned
+pub mod Apart
+pub mod Made
+pub mod Calls
+pub mod Served
+pub mod Proved
