@@ -46,7 +46,7 @@ RefusedKeepsBit =
 -- ---- both calls for C, over the set of a key of 16 bytes and an accepted bundle: "turning over one bit changes the answer for that block exactly when the bit is in
 -- the list"
 -- The bit i is what the call from i on leaves behind the pointer, exactly if the walk over the set with bit i turned over leaves another answer, in a lent answer of
--- 16 bytes, than the walk over the set.
+-- 16 bytes, than the walk over the set. Here i is any number of 64 bits but the greatest, which stands for none.
 pub record BitCounts (c : ℕ) (set block : List ℕ) (i old : ℕ) (lent lent′ : List ℕ) : Type 0 where
   pub changes : bitLeft (nextBit c 10 set block i) old ≡ i → walkLeaves c (flipped set i) block lent′ ≡ walkLeaves c set block lent → ⊥
   pub only : (walkLeaves c (flipped set i) block lent′ ≡ walkLeaves c set block lent → ⊥) → bitLeft (nextBit c 10 set block i) old ≡ i

@@ -1,9 +1,8 @@
--- The search in a list of numbers, for a reader: the statements, over any list that rises. They are proved in proofs/laws/Listed.antt.
+-- The search in a list of numbers, for a reader: the statement, over any list that rises. It is proved in proofs/laws/Listed.antt.
 use mathlib.Core.List.{List}
 use mathlib.Core.Path.{_≡_}
-use Prim.Native.Nat.{ℕ, zero, suc, _≤_, _<_}
-use lib.ListN.{length}
-use Rattle.bits.specs.Lists.{at, Listed, Rising}
+use Prim.Native.Nat.{ℕ, _≤_, _<_}
+use Rattle.bits.specs.Lists.{Listed, Rising}
 use Rattle.next_bit.specs.NextBit.{nextIn}
 use Rattle.next_bit.specs.declared.search.NextBit.{NextBit}
 use Rattle.next_bit.specs.declared.search.NextBit.the-variants.{Bit, NoneLeft}
@@ -29,17 +28,3 @@ module _ (l : List ℕ) (from : ℕ) where
 -- The search does.
 abbrev pub SearchesExact : Type 0
 SearchesExact = (l : List ℕ) → Rising l → (from : ℕ) → Tells l from (nextIn l from)
-
--- ---- the whole list, one search after the other
--- Where the search for the number at position p starts: at 0, and then behind the number found before.
-unfoldable pub startOf : List ℕ → ℕ → ℕ
-startOf l zero = 0
-startOf l (suc p) = suc (at l p)
-
--- Each gives the next number of the list, and the one behind the last says that none is left.
-pub record Enumerates (l : List ℕ) : Type 0 where
-  pub each : (p : ℕ) → p < length l → nextIn l (startOf l p) ≡ Bit (at l p)
-  pub end : nextIn l (startOf l (length l)) ≡ NoneLeft
-
-abbrev pub SearchesEnumerate : Type 0
-SearchesEnumerate = (l : List ℕ) → Rising l → Enumerates l

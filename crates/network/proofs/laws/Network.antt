@@ -12,7 +12,6 @@ use Rattle.bits.proofs.laws.Encodings.{decode-lt, encode-decode}
 use Rattle.bits.proofs.laws.Nibbles.{nibble-packed, packed-ext, packed-bytes, packed-nibbles, nibble-lt}
 use Rattle.bits.specs.Bytes.{Bytes, Block}
 use Rattle.bits.specs.Encodings.{encode}
-use Rattle.bits.specs.Lists.{at}
 use Rattle.bits.specs.Nibbles.{nibble, packed}
 use Rattle.network.specs.Due.{summed, valuesIn, valuesOf, leftBy, standingDue, areaDue, dueState, closed, encoded, decoded}
 use Rattle.network.specs.Lookups.{State, stateAt, Shape, zeroArea, leaving, lookupIn, lookupAt, lookup, walked}
@@ -21,10 +20,10 @@ use Rattle.network.specs.Order.{layerLookups}
 use Rattle.network.specs.Sizes.{lookupsIn}
 use Rattle.network.specs.Tables.{Layer, AllGood, shapeOf, widthsOf, shapesOf, tableIn, tableAt}
 use Rattle.network.specs.Theorems.{Permutations, FromAnyLayer, AtTheEnd}
+use Rattle.network.proofs.laws.Bytes.{summed-block}
 use Rattle.network.proofs.laws.Layers.{lookup-past, table-past}
 use Rattle.network.proofs.laws.Order.{layer-lookups}
 use Rattle.network.proofs.laws.Steps.{same-state, zero-area, cell, cells, layerState, area-step, left-within, left-last, layer-start}
-use Rattle.network.proofs.laws.Values.{summed-bytes}
 
 -- ---- the closed form inside the first layer, and past it
 pub closed-past : (E : ℕ → List ℕ) (L : Layer) (Ls : List Layer) (N : Numbers) (l : List ℕ) (from k : ℕ) → layerLookups (L .width) ≤ k
@@ -53,9 +52,6 @@ module _ (E : ℕ → List ℕ) (perm : Permutations E) where
   closed-zero (L ∷ Ls) g N l b from =
       closed-in L Ls g N l b from 0 (omega (arith, layer-lookups (L .width))) ∙ same-state (omega arith) refl (layer-start E perm L (g .0) N l b)
 
-  left-bytes : (L : Layer) (Ls : List Layer) → AllGood (L ∷ Ls) → (l : List ℕ) → Bytes (summed (valuesIn L l))
-  left-bytes L Ls g l = summed-bytes (valuesIn L l) (λ p. g .0 .bytes p (at l (L .source p)))
-
   -- What a lookup leaves of the area of the next count is the closed form there, within the layer and behind it.
   pub layer-left : (L : Layer) (Ls : List Layer) (g : AllGood (L ∷ Ls)) (N : Numbers) (l : List ℕ) (b : Bytes l) (from k : ℕ) → k < layerLookups (L .width)
       → leaving (shapeOf L) k (packed 256 (cells E perm L (g .0) N l b (suc k))) (layerState E perm L (g .0) N l b from k) ≡ closed E (L ∷ Ls) N l from (suc k)
@@ -70,7 +66,7 @@ module _ (E : ℕ → List ℕ) (perm : Permutations E) where
       go (no c) =
           let f : suc k - T ≡ 0 = omega arith in
           left-last E perm L (g .0) N l b from k (omega arith)
-          ∙ sym (closed-zero Ls (g .1) (nextNumbers (L .width) N) (summed (valuesIn L l)) (left-bytes L Ls g l) (from + T))
+          ∙ sym (closed-zero Ls (g .1) (nextNumbers (L .width) N) (summed (valuesIn L l)) (summed-block L (g .0) l .bytes) (from + T))
           ∙ ap (closed E Ls (nextNumbers (L .width) N) (summed (valuesIn L l)) (from + T)) (sym f)
           ∙ sym (closed-past E L Ls N l from (suc k) (omega arith))
 
@@ -79,7 +75,7 @@ module _ (E : ℕ → List ℕ) (perm : Permutations E) where
   unfolding lookupsIn lookupIn lookupAt tableAt
   one-lookup [] g N l b from k h = absurd (not-suc-le-zero h)
   one-lookup (L ∷ Ls) g N l b from k h =
-      go (decLt k T) (λ c. one-lookup Ls (g .1) (nextNumbers (L .width) N) (summed (valuesIn L l)) (left-bytes L Ls g l) (from + T) (k - T) c)
+      go (decLt k T) (λ c. one-lookup Ls (g .1) (nextNumbers (L .width) N) (summed (valuesIn L l)) (summed-block L (g .0) l .bytes) (from + T) (k - T) c)
     where
       T : ℕ
       T = layerLookups (L .width)

@@ -1,4 +1,5 @@
--- Laws, not definitions: the statements of specs/Search.antt. In a list that rises the first number at or after `from` is the smallest such number.
+-- Laws, not definitions: the statement of specs/Search.antt, and searches one after the other. In a list that rises the first number at or after `from` is the smallest
+-- such number.
 -- Assumes nothing.
 use mathlib.Core.List.{List, [], _∷_}
 use mathlib.Core.Path.{_≡_, refl, ap, subst}
@@ -9,7 +10,7 @@ use native.Mathlib.Omega.{arith}
 use lib.ListN.{length}
 use Rattle.bits.specs.Lists.{at, Listed, Rising}
 use Rattle.next_bit.specs.NextBit.{nextIn}
-use Rattle.next_bit.specs.Search.{Smallest, AllBefore, SearchesExact, startOf, SearchesEnumerate}
+use Rattle.next_bit.specs.Search.{Smallest, AllBefore, SearchesExact}
 use Rattle.next_bit.specs.declared.search.NextBit.{NextBit}
 use Rattle.next_bit.specs.declared.search.NextBit.the-variants.{Bit, NoneLeft, Refused}
 use Rattle.next_bit.proofs.laws.Runs.{next-behind, next-first}
@@ -93,10 +94,20 @@ searches-exact l r from = record {
 }
 
 -- ---- one search after the other
+-- Where the search for the number at position p starts: at 0, and then behind the number found before.
+unfoldable pub searchStart : List ℕ → ℕ → ℕ
+searchStart l zero = 0
+searchStart l (suc p) = suc (at l p)
+
+-- Each gives the next number of the list, and the one behind the last says that none is left.
+pub record Enumerates (l : List ℕ) : Type 0 where
+  pub each : (p : ℕ) → p < length l → nextIn l (searchStart l p) ≡ Bit (at l p)
+  pub end : nextIn l (searchStart l (length l)) ≡ NoneLeft
+
 module _ (l : List ℕ) (r : Rising l) where
   -- Where the search for position p starts lies above every number before, and not above the number there.
-  start-above : (p q : ℕ) → q < p → p ≤ length l → at l q < startOf l p
-  unfolding startOf
+  start-above : (p q : ℕ) → q < p → p ≤ length l → at l q < searchStart l p
+  unfolding searchStart
   start-above zero q h k = absurd (not-suc-le-zero h)
   start-above (suc p) q h k = by (decLt q p)
     where
@@ -104,26 +115,26 @@ module _ (l : List ℕ) (r : Rising l) where
       by (yes a) = omega (arith, r q p a k)
       by (no a) = let e : q ≡ p = omega arith in rw e (omega arith)
 
-  start-reached : (p : ℕ) → p < length l → startOf l p ≤ at l p
-  unfolding startOf
+  start-reached : (p : ℕ) → p < length l → searchStart l p ≤ at l p
+  unfolding searchStart
   start-reached zero h = omega arith
   start-reached (suc p) h = r p (suc p) (omega arith) h
 
-  smallest-at : (p : ℕ) → p < length l → Smallest l (startOf l p) (at l p)
+  smallest-at : (p : ℕ) → p < length l → Smallest l (searchStart l p) (at l p)
   smallest-at p h = record {
     listed = record { position = p; inside = h; number = refl };
     reached = start-reached p h;
     least = λ u L a. by u L a (decLt (L .position) p) (decLt p (L .position));
   }
     where
-      by : (u : ℕ) (L : Listed l u) → startOf l p ≤ u → Dec (L .position < p) → Dec (p < L .position) → at l p ≤ u
+      by : (u : ℕ) (L : Listed l u) → searchStart l p ≤ u → Dec (L .position < p) → Dec (p < L .position) → at l p ≤ u
       by u L a (yes b) d = absurd (omega (arith, L .number, start-above p (L .position) b (omega arith)))
       by u L a (no b) (yes d) = omega (arith, L .number, r p (L .position) d (L .inside))
       by u L a (no b) (no d) = let e : p ≡ L .position = omega arith in rw e (omega (arith, L .number))
 
-pub searches-enumerate : SearchesEnumerate
+pub searches-enumerate : (l : List ℕ) → Rising l → Enumerates l
 searches-enumerate l r = record {
-  each = λ p h. searches-exact l r (startOf l p) .bit-if (at l p) (smallest-at l r p h);
-  end = searches-exact l r (startOf l (length l)) .none-if
-      (λ u L. subst (λ (v : ℕ). v < startOf l (length l)) (L .number) (start-above l r (length l) (L .position) (L .inside) (omega arith)));
+  each = λ p h. searches-exact l r (searchStart l p) .bit-if (at l p) (smallest-at l r p h);
+  end = searches-exact l r (searchStart l (length l)) .none-if
+      (λ u L. subst (λ (v : ℕ). v < searchStart l (length l)) (L .number) (start-above l r (length l) (L .position) (L .inside) (omega arith)));
 }

@@ -26,12 +26,12 @@ use Rattle.evaluate.proofs.laws.Demands.{whole-walk}
 use Rattle.passes.proofs.laws.Judged.{bad-set, bad-block, good}
 use Rattle.next_bit.specs.Contracts.{Finds}
 use Rattle.next_bit.specs.NextBit.{nextIn, nextBy, answerOf, nextBit}
-use Rattle.next_bit.specs.Search.{Tells, startOf}
+use Rattle.next_bit.specs.Search.{Tells}
 use Rattle.next_bit.specs.Theorems.{TestsInOrder, AnswersByLengths, GoesByCipher, Asked, ListsHad, OthersAloneMade, AnswersRestOn, BitsHad}
 use Rattle.next_bit.specs.declared.search.NextBit.{NextBit}
 use Rattle.next_bit.specs.declared.search.NextBit.the-variants.{Bit}
 use Rattle.next_bit.proofs.laws.Calls.{next-answers, next-accepted}
-use Rattle.next_bit.proofs.laws.Listed.{searches-exact, searches-enumerate}
+use Rattle.next_bit.proofs.laws.Listed.{searches-exact, searchStart, searches-enumerate}
 use Rattle.next_bit.proofs.laws.Runs.{not-both}
 
 -- ---- what is turned down
@@ -70,16 +70,16 @@ module _ (c nr : ℕ) (set x : List ℕ) (lent : Lendable nr set x) where
 
   -- ---- one call after the other
   -- From where the search for position p starts, the calls give what stands there and behind.
-  asked : (n p : ℕ) → n + p ≡ length l → Asked c nr set x (startOf l p) (drop p l)
-  unfolding startOf
+  asked : (n p : ℕ) → n + p ≡ length l → Asked c nr set x (searchStart l p) (drop p l)
+  unfolding searchStart
   asked zero p e =
       let at-end : p ≡ length l = omega arith in
-      subst (Asked c nr set x (startOf l p)) (sym (ap (λ (q : ℕ). drop q l) at-end ∙ drop-length l))
-      (sym (found (startOf l p) ∙ ap (λ (q : ℕ). nextIn l (startOf l q)) at-end ∙ searches-enumerate l (sensitivity .in-order (readsOf c) nr set x lent .rising) .end))
+      subst (Asked c nr set x (searchStart l p)) (sym (ap (λ (q : ℕ). drop q l) at-end ∙ drop-length l))
+      (sym (found (searchStart l p) ∙ ap (λ (q : ℕ). nextIn l (searchStart l q)) at-end ∙ searches-enumerate l (sensitivity .in-order (readsOf c) nr set x lent .rising) .end))
   asked (suc n) p e =
       let inside : p < length l = omega arith in
-      subst (Asked c nr set x (startOf l p)) (sym (drop-cons l p 0 inside)) (
-        sym (found (startOf l p) ∙ searches-enumerate l (sensitivity .in-order (readsOf c) nr set x lent .rising) .each p inside),
+      subst (Asked c nr set x (searchStart l p)) (sym (drop-cons l p 0 inside)) (
+        sym (found (searchStart l p) ∙ searches-enumerate l (sensitivity .in-order (readsOf c) nr set x lent .rising) .each p inside),
         asked n (suc p) (omega arith),
       )
 
@@ -98,7 +98,7 @@ module _ (c nr : ℕ) (set x : List ℕ) (lent : Lendable nr set x) where
 lists : ListsHad
 lists c nr set x lent =
     let l = bitsRead (readsOf c) nr set x in
-    let had : Asked c nr set x 0 l = unfold startOf in asked c nr set x lent (length l) 0 (omega arith) in
+    let had : Asked c nr set x 0 l = unfold searchStart in asked c nr set x lent (length l) 0 (omega arith) in
     let only : (vs : List ℕ) → Asked c nr set x 0 vs → vs ≡ l = λ vs a. one-list c nr set x lent 0 vs l a had in
     record { had = had; only = only; many = λ vs a. ap length (only vs a) ∙ sensitivity .in-order (readsOf c) nr set x lent .many }
 

@@ -118,7 +118,7 @@ module _ (E : ℕ → List ℕ) (perm : Permutations E) (L : Layer) (good : Good
   abbrev area : ℕ → List ℕ
   area j = packed 256 (cells E perm L good N l plain j)
 
-  -- The area that lookup j makes is that of a layer with one nibble changed of a word that stands there by then.
+  -- The area that lookup j makes is that of a layer in which `by` is added to nibble `place` of word `word`, which stands there by then.
   pub record Struck (j : ℕ) (made : List ℕ) : Type 0 where
     pub word : ℕ
     pub place : ℕ
