@@ -15,6 +15,7 @@ pub mod Words
 pub mod Bytes
 pub mod Nibbles
 pub mod Flips
+pub mod Listed
 pub mod Encodings
 pub mod Images
 pub mod Cuts

@@ -3,45 +3,18 @@
 -- Assumes nothing.
 use mathlib.Core.List.{List, [], _∷_}
 use mathlib.Core.Path.{_≡_, refl, ap, subst}
-use Prim.Native.Nat.{ℕ, zero, suc, _≤_, _<_, suc-le-suc}
-use native.Mathlib.Decide.{decLt}
-use native.Mathlib.Nat.{not-suc-le-zero, le-of-suc-le-suc, zero-lt-suc}
+use Prim.Native.Nat.{ℕ, zero, suc, _≤_, _<_}
+use native.Mathlib.Decide.{decLt, ℕ-discrete}
+use native.Mathlib.Nat.{not-suc-le-zero}
 use native.Mathlib.Omega.{arith}
 use lib.ListN.{length}
 use Rattle.bits.specs.Lists.{at, Listed, Rising}
+use Rattle.bits.proofs.laws.Listed.{head-listed, tail-listed, listed-behind, head-least, tail-rising}
 use Rattle.next_bit.specs.NextBit.{nextIn}
 use Rattle.next_bit.specs.Search.{Smallest, AllBefore, SearchesExact}
 use Rattle.next_bit.specs.declared.search.NextBit.{NextBit}
 use Rattle.next_bit.specs.declared.search.NextBit.the-variants.{Bit, NoneLeft, Refused}
 use Rattle.next_bit.proofs.laws.Runs.{next-behind, next-first}
-
--- ---- the numbers of a list that rises
-module _ (v : ℕ) (vs : List ℕ) where
-  -- Without its first number it rises too.
-  rest : Rising (v ∷ vs) → Rising vs
-  rest r p q a b = r (suc p) (suc q) (suc-le-suc a) (suc-le-suc b)
-
-  -- The first is the smallest.
-  head-least : Rising (v ∷ vs) → (u : ℕ) → Listed (v ∷ vs) u → v ≤ u
-  head-least r u L = by (L .position) (L .inside) (L .number)
-    where
-      by : (p : ℕ) → p < length (v ∷ vs) → at (v ∷ vs) p ≡ u → v ≤ u
-      by zero h e = omega (arith, e)
-      by (suc p) h e = omega (arith, e, r 0 (suc p) (zero-lt-suc p) h)
-
-  head-listed : Listed (v ∷ vs) v
-  head-listed = record { position = 0; inside = zero-lt-suc (length vs); number = refl }
-
-  tail-listed : {u : ℕ} → Listed vs u → Listed (v ∷ vs) u
-  tail-listed L = record { position = suc (L .position); inside = suc-le-suc (L .inside); number = L .number }
-
-  -- One above it is one of the others.
-  listed-behind : {u : ℕ} → v < u → Listed (v ∷ vs) u → Listed vs u
-  listed-behind {u} h L = by (L .position) (L .inside) (L .number)
-    where
-      by : (p : ℕ) → p < length (v ∷ vs) → at (v ∷ vs) p ≡ u → Listed vs u
-      by zero k e = absurd (omega (arith, e))
-      by (suc p) k e = record { position = p; inside = le-of-suc-le-suc k; number = e }
 
 -- ---- what the search says is so
 abbrev Says : List ℕ → ℕ → NextBit → Type 0
@@ -54,18 +27,18 @@ says-behind : (v : ℕ) (vs : List ℕ) (from : ℕ) → v < from → (r : NextB
 says-behind v vs from h (Bit w) s = record {
   listed = tail-listed v vs (s .listed);
   reached = s .reached;
-  least = λ u L a. s .least u (listed-behind v vs (omega arith) L) a;
+  least = λ u L a. s .least u (listed-behind v vs (λ e. omega arith) L) a;
 }
-says-behind v vs from h NoneLeft s = λ u L. by u L (decLt v u)
+says-behind v vs from h NoneLeft s = λ u L. by u L (ℕ-discrete v u)
   where
-    by : (u : ℕ) → Listed (v ∷ vs) u → Dec (v < u) → u < from
-    by u L (yes k) = s u (listed-behind v vs k L)
-    by u L (no k) = omega arith
+    by : (u : ℕ) → Listed (v ∷ vs) u → Dec (v ≡ u) → u < from
+    by u L (yes e) = omega arith
+    by u L (no n) = s u (listed-behind v vs n L)
 says-behind v vs from h (Refused why) s = s
 
 says : (l : List ℕ) → Rising l → (from : ℕ) → Says l from (nextIn l from)
 says [] r from = unfold nextIn in λ u L. absurd (not-suc-le-zero (L .inside))
-says (v ∷ vs) r from = by (decLt v from) (says vs (rest v vs r) from)
+says (v ∷ vs) r from = by (decLt v from) (says vs (tail-rising v vs r) from)
   where
     by : Dec (v < from) → Says vs from (nextIn vs from) → Says (v ∷ vs) from (nextIn (v ∷ vs) from)
     by (yes h) s = rw (next-behind v vs from h) (says-behind v vs from h (nextIn vs from) s)

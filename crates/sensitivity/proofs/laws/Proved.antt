@@ -1,19 +1,18 @@
 -- Laws, not definitions: the statements of specs/Theorems.antt. Both ciphers can be undone: the substitutions undo each other, at the position that one row
 -- shift gives for a byte, the other one reads that byte, and the column mixings undo each other.
 -- Assumes nothing.
-use mathlib.Core.List.{List, [], _∷_}
+use mathlib.Core.List.{List}
 use mathlib.Core.Path.{_≡_, sym, ap, _∙_, subst}
-use Prim.Native.Nat.{ℕ, zero, suc, _<_, suc-le-suc}
-use native.Mathlib.Decide.{ℕ-discrete}
-use native.Mathlib.Nat.{le-refl, not-suc-le-zero, le-of-suc-le-suc, zero-lt-suc}
-use native.Mathlib.Omega.{arith}
+use Prim.Native.Nat.{ℕ}
+use native.Mathlib.Nat.{le-refl}
 use lib.Dec.{eqb, eqb→eq}
 use lib.ListN.{length}
 use Rattle.bits.specs.Bytes.{Block}
 use Rattle.bits.specs.Flips.{flipped}
-use Rattle.bits.specs.Lists.{at, Listed}
+use Rattle.bits.specs.Lists.{Listed}
 use Rattle.bits.proofs.laws.Checked.{all-at}
 use Rattle.bits.proofs.laws.Flips.{flips-one-bit, top-bit-first}
+use Rattle.bits.proofs.laws.Listed.{listed?}
 use Rattle.field.specs.Sbox.{sboxOf, invSboxOf}
 use Rattle.field.proofs.laws.Sbox.{inv-sbox-sbox, sbox-inv-sbox}
 use Rattle.round.specs.Key.{KeyExpansion, roundsOf}
@@ -23,7 +22,8 @@ use Rattle.round.proofs.laws.Mix.{inv-mix, mix-inv}
 use Rattle.network.specs.Lookups.{State}
 use Rattle.layout.specs.Ciphers.{readsOf, invShifted}
 use Rattle.layout.specs.Stages.{shifted, lookups}
-use Rattle.layout.proofs.laws.Ciphers.{for-both}
+use Rattle.layout.proofs.laws.Ciphers.{for-both, inv-shifted-lt}
+use Rattle.layout.proofs.laws.Place.{shifted-lt}
 use Rattle.whitebox.specs.Bundles.{codingsOf, partsOf, madeSet}
 use Rattle.whitebox.specs.Calls.{stateFrom}
 use Rattle.whitebox.specs.Codings.{Codings, Sound}
@@ -51,7 +51,7 @@ forward-undoable nr w =
     record {
       substitute-apart = λ x y a b e. sym (inv-sbox-sbox x a) ∙ ap invSboxOf e ∙ inv-sbox-sbox y b;
       position = invShifted;
-      position-lt = λ j h. omega arith;
+      position-lt = inv-shifted-lt;
       position-reads = λ j h. eqb→eq _ _ (all-at 16 (λ n. eqb (shifted (invShifted n)) n) (unfold shifted in tt) j h);
       mixed-apart = λ s s′ p q e.
           sym (inv-mix s p) ∙ ap InvMixColumns (sym (mixed-forward nr w s) ∙ e ∙ mixed-forward nr w s′) ∙ inv-mix s′ q;
@@ -63,7 +63,7 @@ inverse-undoable nr w =
     record {
       substitute-apart = λ x y a b e. sym (sbox-inv-sbox x a) ∙ ap sboxOf e ∙ sbox-inv-sbox y b;
       position = shifted;
-      position-lt = λ j h. omega arith;
+      position-lt = shifted-lt;
       position-reads = λ j h. eqb→eq _ _ (all-at 16 (λ n. eqb (invShifted (shifted n)) n) (unfold invShifted in tt) j h);
       mixed-apart = λ s s′ p q e.
           sym (mix-inv s p) ∙ ap MixColumns (sym (mixed-inverse nr w s) ∙ e ∙ mixed-inverse nr w s′) ∙ mix-inv s′ q;
@@ -71,20 +71,6 @@ inverse-undoable nr w =
 
 parts-undoable : (c nr : ℕ) (w : List ℕ) → Undoable (partsFor c nr w)
 parts-undoable c nr w = for-both Undoable c (forward nr w) (inverse nr w) (forward-undoable nr w) (inverse-undoable nr w)
-
--- ---- of a number it is decided whether it stands in a list
-listed? : (l : List ℕ) (v : ℕ) → Dec (Listed l v)
-listed? [] v = no (λ p. not-suc-le-zero (p .inside))
-listed? (y ∷ l) v = go (ℕ-discrete y v) (listed? l v)
-  where
-    none : (y ≡ v → ⊥) → (Listed l v → ⊥) → (i : ℕ) → i < suc (length l) → at (y ∷ l) i ≡ v → ⊥
-    none n q zero h e = n e
-    none n q (suc i) h e = q (record { position = i; inside = le-of-suc-le-suc h; number = e })
-
-    go : Dec (y ≡ v) → Dec (Listed l v) → Dec (Listed (y ∷ l) v)
-    go (yes e) d = yes (record { position = 0; inside = zero-lt-suc (length l); number = e })
-    go (no n) (yes p) = yes (record { position = suc (p .position); inside = suc-le-suc (p .inside); number = p .number })
-    go (no n) (no q) = no (λ p. none n q (p .position) (p .inside) (p .number))
 
 -- ---- a made set
 module _ (c nk : ℕ) (key l x : List ℕ) (given : Given nk key l) (presented : Presented x) where
