@@ -17,12 +17,12 @@ GROUPS = {
     "mathematics and FIPS 197": ("#dce9f7", {
         "bits": 3.4, "matrices": 2.7, "inversion": 2.6, "narrow": 1.75, "invertible": 2.6, "catalogue": 3.45, "blocks": 3.0, "field": 4.3, "round": 4.3, "aes": 4.3,
     }),
-    "answers": ("#e4e7eb", {"answers": 1.2}),
+    "answers and numbers of rounds": ("#e4e7eb", {"answers": 1.2, "rounds": 5.0}),
     "the bundle": ("#fdebc8", {"bundle": 1.6, "judgement": 2.1, "external": 2.1, "view": 0.9}),
-    "the table set, as definitions and theorems": ("#ecdff7", {"network": 5.2, "layout": 5.2, "whitebox": 3.5, "sensitivity": 3.6}),
+    "the table set, as definitions and theorems": ("#ecdff7", {"network": 5.2, "layout": 5.2, "calls": 5.15, "whitebox": 3.5, "sensitivity": 3.5, "demands": 5.0}),
     "the maker": ("#dcf2e3", {"entries": 0, "layers": 0.7, "stages": 0.7, "tables": 0.7}),
-    "the walk": ("#f8dcdc", {"lookups": 5.5, "evaluate": 5.4, "passes": 5.6, "records": 5.6, "next_bit": 4.7}),
-    "calls for C, chains of calls, programs": ("#ffffff", {"host": 2, "chains": 3.4, "streams": 6.5, "maker": 6.1, "walker": 7, "catalogue_list": 7.5}),
+    "the walk": ("#f8dcdc", {"lookups": 6.0, "passes": 5.7, "evaluate": 5.6, "records": 5.9, "next_bit": 4.5}),
+    "calls for C, chains of calls, programs": ("#ffffff", {"host": 2, "chains": 3.6, "streams": 7.0, "maker": 6.3, "walker": 7.2, "catalogue_list": 7.6}),
 }
 TESTS = {"matrix_cases", "aes_vectors", "bundle_cases", "walk_cases"}
 FILL = {name: color for color, names in GROUPS.values() for name in names}

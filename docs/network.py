@@ -7,7 +7,7 @@ Numbers of lookups, bytes and lists are counted here from document 01's layout a
 """
 from xml.sax.saxutils import escape
 
-WIDTH, HEIGHT = 1280, 1105
+WIDTH, HEIGHT = 1280, 1125
 INK, FAINT, WIRE = "#1f2933", "#5f6b7a", "#7b8794"
 PAPER, LIST, MATRIX, KEY, SBOX, XOR = "#ffffff", "#dce9f7", "#dcf2e3", "#fdebc8", "#ecdff7", "#f8dcdc"
 ROWS = ("#2b6cb0", "#2f855a", "#b7791f", "#805ad5")  # one for each row q of the state
@@ -205,8 +205,8 @@ def chains(x, top):
             labelled(at, y, width, 28, words, fill, 12)
             at += width + 16
     text(at, top + 20 + 40 * len(CHAINS) - 21, "entry e = 16a + b stands in byte e/2, even e in the high half", color=FAINT)
-    text(x, top + 20 + 40 * len(CHAINS) + 14, "Of a forward set. In an inverse set position 4c+q reads byte 4((c−q) mod 4)+q; inverse S-box and InvMixColumns; round key 10 before "
-         "the first S-box, by the byte read; round key 10−r behind that of round r, by the position.", color=FAINT)
+    text(x, top + 20 + 40 * len(CHAINS) + 14, "Of a forward set. In an inverse set position 4c+q reads byte 4((c−q) mod 4)+q; inverse S-box and InvMixColumns;", color=FAINT)
+    text(x, top + 20 + 40 * len(CHAINS) + 32, "round key 10 before the first S-box, by the byte read; round key 10−r behind that of round r, by the position.", color=FAINT)
 
 
 def main():

@@ -4,7 +4,8 @@
 usage: tests/aes_vectors.py           write crates/aes_vectors/stdin and stdout
        tests/aes_vectors.py --check   compare instead of writing
 
-The records: FIPS 197's appendix A.1 key, appendix B, appendix C.1 both ways, then 200 keys and blocks from a fixed seed.
+The records: keys of 24 and 32 bytes in turn, FIPS 197's appendix A.2 and A.3 keys, appendices C.2 and C.3 both ways, then 50 of each
+and blocks from a fixed seed; and with keys of 16 bytes appendix A.1's, appendix B, appendix C.1 both ways, then 200 keys and blocks.
 FIPS 197's published values are written below and asserted. The refusals are those of document 01's table "Turned down".
 """
 import os
@@ -38,13 +39,31 @@ C1_KEY = h("000102030405060708090a0b0c0d0e0f")
 C1_IN = h("00112233445566778899aabbccddeeff")
 C1_OUT = h("69c4e0d86a7b0430d8cdb78070b4c55a")
 
+# FIPS 197, appendices A.2 and A.3: the keys, and the last word of each expansion.
+A2_KEY = h("8e73b0f7da0e6452c810f32b809079e562f8ead2522c6b7b")
+A2_LAST = h("01002202")
+A3_KEY = h("603deb1015ca71be2b73aef0857d77811f352c073b6108d72d9810a30914dff4")
+A3_LAST = h("706c631e")
+# FIPS 197, appendices C.2 and C.3, with the block of C.1.
+C2_KEY, C2_OUT = bytes(range(24)), h("dda97ca4864cdfe06eaf70a0ec0d7191")
+C3_KEY, C3_OUT = bytes(range(32)), h("8ea2b7ca516745bfeafc49904b496089")
+
 assert round_keys(B_KEY) == A1_ROUND_KEYS
+assert round_keys(A2_KEY)[-4:] == A2_LAST and round_keys(A3_KEY)[-4:] == A3_LAST
+assert encipher(C2_KEY, C1_IN) == C2_OUT and decipher(C2_KEY, C2_OUT) == C1_IN
+assert encipher(C3_KEY, C1_IN) == C3_OUT and decipher(C3_KEY, C3_OUT) == C1_IN
 assert encipher(B_KEY, B_IN) == B_OUT and decipher(B_KEY, B_OUT) == B_IN
 assert encipher(C1_KEY, C1_IN) == C1_OUT and decipher(C1_KEY, C1_OUT) == C1_IN
 
 chance = random.Random(197)
 records = [(B_KEY, bytes(16)), (B_KEY, B_IN), (C1_KEY, C1_IN), (C1_KEY, C1_OUT)]
 records += [(chance.randbytes(16), chance.randbytes(16)) for _ in range(200)]
+
+# Before them those with longer keys, as many as the program's LONGER of each length.
+longer = [(A2_KEY, bytes(16)), (A3_KEY, bytes(16)), (A2_KEY, B_IN), (A3_KEY, B_IN)]
+longer += [(C2_KEY, C1_IN), (C3_KEY, C1_IN), (C2_KEY, C2_OUT), (C3_KEY, C3_OUT)]
+longer += [(chance.randbytes(size), chance.randbytes(16)) for _ in range(50) for size in (24, 32)]
+records = longer + records
 
 # The lengths of key, block in and block out that the program tries, in its order.
 attempts = [(n, 16, 16) for n in (0, 15, 17, 24, 32)]

@@ -1,10 +1,12 @@
 #!/usr/bin/env python3
 """Every name that docs/CLAIMS.md gives is there: definitions, theorems and laws, functions, must-fail edits, test programs and paths.
-So is every name with a path that the other pages give. And what it calls a theorem is what a law gives, or a part of that.
+So is every name with a path that the other pages give. What it calls a theorem is what a law gives, or a part of that. And what it quotes stands in the
+request: documents 01 and 02 and the demands, where these are at hand in the folder that the environment names (REQUEST), or in `shared` beside the clone.
 
-usage: tests/claims.py     ends with 1 and a line for each name that is not there, for each statement without a law, and for each must-fail
-                           edit that no claim names
+usage: tests/claims.py     ends with 1 and a line for each name that is not there, for each statement without a law, for each must-fail
+                           edit that no claim names, and for each quotation that is nowhere; it says which papers were not at hand
 """
+import os
 import pathlib
 import re
 import sys
@@ -146,6 +148,39 @@ def pages_missing():
                 yield f"{page.name}: no {reference}"
 
 
+REQUEST = pathlib.Path(os.environ.get("REQUEST", ROOT.parent / "shared"))
+PAPERS = {"document 01": "01-scope.md", "document 02": "02-change-requests.md", "the demands": "demands.md"}
+QUOTED = re.compile(r'"((?:[^"]|"[A-Z]\w*")*?)"(?=[\s,;:.)|]|$)')
+
+
+def plain(words):
+    """Words as they are compared: without marks of layout, lists or tables, on one line."""
+    words = re.sub(r"[`*|]|^- ", " ", words, flags=re.M).replace("−", "-").replace("–", "-")
+    return re.sub(r"\s+", " ", words).strip()
+
+
+def quotations():
+    """Of each quotation in the first column: the paper that its section is about, and its parts between marks of what is left out."""
+    paper = "document 01"
+    for line in text(ROOT / "docs/CLAIMS.md").splitlines():
+        if line.startswith("## "):
+            paper = "the demands" if line.startswith("## Demands") else "document 02" if line.startswith("## Document 02") else "document 01"
+        elif line.startswith("| "):
+            for quoted in QUOTED.findall(line[2:].split(" | ")[0]):
+                yield paper, [plain(part) for part in re.split(r"\[\.\.\]|\.\.", quoted) if plain(part)]
+
+
+def misquoted():
+    """The parts of quotations that do not stand in the request, and a word on papers that are not at hand."""
+    papers = {name: plain(text(REQUEST / file)) for name, file in PAPERS.items()}
+    quoted = list(quotations())
+    faults = [f"nowhere in the request: {part[:80]}" for paper, parts in quoted if papers[paper] for part in parts
+              if not any(part.rstrip(",;:.") in papers[name] for name in papers)]
+    words = [f"not at hand: {name}; {n} quotations of it were not looked up"
+             for name in PAPERS if not papers[name] and (n := sum(paper == name for paper, _ in quoted))]
+    return faults, words
+
+
 def main():
     lines = [line.strip("| ").split(" | ") for line in text(ROOT / "docs/CLAIMS.md").splitlines() if line.startswith("| ")]
     rows = [cells for cells in lines if len(cells) == 6 and cells[4] != "Must-fail edit"]
@@ -158,7 +193,9 @@ def main():
         name = f"{edit.parent.parent.name}/{edit.stem}"
         if name not in named:
             faults.append(f"no claim names the must-fail edit {name}")
-    print("\n".join(faults + [f"{len(rows)} claims, {len(faults)} faults"]))
+    wrong, words = misquoted()
+    faults += wrong
+    print("\n".join(faults + words + [f"{len(rows)} claims, {len(faults)} faults"]))
     return 1 if faults or not rows else 0
 
 

@@ -1,4 +1,4 @@
-"""OpenSSL's AES-128: the key expansion and a block, both ways."""
+"""OpenSSL's AES, for keys of 16, 24 and 32 bytes: the key expansion and a block, both ways."""
 import ctypes
 
 crypto = ctypes.CDLL("libcrypto.so.3")
@@ -11,16 +11,17 @@ class AesKey(ctypes.Structure):
 
 def schedule(key, setter):
     k = AesKey()
-    assert setter(key, 128, ctypes.byref(k)) == 0 and k.rounds == 10
+    assert setter(key, 8 * len(key), ctypes.byref(k)) == 0 and k.rounds == len(key) // 4 + 6
     return k
 
 
 def round_keys(key):
-    """The 176 bytes of the key expansion; OpenSSL's words are bytes in FIPS order or words of the machine."""
-    raw = bytes(schedule(key, crypto.AES_set_encrypt_key).words)[:176]
-    if raw[:16] != key:
-        raw = b"".join(raw[i : i + 4][::-1] for i in range(0, 176, 4))
-    assert raw[:16] == key
+    """The key expansion; OpenSSL's words are bytes in FIPS order or words of the machine."""
+    k = schedule(key, crypto.AES_set_encrypt_key)
+    raw = bytes(k.words)[: 16 * (k.rounds + 1)]
+    if raw[: len(key)] != key:
+        raw = b"".join(raw[i : i + 4][::-1] for i in range(0, len(raw), 4))
+    assert raw[: len(key)] == key
     return raw
 
 

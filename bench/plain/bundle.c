@@ -10,12 +10,20 @@ static uint64_t refused(uint32_t cause, uint32_t second)
     return (uint64_t)cause << 32 | second;
 }
 
-static bool is_permutation(const uint8_t *list)
+/* The first list that repeats an image; LISTS where none does. */
+static uint32_t first_bad_list(const uint8_t *lists)
 {
-    unsigned seen = 0;
-    for (int i = 0; i < 8; i++)
-        seen |= 1u << (list[i] >> 4) | 1u << (list[i] & 15);
-    return seen == 0xffff;
+    for (uint32_t n = 0; n < LISTS; n++) {
+        unsigned met = 0;
+        for (uint32_t i = 0; i < 16; i++) {
+            uint8_t pair = lists[8 * n + i / 2];
+            unsigned mark = 1u << (i % 2 == 0 ? pair >> 4 : pair & 15);
+            if (met & mark)
+                return n;
+            met ^= mark;
+        }
+    }
+    return LISTS;
 }
 
 uint64_t find_sections(const uint8_t *bundle, size_t len, const uint8_t *sections[SECTIONS])
@@ -50,9 +58,9 @@ uint64_t plain_judge_bundle(const uint8_t *bundle, size_t bundle_len)
     uint64_t refusal = find_sections(bundle, bundle_len, sections);
     if (refusal != 0)
         return refusal;
-    for (uint32_t i = 0; i < LISTS; i++)
-        if (!is_permutation(sections[0] + 8 * i))
-            return refused(4, i);
+    uint32_t bad = first_bad_list(sections[0]);
+    if (bad < LISTS)
+        return refused(4, bad);
     for (uint32_t i = 0; i < BYTE_MATRICES; i++) {
         load_matrix8(sections[1] + 8 * i, rows);
         if (!blocks_invertible(8, rows) || !is_invertible32(8, rows))

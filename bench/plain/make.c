@@ -33,14 +33,16 @@ static void unpack_inverse(const uint8_t *list, uint8_t inverse[16])
     }
 }
 
-/* The words of all bytes, from those of the bytes 128, 64 .. 1. */
-static inline void span(size_t word, uint8_t columns[8][16], uint8_t *words)
+/* The words of the bytes with one nibble, from those of the bytes 128, 64 .. 1: of the low nibbles 0 to 15, then of the high ones. */
+static inline void span(size_t word, uint8_t columns[8][16], uint8_t words[2][16][16])
 {
-    memset(words, 0, word);
-    for (size_t k = 0; k < 8; k++)
-        for (size_t x = 0; x < (size_t)1 << k; x++)
-            for (size_t t = 0; t < word; t++)
-                words[word * ((1u << k) + x) + t] = words[word * x + t] ^ columns[7 - k][t];
+    for (size_t h = 0; h < 2; h++) {
+        memset(words[h][0], 0, word);
+        for (size_t k = 0; k < 4; k++)
+            for (size_t x = 0; x < (size_t)1 << k; x++)
+                for (size_t t = 0; t < word; t++)
+                    words[h][(1u << k) + x][t] = words[h][x][t] ^ columns[7 - 4 * h - k][t];
+    }
 }
 
 static uint8_t key_byte(const maker *m, size_t round, size_t j)
@@ -70,7 +72,7 @@ static void sbox_under_matrix(const maker *m, size_t round, size_t j, uint8_t by
     uint32_t inverse[8];
     uint8_t key = key_before(m, round, j);
     const uint8_t *sbox = m->inverse ? INV_SBOX : SBOX;
-    uint8_t columns[8][16];
+    uint8_t columns[8][16], products[2][16][16];
     invert8(byte_matrix(m, round, j), inverse);
     for (int k = 0; k < 8; k++) {
         unsigned column = 0;
@@ -78,9 +80,9 @@ static void sbox_under_matrix(const maker *m, size_t round, size_t j, uint8_t by
             column = column << 1 | (inverse[i] >> (7 - k) & 1);
         columns[k][0] = (uint8_t)column;
     }
-    span(1, columns, bytes);
+    span(1, columns, products);
     for (int x = 0; x < 256; x++)
-        bytes[x] = sbox[bytes[x] ^ key];
+        bytes[x] = sbox[products[0][x & 15][0] ^ products[1][x >> 4][0] ^ key];
 }
 
 /* Column k of the linear map that makes the words of spread table p: for bytes, or in FIRST and EXIT for what the S-box answers. */
@@ -130,25 +132,22 @@ static void prepare_group(maker *m, const layer *l, size_t group)
     }
 }
 
-/* Word after word under its lists, a byte by one lookup among the 256 encoded bytes of its place. */
-static inline void encode_words(size_t word, const uint8_t *lists, const uint8_t *words, const uint8_t order[256], uint8_t *table)
+/* Word after word under its lists, nibble by nibble: a byte of the table is the images of two nibbles, joined. */
+static inline void encode_words(size_t word, const uint8_t *lists, uint8_t words[2][16][16], const uint8_t order[256], uint8_t *table)
 {
-    uint8_t high[16], low[16], encoded[16][256];
-    for (size_t t = 0; t < word; t++) {
-        unpack(lists + 16 * t, high);
-        unpack(lists + 16 * t + 8, low);
-        for (size_t v = 0; v < 16; v++)
-            for (size_t w = 0; w < 16; w++)
-                encoded[t][16 * v + w] = (uint8_t)(high[v] << 4 | low[w]);
-    }
+    uint8_t images[32][16];
+    for (size_t h = 0; h < 2 * word; h++)
+        unpack(lists + 8 * h, images[h]);
     for (size_t e = 0; e < 256; e++)
-        for (size_t t = 0; t < word; t++)
-            table[word * e + t] = encoded[t][words[word * order[e] + t]];
+        for (size_t t = 0; t < word; t++) {
+            uint8_t byte = words[0][order[e] & 15][t] ^ words[1][order[e] >> 4][t];
+            table[word * e + t] = (uint8_t)(images[2 * t][byte >> 4] << 4 | images[2 * t + 1][byte & 15]);
+        }
 }
 
 static void spread_table(const maker *m, size_t n, const layer *l, size_t p, uint8_t *table)
 {
-    uint8_t columns[8][16], words[4096], order[256], high[16], low[16];
+    uint8_t columns[8][16], words[2][16][16], order[256], high[16], low[16];
     size_t j = source(m->inverse, l->kind, p);
     for (int k = 0; k < 8; k++)
         word_column(m, l, p, k, columns[k]);

@@ -14,16 +14,15 @@ unfoldable pub Cipher : ℕ → List ℕ → List ℕ → List ℕ
 Cipher nr w s =
     AddRoundKey (ShiftRows (SubBytes (rounds w (nr - 1) (AddRoundKey s (keyOf w 0))))) (keyOf w nr)
 
--- Rounds r, r - 1, .., 1 of the inverse cipher.
-unfoldable pub invRounds : List ℕ → ℕ → List ℕ → List ℕ
-invRounds w zero s = s
-invRounds w (suc r) s =
-    invRounds w r (InvMixColumns (AddRoundKey (InvSubBytes (InvShiftRows s)) (keyOf w (suc r))))
+-- The first r of the rounds of 5.3, which count down, "for round = Nr−1 step −1 downto 1": the one behind r others takes round key nr − (r + 1).
+unfoldable pub invRounds : ℕ → List ℕ → ℕ → List ℕ → List ℕ
+invRounds nr w zero s = s
+invRounds nr w (suc r) s = InvMixColumns (AddRoundKey (InvSubBytes (InvShiftRows (invRounds nr w r s))) (keyOf w (nr - suc r)))
 
--- 5.3, InvCipher.
+-- 5.3, InvCipher: round key nr, rounds nr - 1 down to 1, and a last round without InvMixColumns.
 unfoldable pub InvCipher : ℕ → List ℕ → List ℕ → List ℕ
 InvCipher nr w s =
-    AddRoundKey (InvSubBytes (InvShiftRows (invRounds w (nr - 1) (AddRoundKey s (keyOf w nr))))) (keyOf w 0)
+    AddRoundKey (InvSubBytes (InvShiftRows (invRounds nr w (nr - 1) (AddRoundKey s (keyOf w nr))))) (keyOf w 0)
 
 -- AES with a key of nk words, and its inverse.
 unfoldable pub encipherOf : ℕ → List ℕ → List ℕ → List ℕ

@@ -1,13 +1,14 @@
 // AES with a key of 128 bits, FIPS 197: the calls on slices of any length.
-mod rounds;
+pub mod turns;
 
+use crate::turns::cipher;
+use crate::turns::inv_cipher;
 use answers::Answer;
 use answers::Refusal;
 use bits::block::load;
 use bits::block::store;
 use round::key::expand_key;
-pub use rounds::cipher;
-pub use rounds::inv_cipher;
+use rounds::TEN;
 ghost use mathlib.Core.Path.{_≡_};
 ghost use Rattle.aes.specs.Answers.{answerOf, enciphered, deciphered};
 
@@ -31,11 +32,13 @@ fn judged(key: &[u8], block_in: &[u8], block_out: &[u8]) -> Answer
 // Enciphers a block under a key; a refused call leaves block_out as it was.
 pub fn encipher(key: &[u8], block_in: &[u8], block_out: &mut [u8]) -> Answer
     ensures answer { λ r. ⌜ r ≡ answerOf (now (key .entry)) (now («block_in» .entry)) (now («block_out» .entry)) ⌝ }
-    ensures block { λ _. ⌜ now («block_out» .exit) ≡ enciphered (now (key .entry)) (now («block_in» .entry)) (now («block_out» .entry)) ⌝ }
+    ensures block { λ _. ⌜ now («block_out» .exit)
+        ≡ enciphered (now (key .entry)) (now («block_in» .entry)) (now («block_out» .entry)) ⌝ }
 {
     let a = judged(key, block_in, block_out);
     if let Answer::Accepted = a {
-        store(block_out, cipher(expand_key(load(key)), load(block_in)));
+        let w = expand_key(load(key));
+        store(block_out, cipher(TEN, &w, load(block_in)));
     }
     a
 }
@@ -43,11 +46,13 @@ pub fn encipher(key: &[u8], block_in: &[u8], block_out: &mut [u8]) -> Answer
 // Deciphers a block under a key; a refused call leaves block_out as it was.
 pub fn decipher(key: &[u8], block_in: &[u8], block_out: &mut [u8]) -> Answer
     ensures answer { λ r. ⌜ r ≡ answerOf (now (key .entry)) (now («block_in» .entry)) (now («block_out» .entry)) ⌝ }
-    ensures block { λ _. ⌜ now («block_out» .exit) ≡ deciphered (now (key .entry)) (now («block_in» .entry)) (now («block_out» .entry)) ⌝ }
+    ensures block { λ _. ⌜ now («block_out» .exit)
+        ≡ deciphered (now (key .entry)) (now («block_in» .entry)) (now («block_out» .entry)) ⌝ }
 {
     let a = judged(key, block_in, block_out);
     if let Answer::Accepted = a {
-        store(block_out, inv_cipher(expand_key(load(key)), load(block_in)));
+        let w = expand_key(load(key));
+        store(block_out, inv_cipher(TEN, &w, load(block_in)));
     }
     a
 }

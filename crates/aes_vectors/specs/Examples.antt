@@ -1,5 +1,5 @@
--- FIPS 197, appendices C.2 and C.3, as statements: the definitions of the crate aes on keys of 6 and 8 words, for which there is no
--- code that could be run on them. The proof is in proofs/laws/Examples.antt.
+-- FIPS 197, appendices C.2 and C.3, as statements: the definitions of the crate aes on keys of 6 and 8 words. The proof is in
+-- proofs/laws/Examples.antt; the program runs the code on them.
 use mathlib.Core.Path.{_≡_}
 use mathlib.Core.List.{List, [], _∷_}
 use Prim.Native.Nat.{ℕ, _*_}

@@ -1,9 +1,16 @@
-// The crate aes on vectors: for each key and block of standard input, 16 bytes each, it writes the key expansion, the enciphered
-// block and the deciphered block; then what both calls answer to keys and blocks of wrong lengths, and what they leave.
+// The crate aes on vectors: for each key and block of standard input it writes the key expansion, the enciphered block and
+// the deciphered block. First come keys of 24 and of 32 bytes in turn, and then keys of 16, until the input ends; then what
+// both calls answer to keys and blocks of wrong lengths, and what they leave.
 use answers::Answer;
 use libc::STDOUT_FILENO;
-ghost use Prim.Native.Nat.{_≤_};
+ghost use mathlib.Core.Path.{_≡_};
+ghost use Prim.Native.Nat.{_+_, _*_, _≤_};
 ghost use lib.ListN.{length};
+ghost use Rattle.rounds.specs.Rounds.{Rounds};
+ghost use Rattle.round.specs.Key.{roundsOf};
+
+// How many keys of 24 bytes, and of 32, the input begins with.
+const LONGER: usize = 54;
 
 // The digit of a number below 16.
 fn digit(n: u8) -> u8 {
@@ -11,11 +18,11 @@ fn digit(n: u8) -> u8 {
     if d < 10 { d + 48 } else { d + 87 }
 }
 
-// Writes up to 176 bytes in hex, and a newline.
+// Writes up to 240 bytes in hex, and a newline: the round keys of 14 rounds have the most.
 fn show(bytes: &[u8])
-    requires { ⌜ length (now bytes) ≤ 176 ⌝ }
+    requires { ⌜ length (now bytes) ≤ 240 ⌝ }
 {
-    let mut line = [10u8; 353];
+    let mut line = [10u8; 481];
     let mut i: usize = 0;
     while i < bytes.len() {
         line[2 * i] = digit(bytes[i] / 16);
@@ -39,7 +46,48 @@ fn tell(a: Answer) {
     io::write_all(STDOUT_FILENO, b"\n");
 }
 
-// The lines of one record.
+// The lines of one record with a key of so many words, which is lent room for its round keys.
+fn with_words(words: usize, key: &[u8], w: &mut [u8], block: [u8; 16])
+    requires { ⌜ (length (now key) ≡ 4 * words) × (length (now w) ≡ 16 * (roundsOf words + 1)) × Rounds (roundsOf words) ⌝ }
+{
+    round::key::expand(words, key, w);
+    show(w);
+    let enciphered = aes::turns::cipher(words + 6, w, block);
+    show(&enciphered);
+    let deciphered = aes::turns::inv_cipher(words + 6, w, block);
+    show(&deciphered);
+}
+
+// Reads and shows a record with a key of six words, and one with a key of eight.
+fn six_words() {
+    let mut key = [0u8; 24];
+    let mut block = [0u8; 16];
+    io::read_full(0, &mut key);
+    io::read_full(0, &mut block);
+    let mut w = [0u8; 208];
+    with_words(6, &key, &mut w, block);
+}
+
+fn eight_words() {
+    let mut key = [0u8; 32];
+    let mut block = [0u8; 16];
+    io::read_full(0, &mut key);
+    io::read_full(0, &mut block);
+    let mut w = [0u8; 240];
+    with_words(8, &key, &mut w, block);
+}
+
+// The records with the longer keys.
+fn longer_keys() {
+    let mut n: usize = 0;
+    while n < LONGER {
+        six_words();
+        eight_words();
+        n += 1;
+    }
+}
+
+// The lines of one record with a key of four words, by the calls.
 fn vector(key: [u8; 16], block: [u8; 16]) {
     let w = round::key::expand_key(key);
     show(&w);
@@ -98,6 +146,7 @@ fn attempts() {
 }
 
 fn main() {
+    longer_keys();
     let mut records: usize = 0;
     while records < 1024 {
         let mut key = [0u8; 16];

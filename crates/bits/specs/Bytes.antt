@@ -2,7 +2,7 @@
 use mathlib.Core.Bool.{cond}
 use mathlib.Core.List.{List}
 use mathlib.Core.Path.{_≡_}
-use Prim.Native.Nat.{ℕ, _<_}
+use Prim.Native.Nat.{ℕ, _+_, _<_}
 use lib.Dec.{eqb}
 use lib.ListN.{length}
 use Rattle.bits.specs.Lists.{at, tabulate}
@@ -25,9 +25,12 @@ number n f = joined 8 n f
 abbrev pub byte : ℕ → ℕ → ℕ → ℕ
 byte n i v = group 8 n i v
 
--- The number that the first n bytes of a list write, and the n bytes of a number.
+-- The number that the first n bytes of a list write, that of the four bytes from place a on, and the n bytes of a number.
 abbrev pub numberOf : ℕ → List ℕ → ℕ
 numberOf n l = number n (at l)
+
+unfoldable pub numberAt : List ℕ → ℕ → ℕ
+numberAt l a = number 4 (λ j. at l (a + j))
 
 unfoldable pub bytesOf : ℕ → ℕ → List ℕ
 bytesOf n v = tabulate n (λ i. byte n i v)

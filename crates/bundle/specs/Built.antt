@@ -98,7 +98,7 @@ PlainBut nr B C l = Holds nr (λ n. plainEncoding) B C (identity 128) (identity 
 abbrev pub Plain : ℕ → List ℕ → Type 0
 Plain nr l = PlainBut nr (λ n. identity 8) (λ n. identity 32) l
 
--- For every number of rounds for which the shortest bundle is not too long: ten are such a number.
+-- For every number of rounds for which the shortest bundle is not too long: 10, 12 and 14 (`Sizes` of Frames.antt).
 abbrev pub Building : Type 0
 Building = (nr : ℕ) (E B C : ℕ → List ℕ) (I O : List ℕ) → shortest nr ≤ longest nr → Writable nr E B C I O → Built nr E B C I O
 

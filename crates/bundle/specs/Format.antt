@@ -1,18 +1,19 @@
 -- The bundle's format (document 01, "The bundle"): sizes, the five pairs, causes 2 and 3, and the sections' parts by number. Every
--- size is over the number nr of rounds; document 01's own numbers are those for ten. Definitions only.
-use mathlib.Core.Bool.{Bool, not, _||_}
+-- size is over the number nr of rounds; document 01's own numbers are those for ten (`Sizes` of Frames.antt). Definitions only.
+use mathlib.Core.Bool.{Bool, cond, not, _||_}
 use mathlib.Core.List.{List, []}
 use mathlib.Core.Path.{_≡_}
 use Prim.Native.Nat.{ℕ, zero, suc, _+_, _-_, _*_, _≤_}
 use lib.Dec.{eqb, ltb}
 use lib.ListN.{length, take, drop}
+use Rattle.rounds.specs.Rounds.{known}
 use Rattle.answers.specs.Answers.{refusedIf, andThen, ifAccepted}
 use Rattle.answers.specs.declared.Answer.{Answer}
 use Rattle.answers.specs.declared.Refusal.the-variants.{BundleLength, Pair}
 use Rattle.answers.specs.Search.{first, refusedAt}
-use Rattle.bits.specs.Bytes.{number}
+use Rattle.bits.specs.Bytes.{numberAt}
 use Rattle.bits.specs.Encodings.{imagesOf}
-use Rattle.bits.specs.Lists.{at, partOf}
+use Rattle.bits.specs.Lists.{partOf}
 use Rattle.matrices.specs.Matrices.{matrixOf}
 
 -- ---- sizes
@@ -29,15 +30,9 @@ byteMatrices nr = 16 * nr
 unfoldable pub columnMatrices : ℕ → ℕ
 columnMatrices nr = 4 * (nr - 1)
 
--- The three numbers for ten rounds, as the code has them; that they are these is said in Frames.antt.
-abbrev pub tenEncodings : ℕ
-tenEncodings = 6048
-
-abbrev pub tenByteMatrices : ℕ
-tenByteMatrices = 160
-
-abbrev pub tenColumnMatrices : ℕ
-tenColumnMatrices = 36
+-- 14 rounds have the most encodings, and no section has more parts than that.
+abbrev pub mostEncodings : ℕ
+mostEncodings = 7840
 
 -- The five sections in the order of their pairs: encodings, byte matrices, column matrices, input matrix, output matrix. How many
 -- parts section s has, none behind the fifth, and how many bytes a part of it has.
@@ -63,21 +58,12 @@ unfoldable pub shortest : ℕ → ℕ
 unfolding sectionLength
 shortest nr = 40 + sectionLength nr 0 + sectionLength nr 1 + sectionLength nr 2 + sectionLength nr 3 + sectionLength nr 4
 
+-- For 12 and 14 rounds "bundles may reach 131,072"; for any other number no bundle has a right length (document 02, Ticket 14).
 unfoldable pub longest : ℕ → ℕ
-longest nr = 65536
-
--- Both for ten rounds, as the code has them; that they are these is said in Frames.antt.
-abbrev pub tenShortest : ℕ
-tenShortest = 58408
-
-abbrev pub tenLongest : ℕ
-tenLongest = 65536
+longest nr = cond (known nr) (cond (eqb nr 10) 65536 131072) 0
 
 -- ---- pairs
--- "five pairs of offset and length, each number 4 bytes, most significant first": the number at byte a, and the two of pair i.
-unfoldable pub numberAt : List ℕ → ℕ → ℕ
-numberAt l a = number 4 (λ j. at l (a + j))
-
+-- "five pairs of offset and length, each number 4 bytes, most significant first": the two of pair i.
 abbrev pub offset : List ℕ → ℕ → ℕ
 offset l i = numberAt l (8 * i)
 

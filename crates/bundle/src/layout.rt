@@ -1,21 +1,19 @@
-// Sizes of the sections, and the numbers of the pairs.
+// Sizes of the sections, for each number of rounds.
 ghost use mathlib.Core.Path.{_≡_};
-ghost use Prim.Native.Nat.{_+_, _*_, _<_, _≤_};
-ghost use lib.ListN.{length};
-ghost use Rattle.bundle.specs.Format.{partCount, partSize, sectionLength, numberAt, tenEncodings};
-use bits::vector;
+ghost use Prim.Native.Nat.{_*_, _≤_};
+ghost use Rattle.rounds.specs.Rounds.{Rounds};
+ghost use Rattle.bundle.specs.Format.{partCount, partSize, sectionLength, mostEncodings};
 
-// The encodings of a bundle for ten rounds.
-const ENCODINGS: usize = 6048;
-
-// How many parts section s has; none behind the fifth.
-pub fn part_count(s: usize) -> usize
-    ensures { λ r. ⌜ (r ≡ partCount 10 s) × (r ≤ tenEncodings) ⌝ }
+// How many parts section s has, counted as in specs/: encodings, byte matrices, column matrices, and one matrix of each
+// side; none behind the fifth.
+pub fn part_count(rounds: usize, s: usize) -> usize
+    requires { ⌜ Rounds rounds ⌝ }
+    ensures { λ r. ⌜ (r ≡ partCount rounds s) × (r ≤ mostEncodings) ⌝ }
 {
     match s {
-        0 => ENCODINGS,
-        1 => 160,
-        2 => 36,
+        0 => 32 + 2 * 992 + (rounds - 1) * 448,
+        1 => 16 * rounds,
+        2 => 4 * (rounds - 1),
         3 => 1,
         4 => 1,
         _ => 0,
@@ -35,20 +33,11 @@ pub fn part_size(s: usize) -> usize
 }
 
 // How many bytes section s has.
-pub fn section_length(s: usize) -> usize
-    ensures { λ r. ⌜ (r ≡ sectionLength 10 s) × (r ≤ tenEncodings * 2048) ⌝ }
+pub fn section_length(rounds: usize, s: usize) -> usize
+    requires { ⌜ Rounds rounds ⌝ }
+    ensures { λ r. ⌜ (r ≡ sectionLength rounds s) × (r ≤ mostEncodings * 2048) ⌝ }
 {
-    let count = part_count(s);
+    let count = part_count(rounds, s);
     let size = part_size(s);
     count * size
-}
-
-// The number that four bytes write.
-pub fn number_at(bundle: &[u8], a: usize) -> usize
-    requires { ⌜ a + 4 ≤ length (now bundle) ⌝ }
-    ensures { λ r. ⌜ (r ≡ numberAt (now (bundle .entry)) a) × (r < 4294967296) ⌝ }
-{
-    let v = vector::read(bundle, a, 4);
-    let n = v.lo;
-    n as usize
 }

@@ -9,6 +9,7 @@ use external::coding;
 use judgement::judge;
 use libc::STDIN_FILENO;
 use libc::STDOUT_FILENO;
+use rounds::TEN;
 use view::part::Part;
 
 // The cause and its second number; both are 0 where nothing is turned down.
@@ -39,7 +40,7 @@ fn patch(mem: &mut [u8], a: usize, n: usize) {
 }
 
 fn say_judgement(bundle: &[u8]) {
-    say(judge::judge_bundle(bundle));
+    say(judge::judge_bundle(TEN, bundle));
 }
 
 // What k and n name: encoding, byte matrix or column matrix n, or the input or output matrix; from 5 on, one of the first three with a
@@ -61,11 +62,11 @@ fn named(k: u8, n: usize) -> Part {
 // The part that the bundle's call of its kind hands back.
 fn show_part(bundle: &[u8], p: Part) {
     match p {
-        Part::Encoding(n) => show(parts::encoding_part(bundle, n)),
-        Part::ByteMatrix(n) => show(parts::byte_matrix_part(bundle, n)),
-        Part::ColumnMatrix(n) => show(parts::column_matrix_part(bundle, n)),
-        Part::InputMatrix => show(parts::input_matrix_part(bundle)),
-        Part::OutputMatrix => show(parts::output_matrix_part(bundle)),
+        Part::Encoding(n) => show(parts::encoding_part(TEN, bundle, n)),
+        Part::ByteMatrix(n) => show(parts::byte_matrix_part(TEN, bundle, n)),
+        Part::ColumnMatrix(n) => show(parts::column_matrix_part(TEN, bundle, n)),
+        Part::InputMatrix => show(parts::input_matrix_part(TEN, bundle)),
+        Part::OutputMatrix => show(parts::output_matrix_part(TEN, bundle)),
     }
 }
 

@@ -1,9 +1,11 @@
 -- The catalogue of small matrices, document 02, Ticket 4: "List all 4 by 4 bit matrices that have an inverse, each exactly once, in rising order of the 16-bit
 -- number made by their rows, row 0 highest." The list is defined over the number n of rows, with 4 as the instance. Definitions only; what they come to is stated
 -- in Theorems.antt.
-use mathlib.Core.Bool.{Bool}
+use mathlib.Core.Bool.{Bool, not}
 use mathlib.Core.List.{List, [], _∷_}
 use Prim.Native.Nat.{ℕ, zero, suc, _*_, _^_}
+use lib.Dec.{ltb}
+use Rattle.answers.specs.Answers.{refusedIf}
 use Rattle.answers.specs.declared.Answer.{Answer}
 use Rattle.answers.specs.declared.Answer.the-variants as answer
 use Rattle.answers.specs.declared.Answer.the-variants.{Accepted}
@@ -54,3 +56,7 @@ catalogueEntry position = elementAt catalogue position
 abbrev pub entryAnswer : Entry → Answer
 entryAnswer (Matrix v) = Accepted
 entryAnswer (Refused why) = answer.Refused why
+
+-- What is turned down, from the position: "a position of 20,160 or more gets number 14, the only cause in that call".
+unfoldable pub judgePosition : ℕ → Answer
+judgePosition position = refusedIf (not (ltb position catalogueLength)) CataloguePosition

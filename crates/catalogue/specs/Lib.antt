@@ -1,3 +1,4 @@
 pub mod Catalogue
+pub mod Contracts
 pub mod Kernels
 pub mod Theorems

@@ -10,7 +10,7 @@ use Rattle.bits.specs.Lists.{at, Listed, Rising}
 use Rattle.bits.specs.Vectors.{bit}
 use Rattle.matrices.specs.Matrices.{Square, Invertible}
 use Rattle.inversion.specs.Inverses.{UndoesBothWays}
-use Rattle.catalogue.specs.Catalogue.{numberOfRows, rowsOfNumber, catalogueOf, side, catalogue, catalogueLength, catalogueEntry, entryAnswer}
+use Rattle.catalogue.specs.Catalogue.{numberOfRows, rowsOfNumber, catalogueOf, side, catalogue, catalogueEntry, entryAnswer}
 use Rattle.catalogue.specs.declared.Entry.the-variants.{Matrix, Refused}
 
 module _ (n : ℕ) where
@@ -38,17 +38,17 @@ module _ (n : ℕ) where
   Complete = (m : List ℕ) → Square n m → Invertible n m → Listed (catalogueOf n) (numberOfRows n m)
 
 -- ---- the call at a position, by its contract's definition
-pub record Calls : Type 0 where
+pub record EntriesGiven : Type 0 where
   -- "The 16-bit number made by their rows, row 0 highest."
   pub sixteen-bits : (a b c d : ℕ) → numberOfRows side (a ∷ b ∷ c ∷ d ∷ []) ≡ 4096 * a + 256 * b + 16 * c + d
   -- "There are 20,160."
-  pub long : length catalogue ≡ catalogueLength
+  pub long : length catalogue ≡ 20160
   -- "A call gives the one at a position from 0."
-  pub given : (p : ℕ) → p < catalogueLength → catalogueEntry p ≡ Matrix (at catalogue p)
+  pub given : (p : ℕ) → p < 20160 → catalogueEntry p ≡ Matrix (at catalogue p)
   -- "A position of 20,160 or more gets number 14", with which 0 is returned: "the only cause in that call".
-  pub beyond : (p : ℕ) → catalogueLength ≤ p → replyOf (entryAnswer (catalogueEntry p)) ≡ refused 14 0
-  pub within : (p : ℕ) → p < catalogueLength → replyOf (entryAnswer (catalogueEntry p)) ≡ accepted
-  pub only-cause : (p : ℕ) (why : Refusal) → catalogueEntry p ≡ Refused why → (why ≡ CataloguePosition) × (catalogueLength ≤ p)
+  pub beyond : (p : ℕ) → 20160 ≤ p → replyOf (entryAnswer (catalogueEntry p)) ≡ refused 14 0
+  pub within : (p : ℕ) → p < 20160 → replyOf (entryAnswer (catalogueEntry p)) ≡ accepted
+  pub only-cause : (p : ℕ) (why : Refusal) → catalogueEntry p ≡ Refused why → (why ≡ CataloguePosition) × (20160 ≤ p)
   -- What is given is a matrix with an inverse; each such is given, at one position alone; and the numbers rise with the position.
   pub sound : (p v : ℕ) → catalogueEntry p ≡ Matrix v → Member side v
   pub complete : (m : List ℕ) → Square side m → Invertible side m → (p : ℕ) × (catalogueEntry p ≡ Matrix (numberOfRows side m))
@@ -62,4 +62,4 @@ pub record Catalogued : Type 0 where
   pub complete : (n : ℕ) → Complete n
   -- The numbers rise, so each is there once.
   pub rising : (n : ℕ) → Rising (catalogueOf n)
-  pub calls : Calls
+  pub calls : EntriesGiven

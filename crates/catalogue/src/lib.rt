@@ -4,7 +4,8 @@ ghost use mathlib.Core.Path.{_≡_};
 ghost use Prim.Native.Nat.{_<_};
 ghost use Rattle.bits.specs.Counts.{sumBelow};
 ghost use Rattle.bits.specs.Lists.{at};
-ghost use Rattle.catalogue.specs.Catalogue.{side, isInvertible, catalogue, catalogueLength, catalogueEntry};
+ghost use Rattle.catalogue.specs.Catalogue.{side, isInvertible, catalogue, catalogueLength};
+ghost use Rattle.catalogue.specs.Contracts.{Gives};
 ghost use Rattle.catalogue.specs.Kernels.{vectors, kernelWith, completions, ways, NextRow};
 use answers::Refusal;
 
@@ -137,7 +138,7 @@ fn number_at(position: usize) -> u16
 
 // The entry at any position.
 pub fn entry_at(position: usize) -> Entry
-    ensures { λ r. ⌜ r ≡ catalogueEntry position ⌝ }
+    ensures { λ r. ⌜ Gives position r ⌝ }
 {
     if position >= MATRICES {
         return Entry::Refused(Refusal::CataloguePosition);

@@ -18,7 +18,7 @@ abbrev pub listBytes : ℕ
 listBytes = catalogueLength * matrixRoom
 
 -- The text is 20,160 lines of 5 bytes. Line p is the matrix at position p of the catalogue: a digit for each row, row 0 first, and a newline, 10 in ASCII.
-pub record Listed : Type 0 where
+pub record LinesOfCatalogue : Type 0 where
   pub long : length (linesOf catalogue) ≡ 100800
-  pub line : (p : ℕ) → p < catalogueLength → let m = rowsOfNumber side (at catalogue p) in
+  pub line : (p : ℕ) → p < 20160 → let m = rowsOfNumber side (at catalogue p) in
       partOf matrixRoom (linesOf catalogue) p ≡ glyph (at m 0) ∷ glyph (at m 1) ∷ glyph (at m 2) ∷ glyph (at m 3) ∷ 10 ∷ []

@@ -5,11 +5,11 @@ use mathlib.Core.Path.{_≡_}
 use Prim.Native.Nat.{ℕ}
 use Rattle.round.specs.Key.{roundsOf}
 use Rattle.external.specs.Coding.{decodeInput}
+use Rattle.calls.specs.Calls.{Call, started}
+use Rattle.calls.specs.PlainCount.{argsOf, plainCount, Lent}
 use Rattle.whitebox.specs.Bundles.{madeSet, madeTable, dueHeld}
-use Rattle.whitebox.specs.Calls.{Call, started}
 use Rattle.whitebox.specs.Demand3.{Given, dueFor}
-use Rattle.whitebox.specs.PlainCount.{argsOf, plainCount, Lent}
-use Rattle.evaluate.specs.Demands.{Begun}
+use Rattle.demands.specs.Demands.{Begun}
 use Rattle.evaluate.specs.Held.{held}
 use Rattle.evaluate.specs.declared.walk.Opening.{Opening}
 use Rattle.evaluate.specs.declared.walk.Walk.{Walk}

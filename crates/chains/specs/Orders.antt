@@ -6,7 +6,7 @@ use mathlib.Core.Path.{_≡_}
 use Prim.Native.Nat.{ℕ}
 use lib.Dec.{eqb}
 use Rattle.answers.specs.Answers.{returned}
-use Rattle.whitebox.specs.Calls.{Held, tablePart, Call, toStop, oneLookup, fetch, handed, blockLeft, Served, serve, lastWalk}
+use Rattle.calls.specs.Calls.{Held, tablePart, Call, toStop, oneLookup, fetch, handed, blockLeft, Served, serve, lastWalk}
 use Rattle.evaluate.specs.Contracts.{Moves}
 use Rattle.evaluate.specs.Held.{held}
 use Rattle.evaluate.specs.declared.walk.Move.{Move}

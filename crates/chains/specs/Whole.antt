@@ -12,9 +12,9 @@ use Rattle.external.specs.Calls as external
 use Rattle.external.specs.Coding.{encodeInput, encodeOutput, decodeOutput}
 use Rattle.layout.specs.Ciphers.{other}
 use Rattle.layout.specs.Stages.{lookups}
+use Rattle.calls.specs.Calls.{judgeStart, started, toStop, fetch, answer, handed}
+use Rattle.calls.specs.Calls.{walkedOver}
 use Rattle.whitebox.specs.Bundles.{cipherBlock, madeSet}
-use Rattle.whitebox.specs.Calls.{judgeStart, started, toStop, fetch, answer, handed}
-use Rattle.whitebox.specs.Demand2.{walkedOver}
 use Rattle.tables.specs.Calls.{setAnswer, setLeft}
 
 -- ---- the calls' own answers: the first refusal is the answer

@@ -1,6 +1,6 @@
 // A list of calls as numbers: orders, served one after the other from a held walk over one lent memory.
 ghost use mathlib.Core.Path.{_≡_};
-ghost use Rattle.whitebox.specs.Calls.{tablePart};
+ghost use Rattle.calls.specs.Calls.{tablePart};
 ghost use Rattle.chains.specs.Orders.{OneServed, AllServed};
 use answers::number;
 use evaluate::walk::Move;
@@ -10,6 +10,7 @@ use evaluate::walk::move_one;
 use evaluate::walk::move_to;
 use layout::stage::NOWHERE;
 use layout::stage::place_of;
+use rounds::TEN;
 
 // The orders that are no stop: a move of one lookup, and a fetch.
 pub const ONE_LOOKUP: u64 = 18446744073709551615;
@@ -20,7 +21,7 @@ pub const FETCH: u64 = 18446744073709551614;
 fn table_part<'a>(set: &'a [u8], n: usize) -> &'a [u8]
     ensures { λ r. ⌜ now r ≡ tablePart 10 (now (set .entry)) n ⌝ }
 {
-    let p = place_of(n);
+    let p = place_of(TEN, n);
     let from = p.offset;
     let size = p.size;
     if set.len() <= from {
@@ -53,7 +54,8 @@ fn serve_one(walk: Walk, set: &[u8], order: u64, block: &mut [u8]) -> Move
 
 // All orders. In the place of each its answer's number is written, as the calls for C return it.
 pub fn serve_orders(walk: Walk, set: &[u8], orders: &mut [u64], block: &mut [u8]) -> Walk
-    ensures { λ r. ⌜ AllServed 10 (now (set .entry)) walk (now (orders .entry)) (now (block .entry)) r (now (orders .exit)) (now (block .exit)) ⌝ }
+    ensures { λ r. ⌜ AllServed 10 (now (set .entry)) walk (now (orders .entry)) (now (block .entry)) r
+        (now (orders .exit)) (now (block .exit)) ⌝ }
 {
     let mut w = walk;
     let mut i: usize = 0;

@@ -9,7 +9,7 @@ use evaluate::walk::start;
 use external::coding::decode_output;
 use external::coding::encode_input;
 use layout::stage::LOOKUPS;
-use tables::calls::make_set;
+use tables::make::make_set;
 
 // The set, and the block under the input coding.
 fn present(
@@ -20,7 +20,8 @@ fn present(
     set: &mut [u8],
     x: &mut [u8],
 ) -> Answer
-    ensures { λ r. ⌜ Presents cipher (now (key .entry)) (now (bundle .entry)) (now (block .entry)) (now (set .entry)) (now (x .entry)) r (now (set .exit)) (now (x .exit)) ⌝ }
+    ensures { λ r. ⌜ Presents cipher (now (key .entry)) (now (bundle .entry)) (now (block .entry)) (now (set .entry))
+        (now (x .entry)) r (now (set .exit)) (now (x .exit)) ⌝ }
 {
     let made = make_set(cipher, key, bundle, set);
     let Answer::Accepted = made else {
@@ -48,7 +49,8 @@ fn walk_over(cipher: u64, set: &[u8], x: &[u8], answer: &mut [u8]) -> Answer
 
 // The output coding and then the cipher taken off: the inverse cipher is taken off by enciphering.
 fn take_off(cipher: u64, key: &[u8], bundle: &[u8], coded: &[u8], again: &mut [u8]) -> Answer
-    ensures { λ r. ⌜ TakesOff cipher (now (key .entry)) (now (bundle .entry)) (now (coded .entry)) (now (again .entry)) r (now (again .exit)) ⌝ }
+    ensures { λ r. ⌜ TakesOff cipher (now (key .entry)) (now (bundle .entry)) (now (coded .entry))
+        (now (again .entry)) r (now (again .exit)) ⌝ }
 {
     let mut t = [0u8; 16];
     let uncoded = decode_output(bundle, coded, &mut t);
@@ -72,7 +74,8 @@ pub fn there_and_back(
     coded: &mut [u8],
     again: &mut [u8],
 ) -> Answer
-    ensures { λ r. ⌜ ThereAndBack cipher (now (key .entry)) (now (bundle .entry)) (now (block .entry)) (now (set .entry)) (now (coded .entry)) (now (again .entry)) r (now (set .exit)) (now (coded .exit)) (now (again .exit)) ⌝ }
+    ensures { λ r. ⌜ ThereAndBack cipher (now (key .entry)) (now (bundle .entry)) (now (block .entry))
+        (now (set .entry)) (now (coded .entry)) (now (again .entry)) r (now (set .exit)) (now (coded .exit)) (now (again .exit)) ⌝ }
 {
     let mut x = [0u8; 16];
     let presented = present(cipher, key, bundle, block, set, &mut x);

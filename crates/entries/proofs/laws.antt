@@ -1,4 +1,3 @@
-pub mod Combined
 pub mod Entries
 pub mod Places
 pub mod Words

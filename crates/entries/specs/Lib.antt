@@ -1,3 +1,4 @@
 pub mod Encodings
 pub mod Spread
 pub mod Words
+pub mod Xors

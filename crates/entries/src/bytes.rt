@@ -8,7 +8,7 @@ ghost use Rattle.entries.specs.Encodings.{Nibbles, byNibbles};
 
 // The bytes of one high nibble, which is replaced by `high`; the low one is replaced by its element of `low`.
 fn write_row(high: u8, low: &[u8], dst: &mut [u8])
-    requires { ⌜ (high < 16) × (length (now low) ≡ 16) × Nibbles 16 (now low) × (length (now dst) ≡ 16) ⌝ }
+    requires { ⌜ (high < 16) × Nibbles 16 (now low) × (length (now dst) ≡ 16) ⌝ }
     ensures { λ _. ⌜ now (dst .exit) ≡ tabulate 16 (λ v. pack high (at (now (low .entry)) v)) ⌝ }
 {
     let mut v: usize = 0;
@@ -20,7 +20,7 @@ fn write_row(high: u8, low: &[u8], dst: &mut [u8])
 
 // All of them: the high nibble is replaced by its element of `high`, the low one by that of `low`.
 pub(crate) fn by_nibbles(high: &[u8], low: &[u8], dst: &mut [u8])
-    requires { ⌜ (length (now high) ≡ 16) × Nibbles 16 (now high) × (length (now low) ≡ 16) × Nibbles 16 (now low) × (length (now dst) ≡ 256) ⌝ }
+    requires { ⌜ Nibbles 16 (now high) × Nibbles 16 (now low) × (length (now dst) ≡ 256) ⌝ }
     ensures { λ _. ⌜ now (dst .exit) ≡ tabulate 256 (byNibbles (now (high .entry)) (now (low .entry))) ⌝ }
 {
     let mut i: usize = 0;

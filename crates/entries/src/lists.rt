@@ -6,11 +6,10 @@ ghost use lib.ListN.{length, drop};
 ghost use Rattle.bits.specs.Encodings.{imagesOf, decode, Permutation};
 ghost use Rattle.bits.specs.Lists.{tabulate, concat};
 ghost use Rattle.bits.specs.Nibbles.{pack};
-ghost use Rattle.entries.specs.Encodings.{encodingIn};
-ghost use Rattle.bundle.specs.Format.{tenEncodings};
+ghost use Rattle.entries.specs.Encodings.{encodingIn, ForImages};
 use crate::bytes;
 use bits::encoding;
-use bundle::sections;
+use bits::slices;
 
 // The images that an encoding's 8 bytes give, two to a byte.
 pub(crate) fn images(p: &[u8], dst: &mut [u8])
@@ -42,14 +41,15 @@ pub(crate) fn places(p: &[u8], dst: &mut [u8])
 
 // The images of the encodings n, n + 1, .., `count` of them, one after the other, into the front of dst.
 pub fn all_images(section: &[u8], n: usize, count: usize, dst: &mut [u8])
-    requires { ⌜ (n ≤ tenEncodings) × (count ≤ 32) × ((n + count) * 8 ≤ length (now section)) × (16 * count ≤ length (now dst)) ⌝ }
-    ensures { λ _. ⌜ now (dst .exit) ≡ concat count (λ h. encodingIn (now (section .entry)) (n + h)) ++ drop (count * 16) (now (dst .entry)) ⌝ }
+    requires { ⌜ ForImages n count (now section) (now dst) ⌝ }
+    ensures { λ _. ⌜ now (dst .exit)
+        ≡ concat count (λ h. encodingIn (now (section .entry)) (n + h)) ++ drop (count * 16) (now (dst .entry)) ⌝ }
 {
     let mut h: usize = 0;
     while h < count {
         let a = h * 16;
         let e = a + 16;
-        images(sections::part(section, 8, n + h), &mut dst[a..e]);
+        images(slices::part(section, 8, n + h), &mut dst[a..e]);
         h += 1;
     }
 }
@@ -57,11 +57,13 @@ pub fn all_images(section: &[u8], n: usize, count: usize, dst: &mut [u8])
 // Every byte with its nibbles decoded by the encodings numbered `high` and `low`.
 pub fn decoded_bytes(section: &[u8], high: usize, low: usize, dst: &mut [u8])
     requires { ⌜ (length (now dst) ≡ 256) × Permutation (encodingIn (now section) high) × Permutation (encodingIn (now section) low) ⌝ }
-    ensures { λ _. ⌜ now (dst .exit) ≡ tabulate 256 (λ x. pack (decode (encodingIn (now (section .entry)) high) (x / 16)) (decode (encodingIn (now (section .entry)) low) (x % 16))) ⌝ }
+    ensures { λ _. ⌜ now (dst .exit) ≡ tabulate 256 (λ x. pack
+        (decode (encodingIn (now (section .entry)) high) (x / 16))
+        (decode (encodingIn (now (section .entry)) low) (x % 16))) ⌝ }
 {
     let mut a = [0u8; 16];
     let mut b = [0u8; 16];
-    places(sections::part(section, 8, high), &mut a);
-    places(sections::part(section, 8, low), &mut b);
+    places(slices::part(section, 8, high), &mut a);
+    places(slices::part(section, 8, low), &mut b);
     bytes::by_nibbles(&a, &b, dst);
 }

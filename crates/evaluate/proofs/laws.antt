@@ -1,5 +1,5 @@
 pub mod Stages
 pub mod Calls
 pub mod Chains
-pub mod Demands
+pub mod Whole
 pub mod PlaceRead

@@ -1,5 +1,5 @@
 -- A chain of calls in code: "each move or fetch gets the walk that the call before it handed back or left". What each call did is known by its
--- contract alone (Contracts.antt). Definitions, and the statement that a chain answers as `serve` of crate whitebox does; it is proved in
+-- contract alone (Contracts.antt). Definitions, and the statement that a chain answers as `serve` of crate calls does; it is proved in
 -- proofs/laws/Chains.antt.
 use mathlib.Core.List.{List, [], _∷_, map}
 use mathlib.Core.Path.{_≡_}
@@ -7,7 +7,7 @@ use Prim.Native.Nat.{ℕ}
 use Rattle.answers.specs.Answers.{replyOf}
 use Rattle.answers.specs.declared.Answer.{Answer}
 use Rattle.layout.specs.Stages.{nowhere}
-use Rattle.whitebox.specs.Calls.{Call, toStop, oneLookup, fetch, Served, serve, lastWalk}
+use Rattle.calls.specs.Calls.{Call, toStop, oneLookup, fetch, Served, serve, lastWalk}
 use Rattle.evaluate.specs.Held.{held}
 use Rattle.evaluate.specs.Contracts.{Moves, Fetches}
 use Rattle.evaluate.specs.declared.walk.Move.{Move}

@@ -1,12 +1,12 @@
 -- What the calls of src/walk.rt ensure: their contracts cite these records, at ten rounds, and so does every statement about calls in code. Each result is an
--- equation with a definition of crate whitebox, specs/Calls.antt. Definitions only.
+-- equation with a definition of crate calls, specs/Calls.antt. Definitions only.
 use mathlib.Core.List.{List}
 use mathlib.Core.Path.{_≡_}
 use Prim.Native.Nat.{ℕ, _-_, _<_}
 use lib.ListN.{length}
 use Rattle.answers.specs.declared.Answer.{Answer}
-use Rattle.whitebox.specs.Calls.{Call, judgeStart, started, fetch, answer, handed, passedOn, blockLeft}
-use Rattle.whitebox.specs.PlaceRead.{InTable}
+use Rattle.calls.specs.Calls.{Call, judgeStart, started, fetch, answer, handed, passedOn, blockLeft}
+use Rattle.calls.specs.PlaceRead.{InTable}
 use Rattle.evaluate.specs.Held.{held}
 use Rattle.evaluate.specs.declared.walk.Move.{Move}
 use Rattle.evaluate.specs.declared.walk.Opening.{Opening}

@@ -3,4 +3,4 @@ pub mod Advanced
 pub mod Contracts
 pub mod Chains
 pub mod PlaceRead
-pub mod Demands
+pub mod Whole

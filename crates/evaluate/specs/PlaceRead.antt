@@ -1,4 +1,4 @@
--- THE PLACE THAT WAS READ, OF THE CODE (document 02, Ticket 2), for a reader. Crate whitebox states it of definitions, in its specs/PlaceRead.antt; here it is
+-- THE PLACE THAT WAS READ, OF THE CODE (document 02, Ticket 2), for a reader. Crate calls states it of definitions, in its specs/PlaceRead.antt; here it is
 -- stated of a lookup that meets the contract of lookups::layer::lookup_in, which hands back offset and half, and of moves that meet the contracts of
 -- src/walk.rt (Contracts.antt), which pass on the offset. Each statement is a type; proofs/laws/PlaceRead.antt proves them.
 use mathlib.Core.List.{List}
@@ -11,8 +11,8 @@ use Rattle.network.specs.Read.{lookupFrom}
 use Rattle.network.specs.declared.EntryPlace.{EntryPlace}
 use Rattle.layout.specs.Ciphers.{readsOf}
 use Rattle.layout.specs.Stages.{shapeAt, lookups, setBytes, nowhere, tableOffset, stageOf, indexOf}
-use Rattle.whitebox.specs.Calls.{tablePart, Call, toStop, oneLookup, placeRead}
-use Rattle.whitebox.specs.PlaceRead.{InTable}
+use Rattle.calls.specs.Calls.{tablePart, Call, toStop, oneLookup, placeRead}
+use Rattle.calls.specs.PlaceRead.{InTable}
 use Rattle.lookups.specs.InPlace.{LookedUp}
 use Rattle.evaluate.specs.Held.{held}
 use Rattle.evaluate.specs.Contracts.{Moves}

@@ -1,28 +1,29 @@
 // The held walk and its calls, over any walk, any lent memory and any number.
 ghost use mathlib.Core.Path.{_≡_};
-ghost use Prim.Native.Nat.{_<_, _≤_};
-ghost use lib.ListN.{length};
-ghost use Rattle.network.specs.Lookups.{stateAt};
-ghost use Rattle.layout.specs.Ciphers.{kept, readsOf};
-ghost use Rattle.layout.specs.Stages.{tenLookups, tenSetBytes};
-ghost use Rattle.whitebox.specs.Calls as calls;
+ghost use Rattle.network.specs.Lookups.{stateAt, zeroArea};
+ghost use Rattle.layout.specs.Ciphers.{readsOf};
+ghost use Rattle.rounds.specs.Rounds.{Rounds};
+ghost use Rattle.calls.specs.Calls as calls;
 ghost use Rattle.evaluate.specs.Held.{held};
-ghost use Rattle.evaluate.specs.Advanced.{Refuses, Advanced, Advances};
+ghost use Rattle.evaluate.specs.Advanced.{PartAsked, MoveAsked, Refuses, Advanced, Advances};
 ghost use Rattle.evaluate.specs.Contracts.{Opens, Moves, Fetches};
 use answers::Answer;
 use answers::Refusal;
 use bits::block::load;
 use bits::block::store;
 use layout::cipher::kept;
-use layout::stage::LOOKUPS;
-use layout::stage::NOWHERE;
-use layout::stage::SET_BYTES;
+use layout::stage::lookups_in;
 use layout::stage::place_of;
+use layout::stage::set_bytes;
+use layout::stage::tables_bytes;
 use layout::stage::width_of;
 use lookups::layer;
+use passes::look_up_at;
+use rounds::TEN;
 
-// "A held walk is a count, 16 standing bytes and a spread area of 256 bytes, all by value." It keeps the cipher that it was started for, "as 0 or 1 (any
-// other number there acts as 1, which an accepted move hands back)" (document 02, Ticket 1).
+// "A held walk is a count, 16 standing bytes and a spread area of 256 bytes, all by value." It keeps the cipher that it
+// was started for, "as 0 or 1 (any other number there acts as 1, which an accepted move hands back)" (document 02,
+// Ticket 1).
 pub struct Walk {
     pub cipher: u64,
     pub count: usize,
@@ -36,8 +37,8 @@ pub struct Opening {
     pub walk: Walk,
 }
 
-// What a move hands back: its answer, the walk, and the byte offset within the set of the entry that its last lookup read, `NOWHERE` if it made none
-// (document 02, Ticket 2).
+// What a move hands back: its answer, the walk, and the byte offset within the set of the entry that its last lookup
+// read, behind all tables if it made none (document 02, Ticket 2).
 pub struct Move {
     pub answer: Answer,
     pub walk: Walk,
@@ -50,13 +51,26 @@ struct Reached {
     offset: usize,
 }
 
-// The walk of a cipher at a count, with these standing bytes and this area: it keeps 0 or 1.
-fn walk_for(cipher: u64, count: usize, standing: [u8; 16], area: [u8; 256]) -> Walk
-    ensures { λ r. ⌜ held r ≡ calls.holding (kept cipher) (stateAt count standing area) ⌝ }
+// The walk that a start makes for a cipher: what it keeps beside its state is made here.
+fn begun(cipher: u64, standing: [u8; 16]) -> Walk
+    ensures { λ r. ⌜ held r ≡ calls.holding (calls.marked cipher) (stateAt 0 standing zeroArea) ⌝ }
 {
     let number = kept(cipher);
     Walk {
         cipher: number,
+        count: 0,
+        standing: standing,
+        area: [0u8; 256],
+    }
+}
+
+// What an accepted move makes of a walk, with the state that it reached: what the walk keeps is handed on here.
+fn changed(walk: Walk, count: usize, standing: [u8; 16], area: [u8; 256]) -> Walk
+    ensures { λ r. ⌜ held r ≡ calls.holding (calls.keptMark (held walk .mark)) (stateAt count standing area) ⌝ }
+{
+    let handed = kept(walk.cipher);
+    Walk {
+        cipher: handed,
         count: count,
         standing: standing,
         area: area,
@@ -64,13 +78,15 @@ fn walk_for(cipher: u64, count: usize, standing: [u8; 16], area: [u8; 256]) -> W
 }
 
 // A refused move hands the walk back as it was given, and has made no lookup.
-fn refused(walk: Walk, refusal: Refusal) -> Move
-    ensures { λ r. ⌜ Refuses 10 refusal walk r ⌝ }
+fn refused(rounds: usize, walk: Walk, refusal: Refusal) -> Move
+    requires { ⌜ Rounds rounds ⌝ }
+    ensures { λ r. ⌜ Refuses rounds refusal walk r ⌝ }
 {
+    let nowhere = tables_bytes(rounds);
     Move {
         answer: Answer::Refused(refusal),
         walk: walk,
-        offset: NOWHERE,
+        offset: nowhere,
     }
 }
 
@@ -78,26 +94,21 @@ fn refused(walk: Walk, refusal: Refusal) -> Move
 pub fn start(cipher: u64, block: &[u8]) -> Opening
     ensures { λ r. ⌜ Opens cipher (now (block .entry)) r ⌝ }
 {
-    let area = [0u8; 256];
     if block.len() != 16 {
         return Opening {
             answer: Answer::Refused(Refusal::BlockLength),
-            walk: Walk {
-                cipher: 0,
-                count: 0,
-                standing: [0u8; 16],
-                area: area,
-            },
+            walk: begun(0, [0u8; 16]),
         };
     }
     Opening {
         answer: Answer::Accepted,
-        walk: walk_for(cipher, 0, load(block), area),
+        walk: begun(cipher, load(block)),
     }
 }
 
 // At count n, all lookups of a stage or half where it begins here and ends by the stop, else one.
 fn step(
+    rounds: usize,
     cipher: u64,
     standing: &mut [u8; 16],
     area: &mut [u8; 256],
@@ -105,10 +116,11 @@ fn step(
     n: usize,
     stop: usize,
 ) -> Reached
-    requires { ⌜ (length (now set) ≡ tenSetBytes) × (n < stop) × (stop ≤ tenLookups) × (length (now standing) ≡ 16) × (length (now area) ≡ 256) ⌝ }
-    ensures { λ r. ⌜ Advanced (readsOf cipher) 10 (now (set .entry)) n stop (r .count) (r .offset) (now (standing .entry)) (now (area .entry)) (now (standing .exit)) (now (area .exit)) ⌝ }
+    requires { ⌜ PartAsked rounds (now set) n stop (now standing) (now area) ⌝ }
+    ensures { λ r. ⌜ Advanced (readsOf cipher) rounds (now (set .entry)) n stop (r .count) (r .offset)
+        (now (standing .entry)) (now (area .entry)) (now (standing .exit)) (now (area .exit)) ⌝ }
 {
-    let p = place_of(n);
+    let p = place_of(rounds, n);
     let from = p.offset;
     let stage = p.stage;
     let index = p.index;
@@ -123,8 +135,7 @@ fn step(
             };
         }
     }
-    let to = from + p.size;
-    let read = layer::lookup_in(cipher, standing, area, &set[from..to], from, stage, index);
+    let read = look_up_at(cipher, standing, area, set, p);
     let next = n + 1;
     Reached {
         count: next,
@@ -133,23 +144,23 @@ fn step(
 }
 
 // The lookups from the count up to the stop: an accepted move.
-fn advance(walk: Walk, set: &[u8], stop: usize) -> Move
-    requires { ⌜ (length (now set) ≡ tenSetBytes) × (stop ≤ tenLookups) × (walk .count ≤ stop) ⌝ }
-    ensures { λ r. ⌜ Advances 10 (now (set .entry)) stop walk r ⌝ }
+fn advance(rounds: usize, walk: Walk, set: &[u8], stop: usize) -> Move
+    requires { ⌜ MoveAsked rounds (now set) (walk .count) stop ⌝ }
+    ensures { λ r. ⌜ Advances rounds (now (set .entry)) stop walk r ⌝ }
 {
     let cipher = walk.cipher;
     let mut standing = walk.standing;
     let mut area = walk.area;
     let mut n = walk.count;
-    let mut offset = NOWHERE;
+    let mut offset = tables_bytes(rounds);
     while n < stop {
-        let r = step(cipher, &mut standing, &mut area, set, n, stop);
+        let r = step(rounds, cipher, &mut standing, &mut area, set, n, stop);
         n = r.count;
         offset = r.offset;
     }
     Move {
         answer: Answer::Accepted,
-        walk: walk_for(cipher, n, standing, area),
+        walk: changed(walk, n, standing, area),
         offset: offset,
     }
 }
@@ -158,29 +169,45 @@ fn advance(walk: Walk, set: &[u8], stop: usize) -> Move
 pub fn move_to(walk: Walk, set: &[u8], stop: usize) -> Move
     ensures { λ r. ⌜ Moves 10 (calls.toStop (now (set .entry)) stop) walk r ⌝ }
 {
-    if set.len() != SET_BYTES {
-        return refused(walk, Refusal::SetLength);
+    to_stop(TEN, walk, set, stop)
+}
+
+// The same, of so many rounds.
+pub fn to_stop(rounds: usize, walk: Walk, set: &[u8], stop: usize) -> Move
+    requires { ⌜ Rounds rounds ⌝ }
+    ensures { λ r. ⌜ Moves rounds (calls.toStop (now (set .entry)) stop) walk r ⌝ }
+{
+    if set.len() != set_bytes(rounds) {
+        return refused(rounds, walk, Refusal::SetLength);
     }
-    if stop > LOOKUPS {
-        return refused(walk, Refusal::Stop);
+    if stop > lookups_in(rounds) {
+        return refused(rounds, walk, Refusal::Stop);
     }
     if stop < walk.count {
-        return refused(walk, Refusal::Stop);
+        return refused(rounds, walk, Refusal::Stop);
     }
-    advance(walk, set, stop)
+    advance(rounds, walk, set, stop)
 }
 
 // A move of one lookup, with only that table lent.
 pub fn move_one(walk: Walk, table: &[u8]) -> Move
     ensures { λ r. ⌜ Moves 10 (calls.oneLookup (now (table .entry))) walk r ⌝ }
 {
+    one_lookup(TEN, walk, table)
+}
+
+// The same, of so many rounds.
+fn one_lookup(rounds: usize, walk: Walk, table: &[u8]) -> Move
+    requires { ⌜ Rounds rounds ⌝ }
+    ensures { λ r. ⌜ Moves rounds (calls.oneLookup (now (table .entry))) walk r ⌝ }
+{
     let n = walk.count;
-    if n >= LOOKUPS {
-        return refused(walk, Refusal::Stop);
+    if n >= lookups_in(rounds) {
+        return refused(rounds, walk, Refusal::Stop);
     }
-    let p = place_of(n);
+    let p = place_of(rounds, n);
     if table.len() != p.size {
-        return refused(walk, Refusal::SetLength);
+        return refused(rounds, walk, Refusal::SetLength);
     }
     let cipher = walk.cipher;
     let mut standing = walk.standing;
@@ -191,7 +218,7 @@ pub fn move_one(walk: Walk, table: &[u8]) -> Move
     let read = layer::lookup_in(cipher, &mut standing, &mut area, table, from, stage, index);
     Move {
         answer: Answer::Accepted,
-        walk: walk_for(cipher, n + 1, standing, area),
+        walk: changed(walk, n + 1, standing, area),
         offset: read.offset,
     }
 }
@@ -200,10 +227,19 @@ pub fn move_one(walk: Walk, table: &[u8]) -> Move
 pub fn fetch(walk: Walk, block: &mut [u8]) -> Answer
     ensures { λ r. ⌜ Fetches 10 (now (block .entry)) walk r (now (block .exit)) ⌝ }
 {
+    answer_of(TEN, walk, block)
+}
+
+// The same, of so many rounds.
+fn answer_of(rounds: usize, walk: Walk, block: &mut [u8]) -> Answer
+    requires { ⌜ Rounds rounds ⌝ }
+    ensures { λ r. ⌜ Fetches rounds (now (block .entry)) walk r (now (block .exit)) ⌝ }
+{
     if block.len() != 16 {
         return Answer::Refused(Refusal::BlockLength);
     }
-    if walk.count != LOOKUPS {
+    let all = lookups_in(rounds);
+    if walk.count != all {
         return Answer::Refused(Refusal::Unfinished);
     }
     let standing = walk.standing;

@@ -39,9 +39,9 @@ decodeInput nr l y = decodeBy (encodingOf nr l) 0 (inputMatrix nr l) y
 unfoldable pub outputFirst : ℕ → ℕ
 outputFirst nr = encodings nr - 32
 
--- For ten rounds, as the number that the code has; that it is this is said in Undoing.antt.
-abbrev pub tenOutputFirst : ℕ
-tenOutputFirst = 6016
+-- 14 rounds have the largest.
+abbrev pub mostOutputFirst : ℕ
+mostOutputFirst = 7808
 
 unfoldable pub encodeOutput : ℕ → List ℕ → List ℕ → List ℕ
 encodeOutput nr l x = encodeBy (encodingOf nr l) (outputFirst nr) (outputMatrix nr l) x
@@ -53,3 +53,8 @@ decodeOutput nr l y = decodeBy (encodingOf nr l) (outputFirst nr) (outputMatrix 
 pub record SameOuter (nr : ℕ) (k l : List ℕ) : Type 0 where
   pub input : (x : List ℕ) → Block x → encodeInput nr k x ≡ encodeInput nr l x
   pub output : (x : List ℕ) → Block x → encodeOutput nr k x ≡ encodeOutput nr l x
+
+-- "The input coding of each is the output coding of the other" (document 02, Ticket 1), said of what they do to blocks.
+pub record Crossed (nr : ℕ) (l l′ : List ℕ) : Type 0 where
+  pub input : (b : List ℕ) → Block b → encodeInput nr l b ≡ encodeOutput nr l′ b
+  pub output : (b : List ℕ) → Block b → encodeOutput nr l b ≡ encodeInput nr l′ b

@@ -1,3 +1,5 @@
 pub mod Coding
 pub mod Calls
+pub mod Asked
 pub mod Undoing
+pub mod Exchanged

@@ -6,11 +6,11 @@ use Rattle.bits.specs.Bytes.{Bytes, Block}
 use Rattle.bundle.specs.Built.{PlainBut}
 use Rattle.judgement.specs.Judge.{judge}
 use Rattle.answers.specs.declared.Answer.the-variants.{Accepted}
-use Rattle.external.specs.Coding.{encodeInput, decodeInput, outputFirst, tenOutputFirst, encodeOutput, decodeOutput}
+use Rattle.external.specs.Coding.{encodeInput, decodeInput, outputFirst, encodeOutput, decodeOutput}
 
 -- "lists 6,016 to 6,047": document 01's number is the one for ten rounds.
 abbrev pub OutputFirst : Type 0
-OutputFirst = outputFirst 10 ≡ tenOutputFirst
+OutputFirst = outputFirst 10 ≡ 6016
 
 -- Of a block x: uncoding undoes coding and coding undoes uncoding, on both sides, and each gives a block.
 pub record Undone (nr : ℕ) (l x : List ℕ) : Type 0 where

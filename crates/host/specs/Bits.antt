@@ -7,8 +7,8 @@ use lib.ListN.{length}
 use Rattle.answers.specs.declared.Answer.the-variants.{Accepted}
 use Rattle.bits.specs.Flips.{flipped}
 use Rattle.layout.specs.Ciphers.{readsOf}
+use Rattle.calls.specs.Calls.{judgeWhole}
 use Rattle.whitebox.specs.Bundles.{madeSet}
-use Rattle.whitebox.specs.Calls.{judgeWhole}
 use Rattle.whitebox.specs.Demand3.{Given, Presented}
 use Rattle.sensitivity.specs.Reads.{bitsRead}
 use Rattle.sensitivity.specs.Theorems.{Lendable}

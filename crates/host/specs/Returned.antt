@@ -7,7 +7,7 @@ use Rattle.judgement.specs.Judge.{judge}
 use Rattle.external.specs.Calls.{answer}
 use Rattle.tables.specs.Calls.{setAnswer, tableAnswer}
 use Rattle.catalogue.specs.Catalogue.{catalogueEntry, entryAnswer}
-use Rattle.whitebox.specs.Calls.{judgeWhole}
+use Rattle.calls.specs.Calls.{judgeWhole}
 use Rattle.records.specs.Replay.{judgeRecord}
 use Rattle.host.specs.Walks.{walkAnswer}
 

@@ -5,8 +5,8 @@ use lib.ListN.{length}
 use Rattle.answers.specs.Answers.{wantsLength, andThen, ifAccepted}
 use Rattle.answers.specs.declared.Answer.{Answer}
 use Rattle.answers.specs.declared.Refusal.the-variants.{BlockLength}
-use Rattle.whitebox.specs.Calls.{judgeWhole}
-use Rattle.whitebox.specs.Demand2.{walkedOver}
+use Rattle.calls.specs.Calls.{judgeWhole}
+use Rattle.calls.specs.Calls.{walkedOver}
 
 -- For a set, a block and an answer of these lengths: 9, "set .. of wrong length", then 10, "block not 16 bytes, in or out".
 unfoldable pub walkAnswer : ℕ → ℕ → ℕ → Answer

@@ -23,14 +23,15 @@ pub(crate) const NONE: usize = 18446744073709551615;
 pub extern "C" fn tazhikko_judge_bundle(bundle: &[u8]) -> u64
     ensures { λ r. ⌜ r ≡ numberOf (judge 10 (now (bundle .entry))) ⌝ }
 {
-    number(judgement::judge::judge_bundle(bundle))
+    number(judgement::judge::judge_bundle(rounds::TEN, bundle))
 }
 
 // The input coding of a block.
 #[no_mangle]
 pub extern "C" fn tazhikko_encode_input(bundle: &[u8], block: &[u8], out: &mut [u8]) -> u64
     ensures answer { λ r. ⌜ r ≡ numberOf (answer 10 (now (bundle .entry)) (length (now (block .entry))) (length (now (out .entry)))) ⌝ }
-    ensures block { λ _. ⌜ now (out .exit) ≡ leaves 10 (now (bundle .entry)) (encodeInput 10 (now (bundle .entry))) (now (block .entry)) (now (out .entry)) ⌝ }
+    ensures block { λ _. ⌜ now (out .exit) ≡ leaves 10 (now (bundle .entry)) (encodeInput 10 (now (bundle .entry)))
+        (now (block .entry)) (now (out .entry)) ⌝ }
 {
     number(external::coding::encode_input(bundle, block, out))
 }
@@ -39,7 +40,8 @@ pub extern "C" fn tazhikko_encode_input(bundle: &[u8], block: &[u8], out: &mut [
 #[no_mangle]
 pub extern "C" fn tazhikko_encode_output(bundle: &[u8], block: &[u8], out: &mut [u8]) -> u64
     ensures answer { λ r. ⌜ r ≡ numberOf (answer 10 (now (bundle .entry)) (length (now (block .entry))) (length (now (out .entry)))) ⌝ }
-    ensures block { λ _. ⌜ now (out .exit) ≡ leaves 10 (now (bundle .entry)) (encodeOutput 10 (now (bundle .entry))) (now (block .entry)) (now (out .entry)) ⌝ }
+    ensures block { λ _. ⌜ now (out .exit) ≡ leaves 10 (now (bundle .entry)) (encodeOutput 10 (now (bundle .entry)))
+        (now (block .entry)) (now (out .entry)) ⌝ }
 {
     number(external::coding::encode_output(bundle, block, out))
 }
@@ -48,7 +50,8 @@ pub extern "C" fn tazhikko_encode_output(bundle: &[u8], block: &[u8], out: &mut 
 #[no_mangle]
 pub extern "C" fn tazhikko_decode_input(bundle: &[u8], block: &[u8], out: &mut [u8]) -> u64
     ensures answer { λ r. ⌜ r ≡ numberOf (answer 10 (now (bundle .entry)) (length (now (block .entry))) (length (now (out .entry)))) ⌝ }
-    ensures block { λ _. ⌜ now (out .exit) ≡ leaves 10 (now (bundle .entry)) (decodeInput 10 (now (bundle .entry))) (now (block .entry)) (now (out .entry)) ⌝ }
+    ensures block { λ _. ⌜ now (out .exit) ≡ leaves 10 (now (bundle .entry)) (decodeInput 10 (now (bundle .entry)))
+        (now (block .entry)) (now (out .entry)) ⌝ }
 {
     number(external::coding::decode_input(bundle, block, out))
 }
@@ -57,7 +60,8 @@ pub extern "C" fn tazhikko_decode_input(bundle: &[u8], block: &[u8], out: &mut [
 #[no_mangle]
 pub extern "C" fn tazhikko_decode_output(bundle: &[u8], block: &[u8], out: &mut [u8]) -> u64
     ensures answer { λ r. ⌜ r ≡ numberOf (answer 10 (now (bundle .entry)) (length (now (block .entry))) (length (now (out .entry)))) ⌝ }
-    ensures block { λ _. ⌜ now (out .exit) ≡ leaves 10 (now (bundle .entry)) (decodeOutput 10 (now (bundle .entry))) (now (block .entry)) (now (out .entry)) ⌝ }
+    ensures block { λ _. ⌜ now (out .exit) ≡ leaves 10 (now (bundle .entry)) (decodeOutput 10 (now (bundle .entry)))
+        (now (block .entry)) (now (out .entry)) ⌝ }
 {
     number(external::coding::decode_output(bundle, block, out))
 }

@@ -2,7 +2,7 @@
 ghost use mathlib.Core.Path.{_≡_};
 ghost use lib.ListN.{length};
 ghost use Rattle.answers.specs.Numbers.{numberOf};
-ghost use Rattle.whitebox.specs.Calls.{judgeWhole};
+ghost use Rattle.calls.specs.Calls.{judgeWhole};
 ghost use Rattle.next_bit.specs.NextBit.{nextBit};
 ghost use Rattle.host.specs.Bits.{bitLeft};
 use crate::NONE;

@@ -14,7 +14,8 @@ use records::replay::replay;
 // Writes the record of the walk for a cipher, over a whole set, from a block.
 #[no_mangle]
 pub extern "C" fn tazhikko_record(cipher: u64, set: &[u8], block: &[u8], recorded: &mut [u8]) -> u64
-    ensures answer { λ r. ⌜ r ≡ numberOf (judgeRecord 10 (length (now (set .entry))) (length (now (block .entry))) (length (now (recorded .entry)))) ⌝ }
+    ensures answer { λ r. ⌜ r ≡ numberOf (judgeRecord 10 (length (now (set .entry))) (length (now (block .entry)))
+        (length (now (recorded .entry)))) ⌝ }
     ensures bytes { λ _. ⌜ now (recorded .exit) ≡ recordLeft cipher 10 (now (set .entry)) (now (block .entry)) (now (recorded .entry)) ⌝ }
 {
     number(record_walk(cipher, set, block, recorded))
@@ -29,8 +30,10 @@ pub extern "C" fn tazhikko_replay(
     recorded: &[u8],
     differs: &mut usize,
 ) -> u64
-    ensures answer { λ r. ⌜ r ≡ numberOf (judgeRecord 10 (length (now (set .entry))) (length (now (block .entry))) (length (now (recorded .entry)))) ⌝ }
-    ensures lookup { λ _. ⌜ now (differs .exit) ≡ differsLeft (replayed cipher 10 (now (set .entry)) (now (block .entry)) (now (recorded .entry))) (now (differs .entry)) ⌝ }
+    ensures answer { λ r. ⌜ r ≡ numberOf (judgeRecord 10 (length (now (set .entry))) (length (now (block .entry)))
+        (length (now (recorded .entry)))) ⌝ }
+    ensures lookup { λ _. ⌜ now (differs .exit) ≡ differsLeft
+        (replayed cipher 10 (now (set .entry)) (now (block .entry)) (now (recorded .entry))) (now (differs .entry)) ⌝ }
 {
     match replay(cipher, set, block, recorded) {
         Verdict::Own => {

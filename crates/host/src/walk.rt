@@ -10,12 +10,13 @@ use evaluate::walk::fetch;
 use evaluate::walk::move_to;
 use evaluate::walk::start;
 use layout::stage::LOOKUPS;
+use rounds::TEN;
 
 // The answer for these lengths.
 fn judged(set: usize, block: usize, answer: usize) -> Answer
     ensures { λ r. ⌜ r ≡ walkAnswer set block answer ⌝ }
 {
-    let whole = passes::judged(set, block);
+    let whole = passes::judged(TEN, set, block);
     let Answer::Accepted = whole else {
         return whole;
     };
@@ -28,7 +29,8 @@ fn judged(set: usize, block: usize, answer: usize) -> Answer
 // From a block under the input coding to the answer under the output coding, over a whole set, by a walk for a cipher: 0 forward, any other number inverse.
 #[no_mangle]
 pub extern "C" fn tazhikko_walk(cipher: u64, set: &[u8], block: &[u8], answer: &mut [u8]) -> u64
-    ensures answer { λ r. ⌜ r ≡ numberOf (walkAnswer (length (now (set .entry))) (length (now (block .entry))) (length (now (answer .entry)))) ⌝ }
+    ensures answer { λ r. ⌜ r ≡ numberOf (walkAnswer (length (now (set .entry))) (length (now (block .entry)))
+        (length (now (answer .entry)))) ⌝ }
     ensures block { λ _. ⌜ now (answer .exit) ≡ walkLeaves cipher (now (set .entry)) (now (block .entry)) (now (answer .entry)) ⌝ }
 {
     let a = judged(set.len(), block.len(), answer.len());

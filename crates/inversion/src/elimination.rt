@@ -7,7 +7,7 @@ ghost use Rattle.bits.specs.Lists.{tabulate};
 ghost use Rattle.matrices.specs.Matrices.{identity};
 ghost use Rattle.matrices.specs.Rows.{rowsOf, stored};
 ghost use Rattle.inversion.specs.Elimination.{addRow, pivotBy, clearBy, columns};
-ghost use Rattle.inversion.specs.Work.{leftAt, rightAt, lefts, rights, addedTo, ended};
+ghost use Rattle.inversion.specs.Work.{ColumnStep, leftAt, rightAt, lefts, rights, addedTo, ended};
 use crate::search;
 use bits::vector;
 use matrices::matrix::row;
@@ -40,7 +40,7 @@ fn add_row(work: &mut [u64], i: usize, s: usize, c: u64)
 
 // Bit k of row i on the left; 0 for row k itself.
 fn coefficient(work: &[u64], n: usize, k: usize, i: usize) -> u64
-    requires { ⌜ (n ≤ 128) × (4 * n ≤ length (now work)) × (k < n) × (i < n) ⌝ }
+    requires { ⌜ ColumnStep 128 4 n k i (now work) ⌝ }
     ensures { λ r. ⌜ r ≡ clearBy n k (leftAt (now (work .entry))) i ⌝ }
 {
     if i == k {
@@ -52,8 +52,10 @@ fn coefficient(work: &[u64], n: usize, k: usize, i: usize) -> u64
 // Row k clears bit k in every other row.
 fn clear(work: &mut [u64], n: usize, k: usize)
     requires { ⌜ (n ≤ 128) × (4 * n ≤ length (now work)) × (k < n) ⌝ }
-    ensures left { λ _. ⌜ lefts n (now (work .exit)) ≡ tabulate n (addRow (clearBy n k (leftAt (now (work .entry)))) k (leftAt (now (work .entry)))) ⌝ }
-    ensures right { λ _. ⌜ rights n (now (work .exit)) ≡ tabulate n (addRow (clearBy n k (leftAt (now (work .entry)))) k (rightAt (now (work .entry)))) ⌝ }
+    ensures left { λ _. ⌜ lefts n (now (work .exit))
+        ≡ tabulate n (addRow (clearBy n k (leftAt (now (work .entry)))) k (leftAt (now (work .entry)))) ⌝ }
+    ensures right { λ _. ⌜ rights n (now (work .exit))
+        ≡ tabulate n (addRow (clearBy n k (leftAt (now (work .entry)))) k (rightAt (now (work .entry)))) ⌝ }
 {
     let mut i = 0;
     while i < n {
@@ -65,9 +67,11 @@ fn clear(work: &mut [u64], n: usize, k: usize)
 
 // Row k gets bit k from row p, if it lacks it.
 fn pivot(work: &mut [u64], n: usize, k: usize, p: usize)
-    requires { ⌜ (n ≤ 128) × (4 * n ≤ length (now work)) × (k < n) × (p < n) ⌝ }
-    ensures left { λ _. ⌜ lefts n (now (work .exit)) ≡ tabulate n (addRow (pivotBy n k (leftAt (now (work .entry)))) p (leftAt (now (work .entry)))) ⌝ }
-    ensures right { λ _. ⌜ rights n (now (work .exit)) ≡ tabulate n (addRow (pivotBy n k (leftAt (now (work .entry)))) p (rightAt (now (work .entry)))) ⌝ }
+    requires { ⌜ ColumnStep 128 4 n k p (now work) ⌝ }
+    ensures left { λ _. ⌜ lefts n (now (work .exit))
+        ≡ tabulate n (addRow (pivotBy n k (leftAt (now (work .entry)))) p (leftAt (now (work .entry)))) ⌝ }
+    ensures right { λ _. ⌜ rights n (now (work .exit))
+        ≡ tabulate n (addRow (pivotBy n k (leftAt (now (work .entry)))) p (rightAt (now (work .entry)))) ⌝ }
 {
     let b = vector::digit(row(work, 2 * k), n - 1 - k);
     add_row(work, k, p, 1 - b);

@@ -1,9 +1,10 @@
 // Whether a bit matrix of up to 128 rows has an inverse, with none made: the elimination of crate inversion on the matrix alone, and in column k only of the rows
 // behind row k, as no other is looked at again. The definitions are those of crate inversion and of specs/.
 ghost use mathlib.Core.Path.{_≡_};
-ghost use Prim.Native.Nat.{_*_, _<_, _≤_};
+ghost use Prim.Native.Nat.{_*_, _≤_};
 ghost use lib.ListN.{length};
 ghost use Rattle.inversion.specs.Elimination.{invert, hasInverse};
+ghost use Rattle.inversion.specs.Work.{ColumnStep};
 ghost use Rattle.matrices.specs.Matrices.{matrixOf};
 ghost use Rattle.matrices.specs.Rows.{rowAt, rowsOf};
 ghost use Rattle.invertible.specs.Forward.{ClearedBehind};
@@ -15,7 +16,7 @@ use matrices::matrix::set_row;
 
 // Row k, with row p added if it lacks bit k, is added to every row behind it that has bit k.
 fn clear(m: &mut [u64], n: usize, k: usize, p: usize)
-    requires { ⌜ (n ≤ 128) × (2 * n ≤ length (now m)) × (k < n) × (p < n) ⌝ }
+    requires { ⌜ ColumnStep 128 2 n k p (now m) ⌝ }
     ensures { λ _. ⌜ ClearedBehind n k p (rowAt (now (m .entry))) (rowAt (now (m .exit))) ⌝ }
 {
     let s = n - 1 - k;

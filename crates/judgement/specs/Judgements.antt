@@ -1,15 +1,16 @@
 -- What the judgement means, and the parts under it, for a reader: the statements. They are proved in proofs/laws/.
+use mathlib.Core.Bool.{true, false}
 use mathlib.Core.List.{List, []}
 use mathlib.Core.Path.{_≡_}
 use Prim.Native.Nat.{ℕ, _+_, _*_, _≤_, _<_}
 use lib.ListN.{length, take, drop}
 use Rattle.bits.specs.Bytes.{Bytes}
 use Rattle.bits.specs.Encodings.{Permutation}
-use Rattle.matrices.specs.Matrices.{Invertible}
+use Rattle.matrices.specs.Matrices.{Invertible, matrixOf}
 use Rattle.blocks.specs.Theorems.{BlockInvertible, Unfit}
 use Rattle.bundle.specs.Format.{encodings, byteMatrices, columnMatrices, partCount, partSize, offset, PairRight}
 use Rattle.bundle.specs.Format.{partAt, encodingOf, byteMatrix, columnMatrix, inputMatrix, outputMatrix}
-use Rattle.bundle.specs.Frames.{InRange, Framed}
+use Rattle.bundle.specs.Frames.{LengthRight, Framed}
 use Rattle.bundle.specs.FreeBytes.{SameButFree}
 use Rattle.answers.specs.Search.{All, FirstBad}
 use Rattle.answers.specs.Numbers.{causeOf}
@@ -18,9 +19,19 @@ use Rattle.answers.specs.declared.Answer.the-variants.{Accepted, Refused}
 use Rattle.answers.specs.declared.Refusal.{Refusal}
 use Rattle.answers.specs.declared.Refusal.the-variants.{KeyLength, BundleLength, Pair, Encoding, ByteMatrix, ColumnMatrix, InputMatrix}
 use Rattle.answers.specs.declared.Refusal.the-variants.{OutputMatrix, TableNumber, SetLength, BlockLength, Stop, Unfinished, RecordLength, CataloguePosition}
-use Rattle.judgement.specs.Judge.{judge}
+use Rattle.judgement.specs.Judge.{mixingBad, judge}
 
--- ---- what each cause asks; for causes 2 and 3 see Frames.antt of crate bundle
+-- ---- byte and column matrices, each by itself
+-- Document 02, Ticket 5: "such a matrix is refused exactly if it or one of these blocks has no inverse". The bytes p write a matrix of 8 w rows and so of 2 w by 2 w
+-- blocks: w is 1 for a byte matrix and 4 for a column matrix. Its test refuses it exactly if it is unfit, and passes it exactly if it is block invertible.
+pub record MixingTells (w : ℕ) (p : List ℕ) : Type 0 where
+  pub refuses : (mixingBad w p ≡ true → Unfit (2 * w) (matrixOf w p)) × (Unfit (2 * w) (matrixOf w p) → mixingBad w p ≡ true)
+  pub passes : (mixingBad w p ≡ false → BlockInvertible (2 * w) (matrixOf w p)) × (BlockInvertible (2 * w) (matrixOf w p) → mixingBad w p ≡ false)
+
+abbrev pub MixingExact : Type 0
+MixingExact = (w : ℕ) (p : List ℕ) → Bytes p → MixingTells w p
+
+-- ---- what each cause asks of a bundle; for causes 2 and 3 see Frames.antt of crate bundle
 -- Cause 4: list n is a permutation. Causes 5 and 6, of the mixing bijections (document 02, Ticket 5): byte matrix n, of 2 by 2 blocks, and column matrix n, of 8 by 8,
 -- are block invertible. Cause 7: some map undoes the product by the matrix.
 abbrev pub GoodEncoding : ℕ → List ℕ → ℕ → Type 0
@@ -66,8 +77,8 @@ pub record Sound (nr : ℕ) (l : List ℕ) : Type 0 where
 -- Refused: no lower cause applies, and this is the first offender of its kind.
 abbrev pub Why : ℕ → List ℕ → Answer → Type 0
 Why nr l Accepted = Sound nr l
-Why nr l (Refused BundleLength) = InRange nr l → ⊥
-Why nr l (Refused (Pair i)) = InRange nr l × FirstBad 5 (PairRight nr l) i
+Why nr l (Refused BundleLength) = LengthRight nr l → ⊥
+Why nr l (Refused (Pair i)) = LengthRight nr l × FirstBad 5 (PairRight nr l) i
 Why nr l (Refused (Encoding n)) = Framed nr l × FirstBad (encodings nr) (GoodEncoding nr l) n
 Why nr l (Refused (ByteMatrix n)) = Framed nr l × GoodEncodings nr l × FirstUnfit (byteMatrices nr) 2 (byteMatrix nr l) n
 Why nr l (Refused (ColumnMatrix n)) =
@@ -86,14 +97,7 @@ Why nr l (Refused Unfinished) = ⊥
 Why nr l (Refused RecordLength) = ⊥
 Why nr l (Refused CataloguePosition) = ⊥
 
--- ---- the theorems
--- Every judgement is given for its reason, and no other has one: so the judgement is the only one that is right.
-abbrev pub Reasoned : Type 0
-Reasoned = (nr : ℕ) (l : List ℕ) → Bytes l → Why nr l (judge nr l)
-
-abbrev pub Only : Type 0
-Only = (nr : ℕ) (l : List ℕ) → Bytes l → (j : Answer) → Why nr l j → judge nr l ≡ j
-
+-- ---- the theorems: between them they say of every bundle which judgement is given, and why
 -- A bundle of bytes is accepted exactly if it is sound.
 abbrev pub AcceptedExactly : Type 0
 AcceptedExactly = (nr : ℕ) (l : List ℕ) → Bytes l → (judge nr l ≡ Accepted → Sound nr l) × (Sound nr l → judge nr l ≡ Accepted)

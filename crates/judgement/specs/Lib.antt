@@ -1,5 +1,5 @@
 pub mod Judge
 pub mod Judgements
-pub mod Marks
+pub mod Asked
 pub mod Cases
 pub mod Witness

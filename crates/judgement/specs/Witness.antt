@@ -45,7 +45,7 @@ mixingMatrix q = ofBlocks q mixingBlock
 abbrev pub MixingMatrices : Type 0
 MixingMatrices = BlockInvertible 2 (mixingMatrix 2) × BlockInvertible 8 (mixingMatrix 8)
 
--- The bundle that is plain but for these matrices is accepted; for ten rounds the shortest bundle is not too long.
+-- The bundle that is plain but for these matrices is accepted, for every number of rounds for which the shortest bundle is not too long; so for ten.
 unfoldable pub mixingBundle : ℕ → List ℕ
 mixingBundle nr = plainBut nr (λ n. mixingMatrix 2) (λ n. mixingMatrix 8)
 

@@ -1,4 +1,3 @@
 // The judgement of a bundle. The definitions are those of specs/.
 pub mod judge;
-mod marks;
 mod search;

@@ -4,8 +4,9 @@ use mathlib.Core.Path.{_≡_}
 use Prim.Native.Nat.{ℕ, _*_}
 use lib.ListN.{length}
 use Rattle.bundle.specs.Format.{columnMatrices}
+use Rattle.layout.specs.Stages.{InRounds}
 use Rattle.layout.specs.declared.stage.Stage.{Stage}
-use Rattle.layers.specs.Layers.{InRounds, Begins, columnWords, columnInverses, inputInverse, inverseFor, chosenFrom}
+use Rattle.layers.specs.Layers.{Begins, columnWords, columnInverses, inputInverse, inverseFor, chosenFrom}
 
 -- The words that `chosenFrom` hands over begin with those that the table is made with.
 abbrev pub Chosen : Type 0

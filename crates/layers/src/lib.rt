@@ -1,6 +1,6 @@
-// What the spread tables of the cipher's layers are made with: numbers, inverses, values and words, from the key and the bundle.
+// What the spread tables of the cipher's layers are made with: matrix numbers, inverses, values and words, from the key and the bundle.
+pub mod column;
 mod inverse;
 pub mod inverses;
-pub mod numbers;
 pub mod values;
 pub mod words;

@@ -2,24 +2,22 @@
 ghost use mathlib.Core.Path.{_≡_};
 ghost use Prim.Native.Nat.{_+_, _*_, _^_, _<_, _≤_};
 ghost use lib.ListN.{length};
-ghost use Rattle.answers.specs.declared.Answer.the-variants.{Accepted};
-ghost use Rattle.bits.specs.Lists.{partOf};
-ghost use Rattle.bits.specs.Bytes.{number, byte, placed};
+ghost use Rattle.bits.specs.Bytes.{placed};
 ghost use Rattle.bits.specs.Vectors.{dot};
 ghost use Rattle.bits.specs.Words.{value};
 ghost use Rattle.matrices.specs.Matrices.{product, matrixOf};
-ghost use Rattle.matrices.specs.Rows.{rowsOf, stored};
-ghost use Rattle.field.specs.Field.{mul};
 ghost use Rattle.round.specs.State.{mixRows, invMixRows, entry};
-ghost use Rattle.bundle.specs.Format.{frame, tenByteMatrices};
 ghost use Rattle.layout.specs.Ciphers.{forCipher};
-ghost use Rattle.layers.specs.Layers.{spreadWord};
+ghost use Rattle.layers.specs.Asked.{ForSpread};
+ghost use Rattle.layers.specs.Layers.{mixedColumn, byMatrices, spreadBasis, mixedBasis, placedBasis};
+use bits::slices;
 use bits::vector;
 use bits::vector::Vector;
-use bundle::sections;
 use matrices::matrix;
 use round::state::INV_MIX;
 use round::state::MIX;
+use view::found;
+use view::starts::Starts;
 
 // Row t, column q of MixColumns, or of InvMixColumns.
 fn coefficient(cipher: u64, t: usize, q: usize) -> u8
@@ -64,7 +62,7 @@ fn byte_by_part(p: &[u8], x: u8) -> u8
 // The byte y times column q of MixColumns, or of InvMixColumns: four bytes in a word.
 fn mixed(cipher: u64, q: usize, y: u8) -> u64
     requires { ⌜ q < 4 ⌝ }
-    ensures { λ r. ⌜ r ≡ number 4 (λ t. mul (entry (forCipher cipher mixRows invMixRows) t q) y) ⌝ }
+    ensures { λ r. ⌜ r ≡ mixedColumn cipher q y ⌝ }
 {
     let mut v: u64 = 0;
     let mut t: usize = 0;
@@ -83,7 +81,7 @@ fn words_of(p: &[u8]) -> [u64; 32]
     let mut rows = [0u64; 32];
     let mut i: usize = 0;
     while i < 32 {
-        rows[i] = bundle::layout::number_at(p, i * 4) as u64;
+        rows[i] = slices::number_at(p, i * 4) as u64;
         i += 1;
     }
     rows
@@ -105,14 +103,14 @@ fn by_words(rows: &[u64], v: u64) -> u64
 
 // Each of n bytes times its byte matrix: those of the section that are numbered from `first` on.
 fn by_bytes(section: &[u8], first: usize, n: usize, v: Vector) -> Vector
-    requires { ⌜ (length (now section) ≡ tenByteMatrices * 8) × (first + n ≤ tenByteMatrices) × (n ≤ 16) ⌝ }
-    ensures { λ r. ⌜ value r ≡ number n (λ j. product 8 (matrixOf 1 (partOf 8 (now (section .entry)) (first + j))) (byte n j (value v))) ⌝ }
+    requires { ⌜ ((first + n) * 8 ≤ length (now section)) × (first + n ≤ 224) × (n ≤ 16) ⌝ }
+    ensures { λ r. ⌜ value r ≡ byMatrices (now (section .entry)) first n (value v) ⌝ }
 {
     let mut b = [0u8; 16];
     let mut j: usize = 0;
     while j < n {
         b[j] = byte_by_part(
-            sections::part(section, 8, first + j),
+            slices::part(section, 8, first + j),
             vector::byte(v, n - 1 - j),
         );
         j += 1;
@@ -120,13 +118,22 @@ fn by_bytes(section: &[u8], first: usize, n: usize, v: Vector) -> Vector
     vector::read(&b, 0, n)
 }
 
-// Entry and second halves: the byte is placed at i of n bytes and multiplied by the matrix m, then each byte by its byte matrix. The product of m
-// and 2^k at that place is a column of m.
-pub fn spread_basis(bundle: &[u8], m: &[u64], n: usize, i: usize, first: usize, basis: &mut [u64])
-    requires { ⌜ (frame 10 (now bundle) ≡ Accepted) × (n ≤ 16) × (i < n) × (first + n ≤ tenByteMatrices) × (16 * n ≤ length (now m)) × (length (now basis) ≡ 16) ⌝ }
-    ensures { λ _. ⌜ now (basis .exit) ≡ stored 8 (λ k. spreadWord 10 (now (bundle .entry)) (rowsOf (8 * n) (now (m .entry))) n i first (2 ^ k)) (now (basis .entry)) ⌝ }
+// Entry and second halves: the byte is placed at i of n bytes and multiplied by the matrix m, then each byte by its byte
+// matrix. The product of m and 2^k at that place is a column of m.
+pub fn spread_basis(
+    rounds: usize,
+    bundle: &[u8],
+    starts: Starts,
+    m: &[u64],
+    n: usize,
+    i: usize,
+    first: usize,
+    basis: &mut [u64],
+)
+    requires { ⌜ ForSpread rounds (now bundle) starts (now m) n i first (now basis) ⌝ }
+    ensures { λ _. ⌜ now (basis .exit) ≡ spreadBasis rounds (now (bundle .entry)) (now (m .entry)) n i first (now (basis .entry)) ⌝ }
 {
-    let section = sections::section(bundle, 1);
+    let section = found::byte_matrices(rounds, bundle, starts);
     let mut k: usize = 0;
     while k < 8 {
         let v = matrix::column(m, 8 * n, 8 * (n - 1 - i) + k);
@@ -138,7 +145,7 @@ pub fn spread_basis(bundle: &[u8], m: &[u64], n: usize, i: usize, first: usize, 
 // First halves: the byte times column q of MixColumns, or of InvMixColumns, then by the column matrix that bytes write.
 pub fn mixed_basis(cipher: u64, p: &[u8], q: usize, basis: &mut [u64])
     requires { ⌜ (128 ≤ length (now p)) × (q < 4) × (length (now basis) ≡ 16) ⌝ }
-    ensures { λ _. ⌜ now (basis .exit) ≡ stored 8 (λ k. product 32 (matrixOf 4 (now (p .entry))) (number 4 (λ t. mul (entry (forCipher cipher mixRows invMixRows) t q) (2 ^ k)))) (now (basis .entry)) ⌝ }
+    ensures { λ _. ⌜ now (basis .exit) ≡ mixedBasis cipher (now (p .entry)) q (now (basis .entry)) ⌝ }
 {
     let rows = words_of(p);
     let mut k: usize = 0;
@@ -167,7 +174,7 @@ fn written_column(p: &[u8], i: usize, k: usize) -> Vector
 // Exit: the byte is placed at i of a block and multiplied by the output matrix, which bytes write: of 2^k that is a column of the matrix.
 pub fn placed_basis(p: &[u8], i: usize, basis: &mut [u64])
     requires { ⌜ (2048 ≤ length (now p)) × (i < 16) × (length (now basis) ≡ 16) ⌝ }
-    ensures { λ _. ⌜ now (basis .exit) ≡ stored 8 (λ k. product 128 (matrixOf 16 (now (p .entry))) (placed 16 i (2 ^ k))) (now (basis .entry)) ⌝ }
+    ensures { λ _. ⌜ now (basis .exit) ≡ placedBasis (now (p .entry)) i (now (basis .entry)) ⌝ }
 {
     let mut k: usize = 0;
     while k < 8 {

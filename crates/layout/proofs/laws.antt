@@ -6,3 +6,5 @@ pub mod Ciphers
 pub mod Cases
 pub mod Lookup
 pub mod Ten
+pub mod Rounds
+pub mod Numbers

@@ -2,7 +2,7 @@
 -- document 01's table of stages, by ranges of the lookup's number. Definitions only.
 use mathlib.Core.Bool.{cond}
 use mathlib.Core.List.{List, [], _∷_, _++_, map}
-use Prim.Native.Nat.{ℕ, zero, suc, _+_, _-_, _*_, _/_, _%_}
+use Prim.Native.Nat.{ℕ, zero, suc, _+_, _-_, _*_, _/_, _%_, _≤_, _<_}
 use lib.Dec.{ltb}
 use Rattle.network.specs.Lookups.{Shape}
 use Rattle.network.specs.Numbers.{Numbers, sumNumber}
@@ -19,6 +19,14 @@ rounds r (suc n) = First r ∷ Second r ∷ rounds (suc r) n
 
 unfoldable pub stages : ℕ → List Stage
 stages nr = Entry ∷ (rounds 1 (nr - 1) ++ (Exit ∷ []))
+
+-- A stage or half of a cipher of nr rounds: the halves are those of rounds 1 to nr - 1.
+abbrev pub InRounds : ℕ → Stage → Type 0
+InRounds nr Entry = 1 ≤ nr
+InRounds nr (First r) = (1 ≤ r) × (r < nr)
+InRounds nr (Second r) = (1 ≤ r) × (r < nr)
+InRounds nr Exit = 1 ≤ nr
+InRounds nr Beyond = ⊥
 
 -- "Entry and exit: 16 spread tables of 4,096 bytes (256 words of 16 bytes)"; a half has "16 spread tables of 1,024 bytes (256 words of 4
 -- bytes)".
@@ -80,6 +88,13 @@ tenTablesBytes = 770048
 abbrev pub tenSetBytes : ℕ
 tenSetBytes = tenTablesBytes
 
+-- No cipher has more rounds, and no set more bytes of tables than those of as many (document 02, Ticket 14).
+abbrev pub mostRounds : ℕ
+mostRounds = 14
+
+abbrev pub mostBytes : ℕ
+mostBytes = 999424
+
 -- Of table k: its bytes, and those of all tables before it.
 unfoldable pub tableSize : ℕ → ℕ → ℕ
 tableSize nr k = sizeIn (widths nr) k
@@ -133,6 +148,10 @@ firstByte nr (Second r) = 155648 + 57344 * (r - 1)
 firstByte nr Exit = 126976 + 57344 * (nr - 1)
 firstByte nr Beyond = 253952 + 57344 * (nr - 1)
 
+-- The results of a half, as many as the numbers of encodings that it takes.
+abbrev pub halfResults : ℕ
+halfResults = 224
+
 -- The number of the encoding of the first result.
 abbrev pub firstNumber : ℕ → Stage → ℕ
 firstNumber nr Entry = 32
@@ -164,11 +183,14 @@ indexOf nr k = k - firstLookup nr (stageOf nr k)
 abbrev pub placeOf : ℕ → ℕ → Place
 placeOf nr k = record { stage = stageOf nr k; index = indexOf nr k; size = tableSize nr k; offset = tableOffset nr k }
 
--- What the private functions of the code answer: lookup j of a stage or half whose tables begin at `start` and whose words have m bytes,
--- and lookup j of round r, of nr rounds.
+-- What the private functions of the code answer: lookup j of a stage or half whose tables begin at `start` and whose words have m bytes; lookup j of
+-- round r, whose tables stand where they do for every number of rounds; and j lookups behind the last.
 unfoldable pub placeFrom : Stage → ℕ → ℕ → ℕ → Place
 placeFrom s m start j = record { stage = s; index = j; size = sizeOf m j; offset = start + offsetOf m j }
 
-unfoldable pub placeInRound : ℕ → ℕ → ℕ → Place
-placeInRound nr r j =
-    cond (ltb j halfLookups) (placeFrom (First r) 4 (firstByte nr (First r)) j) (placeFrom (Second r) 4 (firstByte nr (Second r)) (j - halfLookups))
+unfoldable pub placeInRound : ℕ → ℕ → Place
+placeInRound r j =
+    cond (ltb j halfLookups) (placeFrom (First r) 4 (firstByte r (First r)) j) (placeFrom (Second r) 4 (firstByte r (Second r)) (j - halfLookups))
+
+abbrev pub placeBeyond : ℕ → ℕ → Place
+placeBeyond j offset = record { stage = Beyond; index = j; size = 0; offset = offset }

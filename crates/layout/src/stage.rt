@@ -1,7 +1,11 @@
 // Where a lookup stands: document 01's table of stages.
 ghost use mathlib.Core.Path.{_≡_};
 ghost use Prim.Native.Nat.{_<_, _≤_};
-ghost use Rattle.layout.specs.Stages.{tenTablesBytes, entryLookups, roundLookups, placeOf, placeFrom, placeInRound, widthOf, sourceOf};
+ghost use Rattle.rounds.specs.Rounds.{Rounds};
+ghost use Rattle.layout.specs.Stages.{lookups, tablesBytes, setBytes, mostRounds, mostBytes, entryLookups, roundLookups};
+ghost use Rattle.layout.specs.Stages.{placeOf, placeFrom, placeInRound, placeBeyond, roundAt, inRound};
+ghost use Rattle.layout.specs.Stages.{widthOf, sourceOf, firstLookup, firstByte};
+ghost use Rattle.layout.specs.declared.stage.Stage.the-variants.{Exit};
 ghost use Rattle.layout.specs.Ciphers.{readsOf};
 use crate::cipher::reads_of;
 
@@ -14,10 +18,7 @@ pub enum Stage {
     Beyond,
 }
 
-// The rounds of the cipher.
-pub const ROUNDS: usize = 10;
-
-// The lookups of a set of ten rounds, the bytes of its tables, and its bytes.
+// Of ten rounds, a cipher with a key of 16 bytes: the lookups of its set, and its bytes.
 pub const LOOKUPS: usize = 3008;
 
 const TABLES_BYTES: usize = 770048;
@@ -37,19 +38,61 @@ pub const HALF_LOOKUPS: usize = 112;
 
 const ROUND_LOOKUPS: usize = 224;
 
-// The exit's first lookup, of ten rounds.
-pub const EXIT_FIRST: usize = 2512;
-
-// Where tables begin: those of round 1's first and second half, and of ten rounds' exit. A half has `HALF_BYTES` bytes of tables.
+// Where tables begin: those of round 1's first and second half. A half has `HALF_BYTES` bytes of tables.
 pub const FIRST_HALF_START: usize = 126976;
 
 const SECOND_HALF_START: usize = FIRST_HALF_START + HALF_BYTES;
 
-pub const EXIT_START: usize = 643072;
-
 pub const HALF_BYTES: usize = 28672;
 
 const ROUND_BYTES: usize = 2 * HALF_BYTES;
+
+// The lookups of a set.
+pub fn lookups_in(rounds: usize) -> usize
+    requires { ⌜ Rounds rounds ⌝ }
+    ensures { λ r. ⌜ r ≡ lookups rounds ⌝ }
+{
+    match rounds {
+        10 => LOOKUPS,
+        12 => 3456,
+        _ => 3904,
+    }
+}
+
+// The bytes of a set's tables.
+pub fn tables_bytes(rounds: usize) -> usize
+    requires { ⌜ Rounds rounds ⌝ }
+    ensures { λ r. ⌜ r ≡ tablesBytes rounds ⌝ }
+{
+    match rounds {
+        10 => TABLES_BYTES,
+        12 => 884736,
+        _ => 999424,
+    }
+}
+
+// The bytes of a set.
+pub fn set_bytes(rounds: usize) -> usize
+    requires { ⌜ Rounds rounds ⌝ }
+    ensures { λ r. ⌜ r ≡ setBytes rounds ⌝ }
+{
+    tables_bytes(rounds)
+}
+
+// The exit's first lookup, and where its tables begin.
+pub fn exit_first(rounds: usize) -> usize
+    requires { ⌜ Rounds rounds ⌝ }
+    ensures { λ r. ⌜ r ≡ firstLookup rounds Exit ⌝ }
+{
+    ENTRY_LOOKUPS + ROUND_LOOKUPS * (rounds - 1)
+}
+
+pub fn exit_start(rounds: usize) -> usize
+    requires { ⌜ Rounds rounds ⌝ }
+    ensures { λ r. ⌜ r ≡ firstByte rounds Exit ⌝ }
+{
+    FIRST_HALF_START + ROUND_BYTES * (rounds - 1)
+}
 
 // A lookup's stage or half, its number there, and the size and the offset of its table.
 pub struct Place {
@@ -61,7 +104,7 @@ pub struct Place {
 
 // Lookup j of a stage or half whose tables begin at `start` and whose words have `width` bytes.
 fn placed(stage: Stage, width: usize, start: usize, j: usize) -> Place
-    requires { ⌜ (width ≤ 16) × (start ≤ tenTablesBytes) × (j < entryLookups) ⌝ }
+    requires { ⌜ (width ≤ 16) × (start ≤ mostBytes) × (j < entryLookups) ⌝ }
     ensures { λ r. ⌜ r ≡ placeFrom stage width start j ⌝ }
 {
     match j {
@@ -82,8 +125,8 @@ fn placed(stage: Stage, width: usize, start: usize, j: usize) -> Place
 
 // Lookup j of a round.
 fn in_round(round: usize, j: usize) -> Place
-    requires { ⌜ (1 ≤ round) × (round ≤ 9) × (j < roundLookups) ⌝ }
-    ensures { λ r. ⌜ r ≡ placeInRound 10 round j ⌝ }
+    requires { ⌜ (1 ≤ round) × (round < mostRounds) × (j < roundLookups) ⌝ }
+    ensures { λ r. ⌜ r ≡ placeInRound round j ⌝ }
 {
     let before = ROUND_BYTES * (round - 1);
     match j {
@@ -97,22 +140,52 @@ fn in_round(round: usize, j: usize) -> Place
     }
 }
 
-// The place of lookup n of a set of ten rounds, for any n.
-pub fn place_of(n: usize) -> Place
-    ensures { λ r. ⌜ r ≡ placeOf 10 n ⌝ }
+// Lookup n behind the entry and before the exit.
+fn between(n: usize) -> Place
+    requires { ⌜ (entryLookups ≤ n) × (n < firstLookup mostRounds Exit) ⌝ }
+    ensures { λ r. ⌜ r ≡ placeInRound (roundAt n) (inRound n) ⌝ }
 {
-    match n {
-        0..=495 => placed(Stage::Entry, 16, 0, n),
-        496..=2511 => in_round(
-            (n - ENTRY_LOOKUPS) / ROUND_LOOKUPS + 1,
-            (n - ENTRY_LOOKUPS) % ROUND_LOOKUPS,
-        ),
-        2512..=3007 => placed(Stage::Exit, 16, EXIT_START, n - EXIT_FIRST),
-        _ => Place {
-            stage: Stage::Beyond,
-            index: n - LOOKUPS,
-            size: 0,
-            offset: TABLES_BYTES,
+    in_round(
+        (n - ENTRY_LOOKUPS) / ROUND_LOOKUPS + 1,
+        (n - ENTRY_LOOKUPS) % ROUND_LOOKUPS,
+    )
+}
+
+// Behind the last lookup, by j lookups, and behind all tables.
+fn beyond(j: usize, offset: usize) -> Place
+    ensures { λ r. ⌜ r ≡ placeBeyond j offset ⌝ }
+{
+    Place {
+        stage: Stage::Beyond,
+        index: j,
+        size: 0,
+        offset: offset,
+    }
+}
+
+// The place of lookup n of a set, for any n.
+pub fn place_of(rounds: usize, n: usize) -> Place
+    requires { ⌜ Rounds rounds ⌝ }
+    ensures { λ r. ⌜ r ≡ placeOf rounds n ⌝ }
+{
+    match rounds {
+        10 => match n {
+            0..=495 => placed(Stage::Entry, 16, 0, n),
+            496..=2511 => between(n),
+            2512..=3007 => placed(Stage::Exit, 16, 643072, n - 2512),
+            _ => beyond(n - 3008, 770048),
+        },
+        12 => match n {
+            0..=495 => placed(Stage::Entry, 16, 0, n),
+            496..=2959 => between(n),
+            2960..=3455 => placed(Stage::Exit, 16, 757760, n - 2960),
+            _ => beyond(n - 3456, 884736),
+        },
+        _ => match n {
+            0..=495 => placed(Stage::Entry, 16, 0, n),
+            496..=3407 => between(n),
+            3408..=3903 => placed(Stage::Exit, 16, 872448, n - 3408),
+            _ => beyond(n - 3904, 999424),
         },
     }
 }

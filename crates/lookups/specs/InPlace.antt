@@ -23,6 +23,40 @@ use Rattle.layout.specs.declared.stage.Stage.{Stage}
 abbrev pub offsetLimit : ℕ
 offsetLimit = 4294967296
 
+-- ---- what the functions ask
+-- The two arrays of a walk: its standing bytes s and its spread area a.
+pub record Lent (s a : List ℕ) : Type 0 where
+  pub standing : length s ≡ 16
+  pub area : length a ≡ 256
+
+-- Spread lookup p is one of 16, of words of m bytes, and its table has a word for each byte.
+pub record SpreadIn (m p long : ℕ) : Type 0 where
+  pub width : m ≤ 16
+  pub within : p < 16
+  pub sized : long ≡ 256 * m
+
+-- XOR lookup x is one of a stage or half of that width.
+abbrev pub XorIn : ℕ → ℕ → Type 0
+XorIn m x = ((m ≡ 16) × (x < 480)) ⊎ ((m ≡ 4) × (x < 96))
+
+-- The tables t and u of two XOR lookups, those of the high and of the low nibble of a byte.
+pub record XorTables (t u : List ℕ) : Type 0 where
+  pub high : length t ≡ 128
+  pub low : length u ≡ 128
+
+-- Lookup j is one of the stage or half, and its table, which begins at byte `from` of the set, has the given length.
+pub record Fits (s : Stage) (j from long : ℕ) : Type 0 where
+  pub within : j < layerLookups (widthOf s)
+  pub sized : long ≡ sizeOf (widthOf s) j
+  pub short : from ≤ offsetLimit
+
+-- The tables of a stage or half, from byte `from` on, lie in memory of the given length.
+pub record LayerStands (s : Stage) (from long : ℕ) : Type 0 where
+  pub width : (widthOf s ≡ 4) ⊎ (widthOf s ≡ 16)
+  pub room : from + layerBytes (widthOf s) ≤ long
+  pub short : long ≤ offsetLimit
+
+-- ---- what they leave
 -- The byte x with the half replaced that is nibble q of a list.
 abbrev pub withHalf : ℕ → ℕ → ℕ → ℕ
 withHalf x q v = cond (eqb (q % 2) 0) (pack v (x % 16)) (pack (x / 16) v)
@@ -50,21 +84,6 @@ pub record PairRead (high low : List ℕ) (sum added : ℕ) (a : List ℕ) (e : 
   pub entry : e ≡ pack (at a sum % 16) (at a added % 16)
   pub below : e < 256
   pub area : a′ ≡ xorByte high low sum added a
-
--- Lookup j is one of the stage or half, and its table has the given length.
-pub record Fits (s : Stage) (j long : ℕ) : Type 0 where
-  pub within : j < layerLookups (widthOf s)
-  pub sized : long ≡ sizeOf (widthOf s) j
-
--- The tables of a stage or half, from byte `from` on, lie in memory of the given length.
-pub record Holds (s : Stage) (from long : ℕ) : Type 0 where
-  pub width : (widthOf s ≡ 4) ⊎ (widthOf s ≡ 16)
-  pub room : from + layerBytes (widthOf s) ≤ long
-  pub short : long ≤ offsetLimit
-
--- XOR lookup x is one of a stage or half of that width.
-abbrev pub XorIn : ℕ → ℕ → Type 0
-XorIn m x = ((m ≡ 16) × (x < 480)) ⊎ ((m ≡ 4) × (x < 96))
 
 -- XOR lookup x of a stage or half of width m, over the table t, reads entry e and turns the area a into a′.
 pub record XorMade (m x : ℕ) (t a : List ℕ) (e : ℕ) (a′ : List ℕ) : Type 0 where

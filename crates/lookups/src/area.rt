@@ -1,11 +1,11 @@
 // The spread area, changed in place.
 ghost use mathlib.Core.Logic.{_⊎_};
 ghost use mathlib.Core.Path.{_≡_};
-ghost use Prim.Native.Nat.{_+_, _*_, _/_, _%_, _<_, _≤_};
+ghost use Prim.Native.Nat.{_+_, _*_, _/_, _%_, _<_};
 ghost use lib.ListN.{length};
 ghost use Rattle.bits.specs.Nibbles.{half, nibble, pack};
 ghost use Rattle.network.specs.Lookups.{sums, zeroArea};
-ghost use Rattle.lookups.specs.InPlace.{withHalf, SpreadRead, XorRead, PairRead};
+ghost use Rattle.lookups.specs.InPlace.{SpreadIn, XorTables, withHalf, SpreadRead, XorRead, PairRead};
 use bits::encoding;
 
 // The half of the byte x that is nibble q of a list.
@@ -60,10 +60,11 @@ pub fn xor(area: &mut [u8; 256], table: &[u8], sum: usize, added: usize) -> usiz
     e
 }
 
-// Two XOR lookups in a row, those of the two nibbles of a byte: the high nibble over one table, then the low nibble over the next. The byte
-// is read and written once, which halves the time of a walk. Hands back the entry that the second read.
+// Two XOR lookups in a row, those of the two nibbles of a byte: the high nibble over one table, then the low nibble
+// over the next. The byte is read and written once, which halves the time of a walk. Hands back the entry that the
+// second read.
 pub fn xor_byte(area: &mut [u8; 256], high: &[u8], low: &[u8], sum: usize, added: usize) -> usize
-    requires { ⌜ (sum < 256) × (added < 256) × (length (now high) ≡ 128) × (length (now low) ≡ 128) ⌝ }
+    requires { ⌜ (sum < 256) × (added < 256) × XorTables (now high) (now low) ⌝ }
     ensures { λ r. ⌜ PairRead (now (high .entry)) (now (low .entry)) sum added (now (area .entry)) r (now (area .exit)) ⌝ }
 {
     let a = area[sum];
@@ -78,7 +79,7 @@ pub fn xor_byte(area: &mut [u8; 256], high: &[u8], low: &[u8], sum: usize, added
 // A spread lookup: the byte s picks a word of the table, which becomes word p of the area. Hands back the byte
 // of the table where it begins.
 pub fn spread(area: &mut [u8; 256], table: &[u8], width: usize, p: usize, s: u8) -> usize
-    requires { ⌜ (length (now area) ≡ 256) × (width ≤ 16) × (p < 16) × (length (now table) ≡ 256 * width) ⌝ }
+    requires { ⌜ SpreadIn width p (length (now table)) × (length (now area) ≡ 256) ⌝ }
     ensures { λ r. ⌜ SpreadRead (now (table .entry)) width p s (now (area .entry)) r (now (area .exit)) ⌝ }
 {
     let to = p * width;

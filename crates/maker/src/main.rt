@@ -11,7 +11,7 @@ use layout::stage::SET_BYTES;
 use streams::line::refusal_line;
 use streams::stream::receive;
 use streams::stream::send;
-use tables::calls::make_set;
+use tables::make::make_set;
 
 // What the maker writes for a key and a bundle, at the front of the lent memory: the set, or the refusal's line. Its length.
 fn make(key: &[u8], bundle: &[u8], memory: &mut [u8]) -> usize

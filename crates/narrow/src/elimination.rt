@@ -6,7 +6,7 @@ ghost use Rattle.bits.specs.Lists.{tabulate};
 ghost use Rattle.matrices.specs.Matrices.{identity, matrixOf};
 ghost use Rattle.matrices.specs.Rows.{stored};
 ghost use Rattle.inversion.specs.Elimination.{addRow, pivotBy, clearBy, pivotFrom, columns};
-ghost use Rattle.inversion.specs.Work.{ended};
+ghost use Rattle.inversion.specs.Work.{ColumnStep, ended};
 ghost use Rattle.narrow.specs.Halves.{leftAt, rightAt};
 use crate::halves;
 use bits::vector;
@@ -44,9 +44,11 @@ fn find(work: &[u64], n: usize, k: usize) -> usize
 
 // Row k gets bit k from row p, if it lacks it.
 fn pivot(work: &mut [u64], n: usize, k: usize, p: usize)
-    requires { ⌜ (n ≤ 32) × (n ≤ length (now work)) × (k < n) × (p < n) ⌝ }
-    ensures left { λ _. ⌜ tabulate n (leftAt (now (work .exit))) ≡ tabulate n (addRow (pivotBy n k (leftAt (now (work .entry)))) p (leftAt (now (work .entry)))) ⌝ }
-    ensures right { λ _. ⌜ tabulate n (rightAt (now (work .exit))) ≡ tabulate n (addRow (pivotBy n k (leftAt (now (work .entry)))) p (rightAt (now (work .entry)))) ⌝ }
+    requires { ⌜ ColumnStep 32 1 n k p (now work) ⌝ }
+    ensures left { λ _. ⌜ tabulate n (leftAt (now (work .exit)))
+        ≡ tabulate n (addRow (pivotBy n k (leftAt (now (work .entry)))) p (leftAt (now (work .entry)))) ⌝ }
+    ensures right { λ _. ⌜ tabulate n (rightAt (now (work .exit)))
+        ≡ tabulate n (addRow (pivotBy n k (leftAt (now (work .entry)))) p (rightAt (now (work .entry)))) ⌝ }
 {
     let x = work[k];
     let lacks = 1 - halves::digit(x, n - 1 - k);
@@ -56,8 +58,10 @@ fn pivot(work: &mut [u64], n: usize, k: usize, p: usize)
 // Row k clears bit k in every other row. No row is left out of the loop, which so has no branch: row k, which is lost in it, is put back.
 fn clear(work: &mut [u64], n: usize, k: usize)
     requires { ⌜ (n ≤ 32) × (n ≤ length (now work)) × (k < n) ⌝ }
-    ensures left { λ _. ⌜ tabulate n (leftAt (now (work .exit))) ≡ tabulate n (addRow (clearBy n k (leftAt (now (work .entry)))) k (leftAt (now (work .entry)))) ⌝ }
-    ensures right { λ _. ⌜ tabulate n (rightAt (now (work .exit))) ≡ tabulate n (addRow (clearBy n k (leftAt (now (work .entry)))) k (rightAt (now (work .entry)))) ⌝ }
+    ensures left { λ _. ⌜ tabulate n (leftAt (now (work .exit)))
+        ≡ tabulate n (addRow (clearBy n k (leftAt (now (work .entry)))) k (leftAt (now (work .entry)))) ⌝ }
+    ensures right { λ _. ⌜ tabulate n (rightAt (now (work .exit)))
+        ≡ tabulate n (addRow (clearBy n k (leftAt (now (work .entry)))) k (rightAt (now (work .entry)))) ⌝ }
 {
     let top = work[k];
     let mut i = 0;
@@ -72,7 +76,8 @@ fn clear(work: &mut [u64], n: usize, k: usize)
 // The elimination of n columns; false where one has no pivot.
 pub fn eliminate(work: &mut [u64], n: usize) -> bool
     requires { ⌜ (n ≤ 32) × (n ≤ length (now work)) ⌝ }
-    ensures { λ r. ⌜ columns n n 0 (tabulate n (leftAt (now (work .entry)))) (tabulate n (rightAt (now (work .entry)))) ≡ ended r (tabulate n (rightAt (now (work .exit)))) ⌝ }
+    ensures { λ r. ⌜ columns n n 0 (tabulate n (leftAt (now (work .entry)))) (tabulate n (rightAt (now (work .entry))))
+        ≡ ended r (tabulate n (rightAt (now (work .exit)))) ⌝ }
 {
     let mut k = 0;
     while k < n {

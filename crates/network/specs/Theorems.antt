@@ -2,16 +2,18 @@
 -- gathers them. Only names of this folder's definitions and of crate bits stand here.
 use mathlib.Core.List.{List, [], _∷_, _++_, map}
 use mathlib.Core.Path.{_≡_}
-use Prim.Native.Nat.{ℕ, suc, _+_, _≤_, _<_}
+use Prim.Native.Nat.{ℕ, suc, _+_, _*_, _≤_, _<_}
+use lib.Dec.{eqb}
 use lib.ListN.{length, take, drop}
 use Rattle.bits.specs.Bytes.{Bytes, Block}
+use Rattle.bits.specs.Counts.{chosen}
 use Rattle.bits.specs.Encodings.{decode, Permutation}
 use Rattle.bits.specs.Lists.{concat}
 use Rattle.bits.specs.Nibbles.{nibble}
 use Rattle.network.specs.Due.{Values, Due, held, blank, valuesOf, leftBy, standingDue, areaDue, closed, encoded, decoded}
 use Rattle.network.specs.Lookups.{State, Shape, stateAt, zeroArea, lookupIn, lookupAt, walked}
 use Rattle.network.specs.Numbers.{Numbers, startNumbers, numbersAfter}
-use Rattle.network.specs.Order.{GoodWidth}
+use Rattle.network.specs.Order.{GoodWidth, sumPlace, place, added}
 use Rattle.network.specs.Read.{readIn, lookupFrom, entryBytes}
 use Rattle.network.specs.Rule.{under, labelOf, labels, firstResult, ruleAt}
 use Rattle.network.specs.Sizes.{sizeOf, lookupsIn, bytesIn, resultsIn, sizeIn, offsetIn}
@@ -60,6 +62,10 @@ PlaceByPlace =
     → ((q : ℕ) → q < 32 → Reads E (nibble (closed E Ls N l from k .standing) q) (standingDue (valuesOf Ls l) (leftBy Ls l) N k q))
     × ((q : ℕ) → q < 512 → Reads E (nibble (closed E Ls N l from k .area) q) (areaDue (valuesOf Ls l) N k q))
 
+-- "The XOR of the words summed so far": how many words `added` says were added to nibble h of word w is how many of the first x XOR lookups put their result there.
+abbrev pub AddedSoFar : Type 0
+AddedSoFar = (m : ℕ) → GoodWidth m → (x w h : ℕ) → h < 2 * m → added m x w h ≡ length (chosen (λ y. eqb (sumPlace m y) (place m w h)) x)
+
 -- ---- THE NUMBERS OF THE ENCODINGS ARE THOSE OF THE RULE
 -- The encoding of each value due is that of the last lookup below the count whose result was put at its place.
 abbrev pub GoodWidths : List ℕ → Type 0
@@ -81,8 +87,8 @@ RuleTables =
     → tableAt E Ls startNumbers k ≡ ruleAt E Ls k (firstResult (widthsOf Ls) k) (labels (widthsOf Ls) k)
 
 -- No table uses an encoding whose number is past the last result's.
-abbrev pub InRange : Type 0
-InRange =
+abbrev pub NumbersInRange : Type 0
+NumbersInRange =
     (E E′ : ℕ → List ℕ) (Ls : List Layer) → AllGood Ls → ((n : ℕ) → n < 32 + resultsIn (widthsOf Ls) → E n ≡ E′ n)
     → (k : ℕ) → tableAt E Ls startNumbers k ≡ tableAt E′ Ls startNumbers k
 
@@ -122,9 +128,10 @@ pub record Network : Type 0 where
   pub from-any-layer : FromAnyLayer
   pub at-the-end : AtTheEnd
   pub place-by-place : PlaceByPlace
+  pub added-so-far : AddedSoFar
   pub rule-labels : RuleLabels
   pub rule-tables : RuleTables
-  pub in-range : InRange
+  pub in-range : NumbersInRange
   pub table-parts : TableParts
   pub reads-its-table : ReadsItsTable
   pub puts-what-it-reads : PutsWhatItReads

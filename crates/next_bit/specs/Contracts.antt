@@ -2,9 +2,14 @@
 use mathlib.Core.List.{List}
 use mathlib.Core.Path.{_≡_}
 use Prim.Native.Nat.{ℕ}
-use Rattle.next_bit.specs.NextBit.{nextBit}
+use lib.ListN.{length}
+use Rattle.answers.specs.Answers.{replyOf}
+use Rattle.calls.specs.Calls.{judgeWhole}
+use Rattle.next_bit.specs.NextBit.{bitAnswer, nextBit}
 use Rattle.next_bit.specs.declared.search.NextBit.{NextBit}
 
--- `next_bit` for the cipher c over this set and block, from the bit `from` on, hands back r.
-abbrev pub Finds : ℕ → ℕ → List ℕ → List ℕ → ℕ → NextBit → Type 0
-Finds c nr set block from r = r ≡ nextBit c nr set block from
+-- `next_bit` for the cipher c over this set and block, from the bit `from` on, hands back r: the bit or that none is left, and what it says in the documents' numbers,
+-- which is what the lengths give.
+pub record Finds (c nr : ℕ) (set block : List ℕ) (from : ℕ) (r : NextBit) : Type 0 where
+  pub result : r ≡ nextBit c nr set block from
+  pub reply : replyOf (bitAnswer r) ≡ replyOf (judgeWhole nr (length set) (length block))

@@ -10,7 +10,7 @@ use Rattle.answers.specs.declared.Answer.{Answer}
 use Rattle.answers.specs.declared.Answer.the-variants as answer
 use Rattle.answers.specs.declared.Answer.the-variants.{Accepted}
 use Rattle.layout.specs.Ciphers.{readsOf}
-use Rattle.whitebox.specs.Calls.{judgeWhole}
+use Rattle.calls.specs.Calls.{judgeWhole}
 use Rattle.sensitivity.specs.Reads.{bitsRead}
 use Rattle.next_bit.specs.declared.search.NextBit.{NextBit}
 use Rattle.next_bit.specs.declared.search.NextBit.the-variants.{Bit, NoneLeft, Refused}
@@ -26,10 +26,10 @@ nextBy Accepted r = r
 nextBy (answer.Refused why) r = Refused why
 
 -- The answer in it: a call is accepted whether or not a bit is left.
-abbrev pub answerOf : NextBit → Answer
-answerOf (Bit v) = Accepted
-answerOf NoneLeft = Accepted
-answerOf (Refused why) = answer.Refused why
+abbrev pub bitAnswer : NextBit → Answer
+bitAnswer (Bit v) = Accepted
+bitAnswer NoneLeft = Accepted
+bitAnswer (Refused why) = answer.Refused why
 
 unfoldable pub nextBit : ℕ → ℕ → List ℕ → List ℕ → ℕ → NextBit
 nextBit c nr set block from = nextBy (judgeWhole nr (length set) (length block)) (nextIn (bitsRead (readsOf c) nr set block) from)

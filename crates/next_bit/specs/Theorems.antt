@@ -2,6 +2,7 @@
 -- definitions; here it is stated of calls of `next_bit` that meet the contract of src/search.rt (`Finds`) and of walks that meet those of evaluate/src/walk.rt. Of any
 -- number nr of rounds and either cipher.
 use mathlib.Core.List.{List, [], _∷_, map}
+use mathlib.Core.Logic.{_↔_}
 use mathlib.Core.Path.{_≡_}
 use Prim.Native.Nat.{ℕ, suc, _+_, _-_, _*_}
 use lib.ListN.{length}
@@ -11,34 +12,34 @@ use Rattle.bits.specs.Flips.{flipped}
 use Rattle.round.specs.Key.{roundsOf}
 use Rattle.layout.specs.Ciphers.{kept, readsOf}
 use Rattle.layout.specs.Stages.{setBytes}
+use Rattle.calls.specs.Calls.{judgeWhole}
+use Rattle.calls.specs.PlainCount.{Alike}
 use Rattle.whitebox.specs.Bundles.{madeSet}
-use Rattle.whitebox.specs.Calls.{judgeWhole}
 use Rattle.whitebox.specs.Demand3.{Given, Presented}
-use Rattle.whitebox.specs.PlainCount.{Alike}
 use Rattle.sensitivity.specs.Reads.{bitsRead}
 use Rattle.sensitivity.specs.Theorems.{Lendable, LentOver}
 use Rattle.evaluate.specs.Chains.{CallMade, callOf, servedIn, Chain}
 use Rattle.evaluate.specs.Contracts.{Opens}
-use Rattle.evaluate.specs.Demands.{WalkMade}
+use Rattle.evaluate.specs.Whole.{WalkMade}
 use Rattle.evaluate.specs.declared.walk.Opening.{Opening}
 use Rattle.next_bit.specs.Contracts.{Finds}
-use Rattle.next_bit.specs.NextBit.{answerOf, nextBit}
+use Rattle.next_bit.specs.NextBit.{bitAnswer, nextBit}
 use Rattle.next_bit.specs.Search.{Tells}
 use Rattle.next_bit.specs.declared.search.NextBit.{NextBit}
 use Rattle.next_bit.specs.declared.search.NextBit.the-variants.{Bit, NoneLeft}
 
 -- ---- what is turned down, for a set and a block of these lengths: "wrong lengths get 9 and 10 as before"
-pub record Tests (nr set block : ℕ) : Type 0 where
+pub record BitTests (nr set block : ℕ) : Type 0 where
   pub set-first : (set ≡ setBytes nr → ⊥) → replyOf (judgeWhole nr set block) ≡ refused 9 0
   pub block-second : set ≡ setBytes nr → (block ≡ 16 → ⊥) → replyOf (judgeWhole nr set block) ≡ refused 10 0
   pub none : set ≡ setBytes nr → block ≡ 16 → judgeWhole nr set block ≡ Accepted
 
 abbrev pub TestsInOrder : Type 0
-TestsInOrder = (nr set block : ℕ) → Tests nr set block
+TestsInOrder = (nr set block : ℕ) → BitTests nr set block
 
 -- The call answers by these tests alone, whatever number it is given.
 abbrev pub AnswersByLengths : Type 0
-AnswersByLengths = (c nr : ℕ) (set x : List ℕ) (from : ℕ) (r : NextBit) → Finds c nr set x from r → answerOf r ≡ judgeWhole nr (length set) (length x)
+AnswersByLengths = (c nr : ℕ) (set x : List ℕ) (from : ℕ) (r : NextBit) → Finds c nr set x from r → bitAnswer r ≡ judgeWhole nr (length set) (length x)
 
 -- It goes by the cipher that the number names, as a walk does.
 abbrev pub GoesByCipher : Type 0
@@ -74,19 +75,19 @@ OthersAloneMade =
     → LentOver nr set (map callOf ms) → LentOver nr (flipped set i) (map callOf ms′) → servedIn nr (o .walk) ms′ ≡ servedIn nr (o .walk) ms
 
 -- ---- of a made set, and any presented block: "turning over one bit changes the answer for that block exactly when the bit is in the list"
--- What a walk over the set left in a lent block of 16 bytes, and what one over the set with bit i turned over left: they differ exactly if a call from i on gives i.
-pub record RestsOn (c nr : ℕ) (set x : List ℕ) (i : ℕ) (r : NextBit) : Type 0 where
-  pub changes : r ≡ Bit i → (lent lent′ left left′ : List ℕ) → length lent ≡ 16 → length lent′ ≡ 16
-      → WalkMade c nr set x lent left → WalkMade c nr (flipped set i) x lent′ left′ → left′ ≡ left → ⊥
-  pub keeps : (r ≡ Bit i → ⊥) → (lent lent′ left left′ : List ℕ) → length lent ≡ 16 → length lent′ ≡ 16
-      → WalkMade c nr set x lent left → WalkMade c nr (flipped set i) x lent′ left′ → left′ ≡ left
-  pub only : (lent lent′ left left′ : List ℕ) → length lent ≡ 16 → length lent′ ≡ 16
-      → WalkMade c nr set x lent left → WalkMade c nr (flipped set i) x lent′ left′ → (left′ ≡ left → ⊥) → r ≡ Bit i
+-- A call from i on handed back r, a walk over the set left `left`, and one over the set with bit i turned over left `left′`: these differ exactly if r is bit i. Where it is
+-- not, they are the same.
+pub record RestsOn (i : ℕ) (r : NextBit) (left left′ : List ℕ) : Type 0 where
+  pub differ-exactly : (left′ ≡ left → ⊥) ↔ (r ≡ Bit i)
+  pub keeps : (r ≡ Bit i → ⊥) → left′ ≡ left
 
+-- Each of the two walks was lent any block of 16 bytes.
 abbrev pub AnswersRestOn : ℕ → Type 0
 AnswersRestOn nk =
     (c : ℕ) (key l x : List ℕ) → Given nk key l → Presented x → (i : ℕ) (r : NextBit) → Finds c (roundsOf nk) (madeSet c nk key l) x i r
-    → RestsOn c (roundsOf nk) (madeSet c nk key l) x i r
+    → (lent lent′ left left′ : List ℕ) → length lent ≡ 16 → length lent′ ≡ 16
+    → WalkMade c (roundsOf nk) (madeSet c nk key l) x lent left → WalkMade c (roundsOf nk) (flipped (madeSet c nk key l) i) x lent′ left′
+    → RestsOn i r left left′
 
 -- ---- All of them.
 pub record BitsHad : Type 0 where

@@ -1,20 +1,23 @@
-// One pass over a whole set, lookup by lookup, for calls that look at each lookup: the lengths that they ask for, and one lookup by its number.
+// One lookup over a whole set, by its place or by its number, for calls that walk over one; and the lengths that calls
+// ask for which look at each lookup.
 ghost use mathlib.Core.Path.{_≡_};
-ghost use Prim.Native.Nat.{_<_};
 ghost use lib.ListN.{length};
 ghost use Rattle.layout.specs.Ciphers.{readsOf};
-ghost use Rattle.layout.specs.Stages.{tenLookups, tenSetBytes};
-ghost use Rattle.whitebox.specs.Calls.{judgeWhole};
-ghost use Rattle.passes.specs.InPlace.{LookupMade};
+ghost use Rattle.rounds.specs.Rounds.{Rounds};
+ghost use Rattle.calls.specs.Calls.{judgeWhole};
+ghost use Rattle.lookups.specs.InPlace.{Lent};
+ghost use Rattle.passes.specs.InPlace.{StandsIn, MadeAt, LookupAsked, LookupMade};
 use answers::Answer;
 use answers::Refusal;
-use layout::stage::SET_BYTES;
+use layout::stage::Place;
 use layout::stage::place_of;
+use layout::stage::set_bytes;
 use layout::stage::width_of;
 use lookups::layer;
 
-// What is told of a lookup: the place of the set that it read, as an `EntryPlace` has it, its number in its stage or half, and the bytes of a word there. The
-// place's two numbers stand apart: one behind the other they are copied in one, which waits for both to be written, and a record takes two thirds as long again.
+// What is told of a lookup: the place of the set that it read, as an `EntryPlace` has it, its number in its stage or
+// half, and the bytes of a word there. The place's two numbers stand apart: one behind the other they are copied in
+// one, which waits for both to be written, and a record takes two thirds as long again.
 pub struct Lookup {
     pub offset: usize,
     pub index: usize,
@@ -23,10 +26,12 @@ pub struct Lookup {
 }
 
 // The answer for a whole set and a block of these lengths.
-pub fn judged(set: usize, block: usize) -> Answer
-    ensures { λ r. ⌜ r ≡ judgeWhole 10 set block ⌝ }
+pub fn judged(rounds: usize, set: usize, block: usize) -> Answer
+    requires { ⌜ Rounds rounds ⌝ }
+    ensures { λ r. ⌜ r ≡ judgeWhole rounds set block ⌝ }
 {
-    if set != SET_BYTES {
+    let bytes = set_bytes(rounds);
+    if set != bytes {
         return Answer::Refused(Refusal::SetLength);
     }
     if block != 16 {
@@ -35,27 +40,55 @@ pub fn judged(set: usize, block: usize) -> Answer
     Answer::Accepted
 }
 
-// Lookup n of a walk for a cipher, in place.
+// The lookup at a place that is found already, of a walk for a cipher, over its table in the set.
+pub fn look_up_at(
+    cipher: u64,
+    standing: &mut [u8; 16],
+    area: &mut [u8; 256],
+    set: &[u8],
+    place: Place,
+) -> Lookup
+    requires { ⌜ StandsIn place (length (now set)) × Lent (now standing) (now area) ⌝ }
+    ensures { λ r. ⌜ MadeAt (readsOf cipher) (now (set .entry)) place
+        (now (standing .entry)) (now (area .entry)) r (now (standing .exit)) (now (area .exit)) ⌝ }
+{
+    let from = place.offset;
+    let stage = place.stage;
+    let index = place.index;
+    let to = from + place.size;
+    let read = layer::lookup_in(cipher, standing, area, &set[from..to], from, stage, index);
+    Lookup {
+        offset: read.offset,
+        index: index,
+        half: read.half,
+        width: width_of(stage),
+    }
+}
+
+// Lookup n of a walk for a cipher, in place. It takes the place apart here: handed on whole, as above, it is copied in
+// pieces that wait for each other, and a record takes three quarters as long again.
 pub fn look_up(
+    rounds: usize,
     cipher: u64,
     standing: &mut [u8; 16],
     area: &mut [u8; 256],
     set: &[u8],
     n: usize,
 ) -> Lookup
-    requires { ⌜ (length (now set) ≡ tenSetBytes) × (n < tenLookups) × (length (now standing) ≡ 16) × (length (now area) ≡ 256) ⌝ }
-    ensures { λ r. ⌜ LookupMade (readsOf cipher) 10 (now (set .entry)) n (now (standing .entry)) (now (area .entry)) r (now (standing .exit)) (now (area .exit)) ⌝ }
+    requires { ⌜ LookupAsked rounds (now set) n (now standing) (now area) ⌝ }
+    ensures { λ r. ⌜ LookupMade (readsOf cipher) rounds (now (set .entry)) n
+        (now (standing .entry)) (now (area .entry)) r (now (standing .exit)) (now (area .exit)) ⌝ }
 {
-    let p = place_of(n);
-    let from = p.offset;
-    let stage = p.stage;
-    let index = p.index;
-    let to = from + p.size;
-    let read = layer::lookup_in(cipher, standing, area, &set[from..to], from, stage, index);
+    let place = place_of(rounds, n);
+    let from = place.offset;
+    let stage = place.stage;
+    let index = place.index;
+    let to = from + place.size;
+    let looked = layer::lookup_in(cipher, standing, area, &set[from..to], from, stage, index);
     Lookup {
-        offset: read.offset,
+        offset: looked.offset,
         index: index,
-        half: read.half,
+        half: looked.half,
         width: width_of(stage),
     }
 }

@@ -3,8 +3,9 @@ use mathlib.Core.List.{List}
 use mathlib.Core.Path.{_≡_}
 use Prim.Native.Nat.{ℕ}
 use lib.ListN.{length}
+use Rattle.answers.specs.Answers.{replyOf}
 use Rattle.answers.specs.declared.Answer.{Answer}
-use Rattle.records.specs.Replay.{judgeRecord, recordLeft, replayed}
+use Rattle.records.specs.Replay.{judgeRecord, recordLeft, verdictAnswer, replayed}
 use Rattle.records.specs.declared.replay.Verdict.{Verdict}
 
 module _ (c nr : ℕ) (set block : List ℕ) where
@@ -13,6 +14,7 @@ module _ (c nr : ℕ) (set block : List ℕ) where
     pub answer : a ≡ judgeRecord nr (length set) (length block) (length lent)
     pub bytes : left ≡ recordLeft c nr set block lent
 
-  -- `replay` of the record `rec` hands back r.
-  abbrev pub Replays : List ℕ → Verdict → Type 0
-  Replays rec r = r ≡ replayed c nr set block rec
+  -- `replay` of the record `rec` hands back r: the verdict, and what it says in the documents' numbers, which is what the lengths give.
+  pub record Replays (rec : List ℕ) (r : Verdict) : Type 0 where
+    pub result : r ≡ replayed c nr set block rec
+    pub reply : replyOf (verdictAnswer r) ≡ replyOf (judgeRecord nr (length set) (length block) (length rec))

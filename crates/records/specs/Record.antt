@@ -11,7 +11,7 @@ use Rattle.network.specs.Lookups.{State}
 use Rattle.network.specs.declared.EntryPlace.{EntryPlace}
 use Rattle.layout.specs.Ciphers.{readsOf}
 use Rattle.layout.specs.Stages.{lookups, tenLookups, indexOf}
-use Rattle.whitebox.specs.Calls.{stateFrom, readNext}
+use Rattle.calls.specs.Calls.{stateFrom, readNext}
 use Rattle.records.specs.declared.entry.Entry.{Entry}
 
 -- ---- an entry of a record

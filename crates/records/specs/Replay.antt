@@ -14,7 +14,7 @@ use Rattle.answers.specs.declared.Refusal.the-variants.{RecordLength}
 use Rattle.answers.specs.declared.found.Found.{Found}
 use Rattle.answers.specs.declared.found.Found.the-variants.{At, Nothing}
 use Rattle.layout.specs.Stages.{lookups}
-use Rattle.whitebox.specs.Calls.{judgeWhole}
+use Rattle.calls.specs.Calls.{judgeWhole}
 use Rattle.records.specs.Record.{entryAt, recordOf, recordBytes, entryIn}
 use Rattle.records.specs.declared.replay.Verdict.{Verdict}
 use Rattle.records.specs.declared.replay.Verdict.the-variants.{Own, Differs, Refused}
@@ -52,10 +52,10 @@ verdictBy Accepted r = r
 verdictBy (answer.Refused why) r = Refused why
 
 -- The answer in it: a replay is accepted whether or not the record is the walk's own.
-abbrev pub answerOf : Verdict → Answer
-answerOf Own = Accepted
-answerOf (Differs k) = Accepted
-answerOf (Refused why) = answer.Refused why
+abbrev pub verdictAnswer : Verdict → Answer
+verdictAnswer Own = Accepted
+verdictAnswer (Differs k) = Accepted
+verdictAnswer (Refused why) = answer.Refused why
 
 unfoldable pub replayed : ℕ → ℕ → List ℕ → List ℕ → List ℕ → Verdict
 replayed c nr set block rec =

@@ -12,33 +12,33 @@ use Rattle.bits.specs.Bytes.{Bytes, numberOf, bytesOf}
 use Rattle.bits.specs.Lists.{at}
 use Rattle.layout.specs.Ciphers.{kept}
 use Rattle.layout.specs.Stages.{lookups, tablesBytes, setBytes, indexOf}
-use Rattle.whitebox.specs.Calls.{toStop, placeRead}
-use Rattle.whitebox.specs.PlaceRead.{InTable}
+use Rattle.calls.specs.Calls.{toStop, placeRead}
+use Rattle.calls.specs.PlaceRead.{InTable}
 use Rattle.evaluate.specs.Held.{held}
 use Rattle.evaluate.specs.Contracts.{Opens, Moves}
 use Rattle.evaluate.specs.declared.walk.Move.{Move}
 use Rattle.evaluate.specs.declared.walk.Opening.{Opening}
 use Rattle.records.specs.Contracts.{Records, Replays}
 use Rattle.records.specs.Record.{offsetBytes, entrySize, written, entryRead, entryAt, recordOf, recordBytes, entryIn}
-use Rattle.records.specs.Replay.{judgeRecord, answerOf, replayed}
+use Rattle.records.specs.Replay.{judgeRecord, verdictAnswer, replayed}
 use Rattle.records.specs.Values.{ValuesPutDown}
 use Rattle.records.specs.declared.replay.Verdict.{Verdict}
 use Rattle.records.specs.declared.replay.Verdict.the-variants.{Own, Differs}
 
 -- ---- what is turned down, for a set, a block and a record of these lengths: 9 and 10 as in a walk, and "a record of a length other than 15,040 gets number 13, tested
 -- after 10. With this and every later number 0 is returned"
-pub record Tests (nr set block rec : ℕ) : Type 0 where
+pub record RecordTests (nr set block rec : ℕ) : Type 0 where
   pub set-first : (set ≡ setBytes nr → ⊥) → replyOf (judgeRecord nr set block rec) ≡ refused 9 0
   pub block-second : set ≡ setBytes nr → (block ≡ 16 → ⊥) → replyOf (judgeRecord nr set block rec) ≡ refused 10 0
   pub record-third : set ≡ setBytes nr → block ≡ 16 → (rec ≡ recordBytes nr → ⊥) → replyOf (judgeRecord nr set block rec) ≡ refused 13 0
   pub none : set ≡ setBytes nr → block ≡ 16 → rec ≡ recordBytes nr → judgeRecord nr set block rec ≡ Accepted
 
 abbrev pub TestsInOrder : Type 0
-TestsInOrder = (nr set block rec : ℕ) → Tests nr set block rec
+TestsInOrder = (nr set block rec : ℕ) → RecordTests nr set block rec
 
 -- A replay answers by these tests too.
 abbrev pub ReplayAnswers : Type 0
-ReplayAnswers = (c nr : ℕ) (set block rec : List ℕ) → answerOf (replayed c nr set block rec) ≡ judgeRecord nr (length set) (length block) (length rec)
+ReplayAnswers = (c nr : ℕ) (set block rec : List ℕ) → verdictAnswer (replayed c nr set block rec) ≡ judgeRecord nr (length set) (length block) (length rec)
 
 -- "All lent memory [is] left as [it was]."
 abbrev pub RefusedLeaves : Type 0

@@ -11,7 +11,7 @@ use Rattle.bits.specs.Nibbles.{nibble}
 use Rattle.network.specs.Lookups.{State}
 use Rattle.network.specs.Order.{layerLookups, sumPlace}
 use Rattle.layout.specs.Stages.{widthOf, lookups, stageOf, indexOf}
-use Rattle.whitebox.specs.Calls.{toStop}
+use Rattle.calls.specs.Calls.{toStop}
 use Rattle.evaluate.specs.Held.{held}
 use Rattle.evaluate.specs.Contracts.{Opens, Moves}
 use Rattle.evaluate.specs.declared.walk.Move.{Move}

@@ -4,8 +4,8 @@ ghost use Prim.Native.Nat.{_<_, _≤_};
 ghost use lib.ListN.{length};
 ghost use Rattle.bits.specs.Lists.{at};
 ghost use Rattle.layout.specs.Ciphers.{readsOf};
-ghost use Rattle.layout.specs.Stages.{tenLookups, tenSetBytes};
-ghost use Rattle.passes.specs.InPlace.{placeTold};
+ghost use Rattle.layout.specs.Stages.{mostBytes};
+ghost use Rattle.passes.specs.InPlace.{placeTold, LookupAsked};
 ghost use Rattle.records.specs.InPlace.{EntryMade};
 ghost use Rattle.records.specs.Record.{entrySize, written, entryRead};
 ghost use Rattle.records.specs.Replay.{same};
@@ -18,7 +18,8 @@ const OFFSET_BYTES: usize = 4;
 
 pub(crate) const ENTRY_BYTES: usize = OFFSET_BYTES + 1;
 
-// An entry of a record before it is written: the byte offset within the set, and the first byte of a spread entry or the nibble of an XOR entry.
+// An entry of a record before it is written: the byte offset within the set, and the first byte of a spread entry or
+// the nibble of an XOR entry.
 pub struct Entry {
     pub offset: usize,
     pub value: u8,
@@ -63,9 +64,10 @@ pub(crate) fn write(part: &mut [u8], e: Entry)
     }
 }
 
-// What is recorded of a lookup, by the place that it read: "the entry's first byte, or its half-byte as a number 0 to 15".
+// What is recorded of a lookup, by the place that it read: "the entry's first byte, or its half-byte as a number 0 to
+// 15".
 fn entry_read(set: &[u8], read: Lookup) -> Entry
-    requires { ⌜ (length (now set) ≡ tenSetBytes) × (read .offset < tenSetBytes) × (read .half ≤ 1) ⌝ }
+    requires { ⌜ (length (now set) ≤ mostBytes) × (read .offset < length (now set)) × (read .half ≤ 1) ⌝ }
     ensures { λ r. ⌜ r ≡ entryRead (read .index) (now (set .entry)) (placeTold read) ⌝ }
 {
     let at = read.offset;
@@ -84,15 +86,17 @@ fn entry_read(set: &[u8], read: Lookup) -> Entry
 
 // Lookup n of a walk for a cipher, in place. Hands back what is recorded of it.
 pub(crate) fn look_up(
+    rounds: usize,
     cipher: u64,
     standing: &mut [u8; 16],
     area: &mut [u8; 256],
     set: &[u8],
     n: usize,
 ) -> Entry
-    requires { ⌜ (length (now set) ≡ tenSetBytes) × (n < tenLookups) × (length (now standing) ≡ 16) × (length (now area) ≡ 256) ⌝ }
-    ensures { λ r. ⌜ EntryMade (readsOf cipher) 10 (now (set .entry)) n (now (standing .entry)) (now (area .entry)) r (now (standing .exit)) (now (area .exit)) ⌝ }
+    requires { ⌜ LookupAsked rounds (now set) n (now standing) (now area) ⌝ }
+    ensures { λ r. ⌜ EntryMade (readsOf cipher) rounds (now (set .entry)) n
+        (now (standing .entry)) (now (area .entry)) r (now (standing .exit)) (now (area .exit)) ⌝ }
 {
-    let read = passes::look_up(cipher, standing, area, set, n);
+    let read = passes::look_up(rounds, cipher, standing, area, set, n);
     entry_read(set, read)
 }

@@ -1,8 +1,9 @@
-// The record of a walk, written into lent memory, over any set of the right length, made or not; and the lengths, for both calls.
+// The record of a walk, written into lent memory, over any set of the right length, made or not; and the lengths, for
+// both calls.
 ghost use mathlib.Core.Path.{_≡_};
-ghost use lib.ListN.{length};
-ghost use Rattle.layout.specs.Stages.{tenSetBytes};
-ghost use Rattle.records.specs.Record.{tenRecordBytes, recordOf};
+ghost use Rattle.rounds.specs.Rounds.{Rounds};
+ghost use Rattle.records.specs.InPlace.{RecordAsked};
+ghost use Rattle.records.specs.Record.{recordOf};
 ghost use Rattle.records.specs.Replay.{judgeRecord};
 ghost use Rattle.records.specs.Contracts.{Records};
 use crate::entry;
@@ -10,35 +11,36 @@ use crate::entry::ENTRY_BYTES;
 use answers::Answer;
 use answers::Refusal;
 use bits::block::load;
-use layout::stage::LOOKUPS;
-
-// The bytes of a record.
-const RECORD_BYTES: usize = LOOKUPS * ENTRY_BYTES;
+use layout::stage::lookups_in;
+use rounds::TEN;
 
 // The answer for these lengths.
-pub(crate) fn judged(set: usize, block: usize, recorded: usize) -> Answer
-    ensures { λ r. ⌜ r ≡ judgeRecord 10 set block recorded ⌝ }
+pub(crate) fn judged(rounds: usize, set: usize, block: usize, recorded: usize) -> Answer
+    requires { ⌜ Rounds rounds ⌝ }
+    ensures { λ r. ⌜ r ≡ judgeRecord rounds set block recorded ⌝ }
 {
-    let whole = passes::judged(set, block);
+    let bytes = lookups_in(rounds) * ENTRY_BYTES;
+    let whole = passes::judged(rounds, set, block);
     let Answer::Accepted = whole else {
         return whole;
     };
-    if recorded != RECORD_BYTES {
+    if recorded != bytes {
         return Answer::Refused(Refusal::RecordLength);
     }
     Answer::Accepted
 }
 
 // The record of the walk for a cipher from a block, where the lengths are right.
-fn write_all(cipher: u64, set: &[u8], block: &[u8], recorded: &mut [u8])
-    requires { ⌜ (length (now set) ≡ tenSetBytes) × (length (now block) ≡ 16) × (length (now recorded) ≡ tenRecordBytes) ⌝ }
-    ensures { λ _. ⌜ now (recorded .exit) ≡ recordOf cipher 10 (now (set .entry)) (now (block .entry)) ⌝ }
+fn write_all(rounds: usize, cipher: u64, set: &[u8], block: &[u8], recorded: &mut [u8])
+    requires { ⌜ RecordAsked rounds (now set) (now block) (now recorded) ⌝ }
+    ensures { λ _. ⌜ now (recorded .exit) ≡ recordOf cipher rounds (now (set .entry)) (now (block .entry)) ⌝ }
 {
     let mut standing = load(block);
     let mut area = [0u8; 256];
+    let all = lookups_in(rounds);
     let mut n = 0;
-    while n < LOOKUPS {
-        let e = entry::look_up(cipher, &mut standing, &mut area, set, n);
+    while n < all {
+        let e = entry::look_up(rounds, cipher, &mut standing, &mut area, set, n);
         let from = n * ENTRY_BYTES;
         let to = from + ENTRY_BYTES;
         entry::write(&mut recorded[from..to], e);
@@ -50,10 +52,18 @@ fn write_all(cipher: u64, set: &[u8], block: &[u8], recorded: &mut [u8])
 pub fn record_walk(cipher: u64, set: &[u8], block: &[u8], recorded: &mut [u8]) -> Answer
     ensures { λ r. ⌜ Records cipher 10 (now (set .entry)) (now (block .entry)) (now (recorded .entry)) r (now (recorded .exit)) ⌝ }
 {
-    let a = judged(set.len(), block.len(), recorded.len());
+    write_record(TEN, cipher, set, block, recorded)
+}
+
+// The same, of so many rounds.
+fn write_record(rounds: usize, cipher: u64, set: &[u8], block: &[u8], recorded: &mut [u8]) -> Answer
+    requires { ⌜ Rounds rounds ⌝ }
+    ensures { λ r. ⌜ Records cipher rounds (now (set .entry)) (now (block .entry)) (now (recorded .entry)) r (now (recorded .exit)) ⌝ }
+{
+    let a = judged(rounds, set.len(), block.len(), recorded.len());
     let Answer::Accepted = a else {
         return a;
     };
-    write_all(cipher, set, block, recorded);
+    write_all(rounds, cipher, set, block, recorded);
     a
 }

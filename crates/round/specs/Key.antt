@@ -5,7 +5,7 @@ use mathlib.Core.Bool.{cond, _&&_}
 use mathlib.Core.List.{List, [], _∷_, _++_}
 use lib.Dec.{eqb, ltb}
 use lib.Bits.{bitXor}
-use lib.ListN.{take, drop}
+use lib.ListN.{take, drop, set}
 use Rattle.bits.specs.Lists.{at, tabulate}
 use Rattle.field.specs.Field.{xtime}
 use Rattle.field.specs.Sbox.{sboxOf}
@@ -63,3 +63,7 @@ KeyExpansion nk key = expand nk key (4 * (roundsOf nk + 1) - nk)
 -- Round key r: words 4r to 4r + 3.
 unfoldable pub keyOf : List ℕ → ℕ → List ℕ
 keyOf w r = take 16 (drop (16 * r) w)
+
+-- A word x, written over word i of w, its four bytes one after the other.
+abbrev pub putWord : List ℕ → ℕ → List ℕ → List ℕ
+putWord w i x = set (set (set (set w (4 * i) (at x 0)) (4 * i + 1) (at x 1)) (4 * i + 2) (at x 2)) (4 * i + 3) (at x 3)

@@ -1,6 +1,7 @@
 // The transformations of the state: FIPS 197, sections 5.1 and 5.3.
 ghost use mathlib.Core.Path.{_≡_};
-ghost use Prim.Native.Nat.{_+_, _*_, _%_, _<_};
+ghost use Prim.Native.Nat.{_+_, _*_, _%_, _<_, _≤_};
+ghost use lib.ListN.{length};
 ghost use Rattle.bits.specs.Groups.{xorAll};
 ghost use Rattle.field.specs.Field.{mul};
 ghost use Rattle.round.specs.State.{cell, state, entry, mixBy, SubBytes, ShiftRows, MixColumns, AddRoundKey, InvSubBytes, InvShiftRows, InvMixColumns};
@@ -107,13 +108,11 @@ pub fn inv_mix_columns(s: [u8; 16]) -> [u8; 16]
     mix_by(INV_MIX, s)
 }
 
-// The xor with round key n of w; s itself behind the last.
-pub fn add_round_key(s: [u8; 16], w: [u8; 176], n: usize) -> [u8; 16]
-    ensures { λ r. ⌜ r ≡ AddRoundKey s (keyOf w n) ⌝ }
+// The xor with round key n of w.
+pub fn add_round_key(s: [u8; 16], w: &[u8], n: usize) -> [u8; 16]
+    requires { ⌜ 16 * (n + 1) ≤ length (now w) ⌝ }
+    ensures { λ r. ⌜ r ≡ AddRoundKey s (keyOf (now (w .entry)) n) ⌝ }
 {
-    if 11 <= n {
-        return s;
-    }
     let mut t = [0u8; 16];
     let mut i = 0;
     while i < 16 {

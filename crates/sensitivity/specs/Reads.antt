@@ -7,10 +7,10 @@ use lib.Dec.{ltb}
 use Rattle.bits.specs.Lists.{tabulate, concat}
 use Rattle.network.specs.declared.EntryPlace.{EntryPlace}
 use Rattle.layout.specs.Stages.{widthOf, lookups, stageOf, indexOf}
-use Rattle.whitebox.specs.Calls.{stateFrom, readNext}
+use Rattle.calls.specs.Calls.{stateFrom, readNext}
 
 -- ---- the bits of one entry
--- What a lookup leaves is worked out from the entry at the place that it reads (`Lookup` of whitebox/specs/PlaceRead.antt).
+-- What a lookup leaves is worked out from the entry at the place that it reads (`Lookup` of calls/specs/PlaceRead.antt).
 -- The first bit of the entry at a place of the set (Ticket 2's offset and half): a byte has 8 bits and a half of it 4, the high half first.
 abbrev pub firstBit : EntryPlace → ℕ
 firstBit r = 8 * r .offset + 4 * r .half

@@ -1,6 +1,7 @@
 -- WHICH BITS THE DOOR DEPENDS ON, document 02, Ticket 7, for a reader; proved in proofs/laws/. Of any number nr of rounds and either cipher. Crate next_bit says
 -- of calls in code what concerns calls.
 use mathlib.Core.List.{List}
+use mathlib.Core.Logic.{_↔_}
 use mathlib.Core.Path.{_≡_}
 use Prim.Native.Nat.{ℕ, suc, _+_, _-_, _*_, _≤_, _<_}
 use lib.ListN.{length}
@@ -9,13 +10,12 @@ use Rattle.bits.specs.Flips.{flipped, FlipsOneBit, TopBitFirst}
 use Rattle.bits.specs.Lists.{Listed, Rising}
 use Rattle.round.specs.Key.{roundsOf}
 use Rattle.layout.specs.Ciphers.{readsOf}
-use Rattle.layout.specs.Stages.{lookups, setBytes}
+use Rattle.layout.specs.Stages.{lookups, tablesBytes, setBytes}
+use Rattle.calls.specs.Calls.{Call, tablePart, stateFrom, started, serve, walkedOver}
+use Rattle.calls.specs.PlainCount.{Alike}
+use Rattle.calls.specs.PlainCount as plain
 use Rattle.whitebox.specs.Bundles.{madeSet}
-use Rattle.whitebox.specs.Calls.{Call, tablePart, stateFrom, started, serve}
-use Rattle.whitebox.specs.Demand2.{walkedOver}
 use Rattle.whitebox.specs.Demand3.{Given, Presented}
-use Rattle.whitebox.specs.PlainCount.{Alike}
-use Rattle.whitebox.specs.PlainCount as plain
 use Rattle.sensitivity.specs.Reads.{bitsRead}
 
 -- ---- over any memory of the right length, made or not
@@ -25,12 +25,12 @@ pub record Lendable (nr : ℕ) (set x : List ℕ) : Type 0 where
   pub bytes : Bytes set
   pub block : Block x
 
--- "List in rising order the bits of the set that the walk reads: 24,064 of them." No bit is there twice, and all are bits of the set. Each lookup reads one entry
+-- "List in rising order the bits of the set that the walk reads: 24,064 of them." No bit is there twice, and all are bits of the tables. Each lookup reads one entry
 -- of the 256 that its table has: 7,936 bits in entry and exit together, and 1,792 in a round.
 pub record InOrder (reads : ℕ → ℕ) (nr : ℕ) (set x : List ℕ) : Type 0 where
   pub many : length (bitsRead reads nr set x) ≡ 7936 + 1792 * (nr - 1)
   pub rising : Rising (bitsRead reads nr set x)
-  pub within : (i : ℕ) → Listed (bitsRead reads nr set x) i → i < 8 * length set
+  pub within : (i : ℕ) → Listed (bitsRead reads nr set x) i → i < 8 * tablesBytes nr
 
 abbrev pub ReadInOrder : Type 0
 ReadInOrder = (reads : ℕ → ℕ) (nr : ℕ) (set x : List ℕ) → Lendable nr set x → InOrder reads nr set x
@@ -67,11 +67,11 @@ OthersAloneInCalls =
 
 -- ---- of a made set, "not altered since", and any presented block
 -- "Turning over one bit changes the answer for that block exactly when the bit is in the list." The answer is what a fetch at the end leaves in a lent block of 16
--- bytes: `lent` for the walk over the set, `lent′` for the one over the set with bit i turned over.
+-- bytes: `lent` for the walk over the set, `lent′` for the one over the set with bit i turned over. The two answers differ exactly if the bit is listed; where it is not, they
+-- are the same.
 pub record DependsOn (c nr : ℕ) (set x : List ℕ) (i : ℕ) (lent lent′ : List ℕ) : Type 0 where
-  pub changes : Listed (bitsRead (readsOf c) nr set x) i → walkedOver c nr (flipped set i) x lent′ ≡ walkedOver c nr set x lent → ⊥
+  pub differ-exactly : (walkedOver c nr (flipped set i) x lent′ ≡ walkedOver c nr set x lent → ⊥) ↔ Listed (bitsRead (readsOf c) nr set x) i
   pub keeps : (Listed (bitsRead (readsOf c) nr set x) i → ⊥) → walkedOver c nr (flipped set i) x lent′ ≡ walkedOver c nr set x lent
-  pub only : (walkedOver c nr (flipped set i) x lent′ ≡ walkedOver c nr set x lent → ⊥) → Listed (bitsRead (readsOf c) nr set x) i
 
 -- For every cipher, key of nk words, accepted bundle and presented block. What holds of any memory of the right length holds of the made set too.
 pub record Sensitive (c nk : ℕ) (key l x : List ℕ) : Type 0 where

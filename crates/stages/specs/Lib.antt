@@ -1,1 +1,3 @@
 pub mod Spread
+pub mod Table
+pub mod Asked

@@ -3,14 +3,18 @@ use mathlib.Core.List.{List, []}
 use Prim.Native.Nat.{ℕ, _+_, _*_, _/_, _%_}
 use Rattle.bits.specs.Bytes.{numberOf}
 use Rattle.bits.specs.Encodings.{decode}
+use Rattle.bits.specs.Lists.{tabulate}
 use Rattle.bits.specs.Nibbles.{pack}
 use Rattle.bundle.specs.Format.{encodingOf}
+use Rattle.layout.specs.Ciphers.{readsOf}
 use Rattle.layout.specs.Stages.{widthOf, sourceOf, standingNumber}
 use Rattle.layout.specs.declared.stage.Stage.{Stage}
 use Rattle.layout.specs.declared.stage.Stage.the-variants.{Entry, First, Second, Exit, Beyond}
+use Rattle.whitebox.specs.Bundles.{codingsOf}
 use Rattle.whitebox.specs.Codings.{Codings}
-use Rattle.whitebox.specs.Parts.{Parts}
+use Rattle.whitebox.specs.Parts.{Parts, partsFor}
 use Rattle.whitebox.specs.Words.{entryWord, mixedWord, secondWord, placedWord, substituted}
+use Rattle.layers.specs.Layers.{basisOf}
 
 -- The byte x that position p reads, decoded "by the two lists of its place": of nr rounds, where `reads` is the byte that a position reads
 -- through the row shift.
@@ -38,3 +42,11 @@ module _ (P : Parts) (C : Codings) where
 
   unfoldable pub wordNumber : Stage → ℕ → ℕ → ℕ
   wordNumber s p y = numberOf (widthOf s) (linearWord s p y)
+
+-- For the cipher c of nr rounds, from the round keys w and the bundle l: the byte that the word is linear in for each byte that position p reads, and
+-- the basis of the words.
+abbrev pub actedBytes : ℕ → ℕ → List ℕ → List ℕ → Stage → ℕ → List ℕ
+actedBytes c nr w l s p = tabulate 256 (λ x. acted (partsFor c nr w) (codingsOf nr l) nr s p (readByte nr (readsOf c) l s p x))
+
+abbrev pub wordBasis : ℕ → ℕ → List ℕ → List ℕ → Stage → ℕ → List ℕ → List ℕ
+wordBasis c nr w l s p old = basisOf (wordNumber (partsFor c nr w) (codingsOf nr l) s p) old

@@ -2,17 +2,19 @@
 -- `Given` keys and bundles and of the bytes `madeSet`, `madeTable`; here they are what the calls answer and leave, `setLeft` and `tableLeft`, which
 -- their contracts cite. Over ciphers c and keys of nk words; the calls are those for 4 words.
 use mathlib.Core.List.{List}
+use mathlib.Core.Logic.{_≢_}
 use mathlib.Core.Path.{_≡_}
-use Prim.Native.Nat.{ℕ, suc, _<_}
+use Prim.Native.Nat.{ℕ, _<_}
 use lib.ListN.{length}
 use Rattle.answers.specs.declared.Answer.the-variants.{Accepted}
 use Rattle.bits.specs.Bytes.{Bytes, Block}
 use Rattle.round.specs.Key.{roundsOf}
 use Rattle.layout.specs.Stages.{lookups, setBytes, tableSize}
-use Rattle.whitebox.specs.Calls.{tablePart}
+use Rattle.calls.specs.Calls.{tablePart}
 use Rattle.whitebox.specs.Demand2.{WalkIsCipher}
 use Rattle.whitebox.specs.Demand3.{Given, Presented}
-use Rattle.whitebox.specs.RoundTrip.{Crossed, GivesBack}
+use Rattle.external.specs.Coding.{Crossed}
+use Rattle.whitebox.specs.RoundTrip.{GivesBack}
 use Rattle.tables.specs.Calls.{setAnswerFor, tableAnswerFor, setLeft, tableLeft}
 
 module _ (nk : ℕ) where
@@ -42,10 +44,10 @@ module _ (nk : ℕ) where
   -- ---- the round trip of the bytes that accepted calls leave, for the forward cipher and for the inverse one, which any numbers but 0 name
   abbrev pub MadeSetsGiveBack : Type 0
   MadeSetsGiveBack =
-      (i i′ : ℕ) (key l l′ held held′ x lent lent′ : List ℕ) → Bytes key → Bytes l → Bytes l′
+      (i i′ : ℕ) (key l l′ held held′ x lent lent′ : List ℕ) → i ≢ 0 → i′ ≢ 0 → Bytes key → Bytes l → Bytes l′
       → setAnswerFor nk (length key) l (length held) ≡ Accepted → setAnswerFor nk (length key) l′ (length held′) ≡ Accepted
       → Crossed (roundsOf nk) l l′ → Presented x → length lent ≡ 16 → length lent′ ≡ 16
-      → GivesBack (roundsOf nk) i (setLeft 0 nk key l held) (setLeft (suc i′) nk key l′ held′) x lent lent′
+      → GivesBack (roundsOf nk) i (setLeft 0 nk key l held) (setLeft i′ nk key l′ held′) x lent lent′
 
   -- ---- one table: an accepted `make_table` leaves the part that is table n of what an accepted `make_set` leaves
   abbrev pub TableOfSet : Type 0

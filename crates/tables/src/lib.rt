@@ -1,3 +1,3 @@
 // The maker: one table, and the whole set.
-pub mod calls;
+pub mod make;
 mod set;

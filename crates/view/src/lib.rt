@@ -4,6 +4,7 @@
 ghost use mathlib.Core.Path.{_≡_};
 ghost use Rattle.view.specs.Views.{viewOf, servedBy, partIn};
 
+pub mod found;
 pub mod part;
 pub mod starts;
 

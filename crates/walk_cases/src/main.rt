@@ -1,7 +1,8 @@
-// Reads orders from standard input, and writes what the calls of a walk, and single lookups, hand back over memory that a formula fills or the
-// input gives. An order is 8 bytes: its kind, a small number k and a number n of six bytes. The kinds: 0 a start and 1 a given walk, behind which stand 8 bytes
-// of a cipher's number and the content; 2 and 3 a move to a stop, near or far; 4 a move of one lookup; 5 a fetch; 6 moves to every stop; 7 a lookup alone;
-// 8 a memory, behind which stand its n bytes. The expected output is made by a program of other authorship (tests/walk_cases.py).
+// Reads orders from standard input, and writes what the calls of a walk, and single lookups, hand back over memory that
+// a formula fills or the input gives. An order is 8 bytes: its kind, a small number k and a number n of six bytes. The
+// kinds: 0 a start and 1 a given walk, behind which stand 8 bytes of a cipher's number and the content; 2 and 3 a move
+// to a stop, near or far; 4 a move of one lookup; 5 a fetch; 6 moves to every stop; 7 a lookup alone; 8 a memory, behind
+// which stand its n bytes. The expected output is made by a program of other authorship (tests/walk_cases.py).
 ghost use Prim.Native.Nat.{_<_};
 use answers::Answer;
 use answers::cause;
@@ -17,8 +18,9 @@ use layout::stage::SET_BYTES;
 use layout::stage::place_of;
 use libc::STDIN_FILENO;
 use libc::STDOUT_FILENO;
-use lookups::layer::lookup_in;
-use network::EntryPlace;
+use passes::Lookup;
+use passes::look_up_at;
+use rounds::TEN;
 
 // The memory, unless the input gives another: a linear congruence, its upper bits a byte each.
 fn next(x: u64) -> u64 {
@@ -184,7 +186,7 @@ fn long_move(walk: Walk, mem: &[u8], k: usize, stop: usize) -> Walk {
 
 // A move of one lookup with a table of its length and k - 2 more bytes.
 fn one(walk: Walk, mem: &[u8], k: usize) -> Walk {
-    let p = place_of(walk.count);
+    let p = place_of(TEN, walk.count);
     let from = p.offset;
     if 3 < k {
         return walk;
@@ -207,14 +209,15 @@ fn one(walk: Walk, mem: &[u8], k: usize) -> Walk {
 }
 
 // The line of a lookup alone: the offset and the half of the entry that it read.
-fn report_place(read: EntryPlace) {
+fn report_place(read: Lookup) {
     io::print_decimal(STDOUT_FILENO, read.offset as u64);
     io::write_all(STDOUT_FILENO, b" ");
     io::print_decimal(STDOUT_FILENO, read.half as u64);
     io::write_all(STDOUT_FILENO, b"\n");
 }
 
-// One lookup alone, over the table of the walk's count: a move passes on the offset only, and hides the half. Past the last lookup nothing is done.
+// One lookup alone, over the table of the walk's count: a move passes on the offset only, and hides the half. Past the
+// last lookup nothing is done.
 fn looked_up(walk: Walk, mem: &[u8]) -> Walk {
     let n = walk.count;
     if n >= LOOKUPS {
@@ -223,23 +226,11 @@ fn looked_up(walk: Walk, mem: &[u8]) -> Walk {
     if mem.len() < SET_BYTES {
         return walk;
     }
-    let p = place_of(n);
-    let from = p.offset;
-    let stage = p.stage;
-    let index = p.index;
-    let to = from + p.size;
+    let p = place_of(TEN, n);
     let cipher = walk.cipher;
     let mut standing = walk.standing;
     let mut area = walk.area;
-    let read = lookup_in(
-        cipher,
-        &mut standing,
-        &mut area,
-        &mem[from..to],
-        from,
-        stage,
-        index,
-    );
+    let read = look_up_at(cipher, &mut standing, &mut area, mem, p);
     report_place(read);
     let count = n + 1;
     Walk {

@@ -4,13 +4,13 @@
 use mathlib.Core.List.{List, [], _∷_, map}
 use mathlib.Core.Path.{_≡_}
 use Prim.Native.Nat.{ℕ, _≤_, _<_}
-use lib.ListN.{length}
+use lib.ListN.{length, take}
 use Rattle.answers.specs.declared.Answer.{Answer}
 use Rattle.answers.specs.declared.Answer.the-variants.{Accepted, Refused}
 use Rattle.answers.specs.declared.Refusal.{Refusal}
 use Rattle.answers.specs.declared.Refusal.the-variants.{SetLength}
 use Rattle.layout.specs.Stages.{lookups, tableSize}
-use Rattle.whitebox.specs.Calls.{Held, oneLookup, answer, handed, lastWalk}
+use Rattle.calls.specs.Calls.{Held, oneLookup, answer, handed, lastWalk}
 use Rattle.evaluate.specs.Contracts.{Moves}
 use Rattle.evaluate.specs.declared.walk.Move.{Move}
 use Rattle.evaluate.specs.declared.walk.Walk.{Walk}
@@ -22,12 +22,13 @@ tableRoom = 4096
 
 -- Over nr rounds.
 module _ (nr : ℕ) where
-  -- One lookup, over what was read for its table: no more than that table's bytes.
-  pub record Next (w : Walk) (r : Move) : Type 0 where
-    pub table : List ℕ
-    pub read : Received table
-    pub most : length table ≤ tableSize nr (w .count)
-    pub moves : Moves nr (oneLookup table) w r
+  -- One lookup, over what was read for its table: the first `got` bytes of the memory `left`, no more than that table's bytes.
+  pub record Next (w : Walk) (r : Move) (left : List ℕ) : Type 0 where
+    pub got : ℕ
+    pub read : Received (take got left)
+    pub most : got ≤ tableSize nr (w .count)
+    pub within : got ≤ length left
+    pub moves : Moves nr (oneLookup (take got left)) w r
 
   -- Moves of one lookup over the tables, one after the other, are all accepted.
   abbrev pub AllAccepted : Held → List (List ℕ) → Type 0

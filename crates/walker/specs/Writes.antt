@@ -2,14 +2,12 @@
 -- reads; it is proved in proofs/laws/Runs.antt.
 use mathlib.Core.List.{List}
 use mathlib.Core.Path.{_≡_}
-use Prim.Native.Nat.{ℕ, suc, _≤_}
-use lib.Dec.{ltb}
+use Prim.Native.Nat.{ℕ, suc, _-_, _≤_}
 use lib.ListN.{length, take, replicate}
-use Rattle.answers.specs.Answers.{refusedIf, wantsLength, andThen}
+use Rattle.answers.specs.Answers.{wantsLength, andThen}
 use Rattle.answers.specs.declared.Refusal.the-variants.{SetLength}
-use Rattle.layout.specs.Stages.{setBytes}
-use Rattle.whitebox.specs.Calls.{Held, judgeStart, fetch, answer, blockLeft}
-use Rattle.whitebox.specs.Demand2.{walkedOver}
+use Rattle.layout.specs.Stages.{tablesBytes, setBytes}
+use Rattle.calls.specs.Calls.{Held, judgeStart, fetch, answer, blockLeft, walkedOver}
 use Rattle.streams.specs.Lines.{orLine, causeLine, answerLine}
 use Rattle.streams.specs.Written.{Written}
 use Rattle.streams.specs.Received.{Received, AllReceived, joined}
@@ -25,10 +23,14 @@ walkerWrites nr block set =
     orLine (andThen (judgeStart (length block)) (wantsLength (setBytes nr) (length set) SetLength)) causeLine
     (answerLine (walkedOver 0 nr set block blank))
 
--- What it writes for a walk behind its last table, where `rest` bytes more were read: a set too long, a fetch that is refused, or the answer.
+-- The bytes that a set has behind its tables.
+abbrev pub behindTables : ℕ → ℕ
+behindTables nr = setBytes nr - tablesBytes nr
+
+-- What it writes for a walk behind its last table, where `rest` bytes more were read: a set of another length, a fetch that is refused, or the answer.
 unfoldable pub lineOf : ℕ → Held → ℕ → List ℕ
 lineOf nr w rest =
-    orLine (andThen (refusedIf (ltb 0 rest) SetLength) (answer nr (fetch blank) w)) causeLine
+    orLine (andThen (wantsLength (behindTables nr) rest SetLength) (answer nr (fetch blank) w)) causeLine
     (answerLine (blockLeft nr (fetch blank) w))
 
 -- A run leaves in the lent line the bytes that it writes for some block, of at most 16 bytes, and for some parts, of at most one byte more than a set: a table at
@@ -43,6 +45,6 @@ pub record Runs (nr : ℕ) (line : List ℕ) (end : ℕ) (left : List ℕ) : Typ
   pub parts-most : length (joined parts) ≤ suc (setBytes nr)
   pub written : Written (walkerWrites nr block (joined parts)) line end left
 
--- One byte behind the last table tells a set that is too long: what stands behind it is not read, and changes nothing.
+-- One byte more than a set's tells a set that is too long: what stands behind it is not read, and changes nothing.
 abbrev pub ReadsEnough : Type 0
 ReadsEnough = (nr : ℕ) (block set : List ℕ) → walkerWrites nr block (take (suc (setBytes nr)) set) ≡ walkerWrites nr block set

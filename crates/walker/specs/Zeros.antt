@@ -1,5 +1,5 @@
 -- Document 01, "Programs": "Sixteen zero bytes and then 770,048 zero bytes print `00000000000000000000000000000000`." Proved in proofs/laws/Zeros.antt, from
--- the walk of zeros (crate whitebox, specs/Zeros.antt).
+-- the walk of zeros (crate calls, specs/Zeros.antt).
 use mathlib.Core.List.{_++_}
 use mathlib.Core.Path.{_≡_}
 use lib.ListN.{replicate}

@@ -2,6 +2,7 @@
 ghost use mathlib.Core.Path.{_≡_};
 ghost use Prim.Native.Nat.{_≤_};
 ghost use lib.ListN.{length};
+ghost use Rattle.evaluate.specs.Contracts.{Opens};
 ghost use Rattle.evaluate.specs.Held.{held};
 ghost use Rattle.streams.specs.Lines.{lineRoom};
 ghost use Rattle.streams.specs.Written.{Written};
@@ -10,6 +11,7 @@ ghost use Rattle.walker.specs.Writes.{lineOf, Runs};
 use answers::Answer;
 use answers::Refusal;
 use evaluate::walk::Move;
+use evaluate::walk::Opening;
 use evaluate::walk::Walk;
 use evaluate::walk::fetch;
 use evaluate::walk::move_one;
@@ -17,6 +19,7 @@ use evaluate::walk::start;
 use layout::cipher::FORWARD;
 use layout::stage::LOOKUPS;
 use layout::stage::place_of;
+use rounds::TEN;
 use streams::line::ROOM;
 use streams::line::answer_line;
 use streams::line::cause_line;
@@ -26,13 +29,20 @@ use streams::stream::send;
 // Room for the largest table.
 const TABLE_ROOM: usize = 4096;
 
-// Reads the table of the next lookup into the lent memory, and makes the lookup.
+// The start over the bytes that were read as the block: "the programs stay with the forward one" (document 02, Ticket 1).
+fn opened(block: &[u8]) -> Opening
+    ensures { λ r. ⌜ Opens 0 (now (block .entry)) r ⌝ }
+{
+    start(FORWARD, block)
+}
+
+// Reads the table of the next lookup into the front of the lent memory, and makes the lookup over what was read.
 fn over_next(walk: Walk, table: &mut [u8]) -> Move
     requires { ⌜ length (now table) ≡ tableRoom ⌝ }
-    ensures { λ r. ⌜ Next 10 walk r ⌝ }
+    ensures { λ r. ⌜ Next 10 walk r (now (table .exit)) ⌝ }
 {
     let n = walk.count;
-    let p = place_of(n);
+    let p = place_of(TEN, n);
     let size = p.size;
     let got = receive(&mut table[..size]);
     move_one(walk, &table[..got])
@@ -90,10 +100,10 @@ fn run(line: &mut [u8]) -> usize
 {
     let mut block = [0u8; 16];
     let got = receive(&mut block);
-    let opening = start(FORWARD, &block[..got]);
-    let opened = opening.answer;
+    let opening = opened(&block[..got]);
+    let judged = opening.answer;
     let walk = opening.walk;
-    if let Answer::Refused(refusal) = opened {
+    if let Answer::Refused(refusal) = judged {
         return cause_line(refusal, line);
     }
     let mut table = [0u8; TABLE_ROOM];

@@ -10,8 +10,8 @@ use Rattle.round.specs.Key.{KeyExpansion, roundsOf}
 use Rattle.aes.specs.Cipher.{encipherOf, decipherOf}
 use Rattle.bundle.specs.Format.{encodings, byteMatrices, columnMatrices, encodingOf, byteMatrix, columnMatrix, inputMatrix, outputMatrix}
 use Rattle.network.specs.Lookups.{State}
-use Rattle.layout.specs.Ciphers.{forCipher, kept}
-use Rattle.whitebox.specs.Calls.{Held, holding}
+use Rattle.layout.specs.Ciphers.{forCipher}
+use Rattle.calls.specs.Calls.{Held, marked, holding}
 use Rattle.whitebox.specs.Codings.{Codings}
 use Rattle.whitebox.specs.Parts.{Parts, partsFor}
 use Rattle.whitebox.specs.Tables.{tableOf, setOf}
@@ -49,4 +49,4 @@ module _ (c nk : ℕ) (key l : List ℕ) where
   dueAt b k = stateDue (partsOf c nk key) (codingsOf (roundsOf nk) l) (roundsOf nk) b k
 
   abbrev pub dueHeld : List ℕ → ℕ → Held
-  dueHeld b k = holding (kept c) (dueAt b k)
+  dueHeld b k = holding (marked c) (dueAt b k)

@@ -3,18 +3,19 @@
 use mathlib.Core.List.{List}
 use mathlib.Core.Path.{_≡_}
 use Prim.Native.Nat.{ℕ, zero, suc, _-_, _≤_, _<_}
-use Rattle.aes.specs.Cipher.{rounds, Cipher, invRounds, InvCipher}
-use Rattle.round.specs.Key.{keyOf}
-use Rattle.round.specs.State.{SubBytes, ShiftRows, MixColumns, AddRoundKey, InvSubBytes, InvShiftRows, InvMixColumns}
 use Rattle.bits.specs.Bytes.{Bytes}
 use Rattle.bits.specs.Lists.{at}
+use Rattle.round.specs.Key.{keyOf}
+use Rattle.round.specs.State.{SubBytes, ShiftRows, MixColumns, AddRoundKey, InvSubBytes, InvShiftRows}
+use Rattle.aes.specs.Cipher.{rounds, Cipher, invRounds, InvCipher}
+use Rattle.external.specs.Coding.{multiply}
 use Rattle.layout.specs.Ciphers.{forCipher}
-use Rattle.layout.specs.declared.stage.Stage.the-variants.{First, Second}
+use Rattle.layout.specs.declared.stage.Stage.the-variants.{Entry, First, Second, Exit}
 use Rattle.whitebox.specs.Codings.{Codings}
-use Rattle.whitebox.specs.Parts.{Fine, forward, inverse, partsFor}
+use Rattle.whitebox.specs.Parts.{Parts, Fine, forward, inverse, partsFor}
 use Rattle.whitebox.specs.States.{keyed, stateAfter, result}
-use Rattle.whitebox.specs.Values.{underColumns, standingAt, wordAt}
-use Rattle.whitebox.specs.Words.{mixedWord}
+use Rattle.whitebox.specs.Values.{underBytes, underColumns, standingAt, wordAt, ended}
+use Rattle.whitebox.specs.Words.{entryWord, mixedWord, secondWord, placedWord}
 
 -- The forward parts give FIPS 197's cipher and the inverse parts its inverse cipher, for any number of rounds and any round keys.
 abbrev pub ForwardCipher : Type 0
@@ -23,47 +24,67 @@ ForwardCipher = (nr : ℕ) (w b : List ℕ) → 1 ≤ nr → result (forward nr 
 abbrev pub InverseCipher : Type 0
 InverseCipher = (nr : ℕ) (w b : List ℕ) → 1 ≤ nr → result (inverse nr w) nr b ≡ InvCipher nr w b
 
--- ---- between the rounds
--- Forward: the state behind the column mixing of round r, with round key r added, is FIPS 197's behind round r.
-abbrev pub ForwardRounds : Type 0
-ForwardRounds =
-    (nr : ℕ) (w b : List ℕ) (r : ℕ) → r < nr
-    → AddRoundKey (stateAfter (forward nr w) b r) (keyOf w r) ≡ rounds w r (AddRoundKey b (keyOf w 0))
+-- ---- the values due in FIPS 197's own names
+-- The states that Cipher and InvCipher (aes/specs/Cipher.antt) run through from the block b, for the cipher c of nr rounds over the round keys w.
+module _ (c nr : ℕ) (w b : List ℕ) where
+  -- In round r, in front of MixColumns, or of InvMixColumns.
+  abbrev pub beforeMixing : ℕ → List ℕ
+  beforeMixing r =
+      forCipher c (ShiftRows (SubBytes (rounds w (r - 1) (AddRoundKey b (keyOf w 0)))))
+      (AddRoundKey (InvSubBytes (InvShiftRows (invRounds nr w (r - 1) (AddRoundKey b (keyOf w nr))))) (keyOf w (nr - r)))
 
--- Inverse: InvCipher's state behind r of its rounds, which count down ("for round = Nr−1 step −1 downto 1"): behind InvMixColumns. Before the first it is
--- the block with round key nr added.
-unfoldable pub betweenRounds : ℕ → List ℕ → List ℕ → ℕ → List ℕ
-betweenRounds nr w b zero = AddRoundKey b (keyOf w nr)
-betweenRounds nr w b (suc r) = InvMixColumns (AddRoundKey (InvSubBytes (InvShiftRows (betweenRounds nr w b r))) (keyOf w (nr - suc r)))
+  -- In round r, behind it: Cipher's state before it adds round key r, InvCipher's behind r of its rounds. Before the first round it is the block, to which
+  -- no round key is added yet.
+  unfoldable pub behindMixing : ℕ → List ℕ
+  behindMixing zero = b
+  behindMixing (suc r) =
+      forCipher c (MixColumns (ShiftRows (SubBytes (rounds w r (AddRoundKey b (keyOf w 0)))))) (invRounds nr w (suc r) (AddRoundKey b (keyOf w nr)))
 
--- The state behind the column mixing of round r is that one; and it is InvCipher's: from it the rounds that are left give what all rounds give.
-pub record Between (nr : ℕ) (w b : List ℕ) (r : ℕ) : Type 0 where
-  pub state : 1 ≤ r → stateAfter (inverse nr w) b r ≡ betweenRounds nr w b r
-  pub left : invRounds w (nr - 1 - r) (betweenRounds nr w b r) ≡ invRounds w (nr - 1) (AddRoundKey b (keyOf w nr))
+  -- At the end.
+  abbrev pub blockOf : List ℕ
+  blockOf = forCipher c (Cipher nr w b) (InvCipher nr w b)
 
-abbrev pub InverseRounds : Type 0
-InverseRounds = (nr : ℕ) (w b : List ℕ) (r : ℕ) → r < nr → Between nr w b r
+-- The states that the parts give (States.antt) are these.
+pub record StatesDue (c nr : ℕ) (w b : List ℕ) : Type 0 where
+  pub before-mixing : (r : ℕ) → 1 ≤ r → r < nr → keyed (partsFor c nr w) r (stateAfter (partsFor c nr w) b (r - 1)) ≡ beforeMixing c nr w b r
+  pub behind-mixing : (r : ℕ) → r < nr → stateAfter (partsFor c nr w) b r ≡ behindMixing c nr w b r
 
--- ---- inside a round
--- FIPS 197's state in round r in front of MixColumns or InvMixColumns, from the block b over the round keys w; and the mixing.
-abbrev pub beforeMixing : ℕ → ℕ → List ℕ → List ℕ → ℕ → List ℕ
-beforeMixing c nr w b r =
-    forCipher c (ShiftRows (SubBytes (rounds w (r - 1) (AddRoundKey b (keyOf w 0)))))
-    (AddRoundKey (InvSubBytes (InvShiftRows (betweenRounds nr w b (r - 1)))) (keyOf w (nr - r)))
+abbrev pub StatesByFips : Type 0
+StatesByFips = (c nr : ℕ) (w b : List ℕ) → StatesDue c nr w b
 
-abbrev pub mixing : ℕ → List ℕ → List ℕ
-mixing c s = forCipher c (MixColumns s) (InvMixColumns s)
+-- The values due (Values.antt) over any codings C, stage by stage: the bytes that stand at its start, and for each position p the word of its spread lookup.
+module _ (c nr : ℕ) (w b : List ℕ) (C : Codings) where
+  abbrev P : Parts
+  P = partsFor c nr w
 
--- "Each worked out from FIPS 197's state and the matrices": in round r it is the state in front of the column mixing, which the words due in the
--- first half are worked out from; behind the mixing it is the state that stands under the column matrices when the second half starts.
-pub record InRound (c nr : ℕ) (w b : List ℕ) (r : ℕ) : Type 0 where
-  pub front : keyed (partsFor c nr w) r (stateAfter (partsFor c nr w) b (r - 1)) ≡ beforeMixing c nr w b r
-  pub behind : stateAfter (partsFor c nr w) b r ≡ mixing c (beforeMixing c nr w b r)
-  pub first-words : (C : Codings) (p : ℕ) → wordAt (partsFor c nr w) C nr b (First r) p ≡ mixedWord (partsFor c nr w) C r p (at (beforeMixing c nr w b r) p)
-  pub second-standing : (C : Codings) → standingAt (partsFor c nr w) C nr b (Second r) ≡ underColumns C r (mixing c (beforeMixing c nr w b r))
+  pub record AtEntry : Type 0 where
+    pub standing : standingAt P C nr b Entry ≡ multiply (C .inputMatrix) b
+    pub word : (p : ℕ) → wordAt P C nr b Entry p ≡ entryWord P C p (at (multiply (C .inputMatrix) b) p)
 
-abbrev pub InsideRounds : Type 0
-InsideRounds = (c nr : ℕ) (w b : List ℕ) (r : ℕ) → 1 ≤ r → r < nr → InRound c nr w b r
+  -- In round 1 the block itself stands under its byte matrices.
+  pub record AtFirst (r : ℕ) : Type 0 where
+    pub standing : standingAt P C nr b (First r) ≡ underBytes C r (behindMixing c nr w b (r - 1))
+    pub word : (p : ℕ) → wordAt P C nr b (First r) p ≡ mixedWord P C r p (at (beforeMixing c nr w b r) p)
+
+  pub record AtSecond (r : ℕ) : Type 0 where
+    pub standing : standingAt P C nr b (Second r) ≡ underColumns C r (behindMixing c nr w b r)
+    pub word : (p : ℕ) → wordAt P C nr b (Second r) p ≡ secondWord P C r p (at (underColumns C r (behindMixing c nr w b r)) p)
+
+  -- And what stands behind the last lookup.
+  pub record AtExit : Type 0 where
+    pub standing : standingAt P C nr b Exit ≡ underBytes C nr (behindMixing c nr w b (nr - 1))
+    pub word : (p : ℕ) → wordAt P C nr b Exit p ≡ placedWord P C p (at (blockOf c nr w b) p)
+    pub end : ended P C nr b ≡ multiply (C .outputMatrix) (blockOf c nr w b)
+
+  pub record ValuesDue : Type 0 where
+    pub entry : AtEntry
+    pub first : (r : ℕ) → 1 ≤ r → r < nr → AtFirst r
+    pub second : (r : ℕ) → 1 ≤ r → r < nr → AtSecond r
+    pub exit : AtExit
+
+-- "Each worked out from FIPS 197's state and the matrices" (document 01), for either cipher.
+abbrev pub DueByFips : Type 0
+DueByFips = (c nr : ℕ) (w b : List ℕ) (C : Codings) → 1 ≤ nr → ValuesDue c nr w b C
 
 -- The parts are bytes where the round keys are.
 abbrev pub PartsFine : Type 0

@@ -11,13 +11,8 @@ use Rattle.round.specs.Key.{roundsOf}
 use Rattle.judgement.specs.Judge.{judge}
 use Rattle.external.specs.Coding.{encodeInput, encodeOutput, decodeOutput}
 use Rattle.layout.specs.Ciphers.{other}
-use Rattle.layout.specs.Stages.{lookups}
+use Rattle.calls.specs.Calls.{walkedOver}
 use Rattle.whitebox.specs.Bundles.{cipherBlock, madeSet}
-use Rattle.whitebox.specs.Calls.{started, toStop, fetch, handed, blockLeft}
-
--- What a fetch leaves in a lent block, after one move over the memory `set` from the start for the cipher c with block x to the last count.
-abbrev pub walkedOver : ℕ → ℕ → List ℕ → List ℕ → List ℕ → List ℕ
-walkedOver c nr set x lent = blockLeft nr (fetch lent) (handed nr (toStop set (lookups nr)) (started c x))
 
 -- Of any memory `set`: the walk over it, from the block b under the input coding, answers as demand 2 says.
 pub record WalkIsCipher (c nk : ℕ) (key l set b lent : List ℕ) : Type 0 where

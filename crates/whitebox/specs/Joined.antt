@@ -1,15 +1,16 @@
--- The set, its tables and the walk joined, for a reader: the statements. They are proved in proofs/laws/Joined.antt. Each is over any parts of a
--- cipher, codings and number of rounds first, and then of what is made for a cipher from a key and a bundle.
+-- The set, its tables and the walk joined, for a reader: the statements. They are proved in proofs/laws/Joined.antt. Of the set and its tables they are over any
+-- parts of a cipher, codings and number of rounds first, and then of what is made for a cipher from a key and a bundle. That a move of one lookup is the move to
+-- the count plus one is said in calls/specs/Next.antt over any memory, and here of what is made.
 use mathlib.Core.List.{List}
 use mathlib.Core.Path.{_≡_}
-use Prim.Native.Nat.{ℕ, suc, _<_}
+use Prim.Native.Nat.{ℕ, _<_}
 use lib.ListN.{length}
-use Rattle.answers.specs.Answers.{accepted}
 use Rattle.round.specs.Key.{roundsOf}
 use Rattle.network.specs.Rule.{firstResult, labels, ruleIn}
 use Rattle.layout.specs.Stages.{widths, lookups, setBytes, tableSize, stageOf, indexOf}
+use Rattle.calls.specs.Calls.{Held, tablePart}
+use Rattle.calls.specs.Next.{NextMove}
 use Rattle.whitebox.specs.Bundles.{codingsOf, partsOf, madeSet, madeTable}
-use Rattle.whitebox.specs.Calls.{Held, tablePart, toStop, oneLookup, reply, handed}
 use Rattle.whitebox.specs.Codings.{Codings}
 use Rattle.whitebox.specs.Parts.{Parts}
 use Rattle.whitebox.specs.Tables.{layerOf, tableOf, setOf}
@@ -42,21 +43,7 @@ MadeTableByRule nk =
     (c : ℕ) (key l : List ℕ) (k : ℕ) → k < lookups (roundsOf nk)
     → madeTable c nk key l k ≡ tableByRule (partsOf c nk key) (codingsOf (roundsOf nk) l) (roundsOf nk) k
 
--- ---- "a walk can also be moved one look-up with only that table lent; its stop is the count plus one"
--- From the walk w a move of one lookup over `table` is accepted, as the move over `mem` to the count plus one is, and both hand back the same
--- walk, at that count.
-pub record NextMove (nr : ℕ) (mem table : List ℕ) (w : Held) : Type 0 where
-  pub one : reply nr (oneLookup table) w ≡ accepted
-  pub to-stop : reply nr (toStop mem (suc (w .state .count))) w ≡ accepted
-  pub same : handed nr (oneLookup table) w ≡ handed nr (toStop mem (suc (w .state .count))) w
-  pub next : handed nr (oneLookup table) w .state .count ≡ suc (w .state .count)
-
--- Over the part at the count's table of any memory of a set's length, from any walk with lookups left.
-abbrev pub OneIsNext : Type 0
-OneIsNext =
-    (nr : ℕ) (mem : List ℕ) → length mem ≡ setBytes nr → (w : Held) → w .state .count < lookups nr
-    → NextMove nr mem (tablePart nr mem (w .state .count)) w
-
+-- ---- the move of one lookup over a made table is the move to the count plus one over the made set
 abbrev pub MadeOneIsNext : ℕ → Type 0
 MadeOneIsNext nk =
     (c : ℕ) (key l : List ℕ) (w : Held) → w .state .count < lookups (roundsOf nk)
@@ -71,6 +58,5 @@ pub record JoinedFor (nk : ℕ) : Type 0 where
 pub record Joined : Type 0 where
   pub table-in-set : TableInSet
   pub table-by-rule : TableByRule
-  pub one-is-next : OneIsNext
   -- AES-128: a key of 16 bytes, ten rounds.
   pub made : JoinedFor 4

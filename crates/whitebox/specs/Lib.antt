@@ -5,16 +5,12 @@ pub mod Tables
 pub mod States
 pub mod Values
 pub mod Ciphers
-pub mod Calls
-pub mod PlainCount
 pub mod InRange
 pub mod Bundles
 pub mod FreeBytes
 pub mod Named
-pub mod PlaceRead
 pub mod Joined
 pub mod Demand2
-pub mod Zeros
 pub mod Demand3
 pub mod RoundTrip
 pub mod Cases

@@ -1,5 +1,5 @@
 -- The cipher's state from its parts. It is FIPS 197's, read off between the rounds: for the forward parts behind MixColumns, before the round key is added; for
--- the inverse parts behind InvMixColumns, and at the start before round key nr is added (Ciphers.antt). Definitions only.
+-- the inverse parts behind InvMixColumns, and at the start before round key nr is added (`StatesByFips` of Ciphers.antt). Definitions only.
 use mathlib.Core.List.{List}
 use Prim.Native.Nat.{ℕ, zero, suc, _+_, _-_, _*_, _/_, _%_}
 use lib.Bits.{bitXor}

@@ -25,9 +25,13 @@ module _ (P : Parts) (C : Codings) (nr : ℕ) where
   unfoldable pub layers : List Layer
   layers = map layerOf (stages nr)
 
-  -- Table k, and the set: "each table is used once and stored in order of use, so table number = look-up number, from 0".
+  -- Table k, and the tables one after the other: "each table is used once and stored in order of use, so table number = look-up number, from 0".
   unfoldable pub tableOf : ℕ → List ℕ
   tableOf k = tableAt (C .encoding) layers startNumbers k
 
+  unfoldable pub tablesOf : List ℕ
+  tablesOf = concat (lookups nr) tableOf
+
+  -- The set: nothing stands behind its tables.
   unfoldable pub setOf : List ℕ
-  setOf = concat (lookups nr) tableOf
+  setOf = tablesOf

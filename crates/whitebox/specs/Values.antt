@@ -1,5 +1,5 @@
 -- The values due, "each worked out from FIPS 197's state and the matrices" (document 01, "The 3,008 look-ups"). No inverse of a byte
--- matrix stands in them. Definitions only.
+-- matrix stands in them. Ciphers.antt has them in FIPS 197's own names (`DueByFips`). Definitions only.
 use mathlib.Core.List.{List, [], map}
 use Prim.Native.Nat.{ℕ, _+_, _-_, _*_, _/_, _%_}
 use Rattle.bits.specs.Bytes.{number, byte}

@@ -9,10 +9,10 @@ use Rattle.bits.specs.Bytes.{Bytes, Block}
 use Rattle.bundle.specs.Built.{PlainBut}
 use Rattle.judgement.specs.Judge.{judge}
 use Rattle.judgement.specs.Witness.{mixingMatrix, mixingBundle}
+use Rattle.calls.specs.Calls.{walkedOver}
 use Rattle.whitebox.specs.Bundles.{cipherBlock, madeSet}
-use Rattle.whitebox.specs.Demand2.{walkedOver}
 use Rattle.whitebox.specs.Demand3.{Given}
-use Rattle.whitebox.specs.RoundTrip.{Crossed}
+use Rattle.external.specs.Coding.{Crossed}
 
 pub record Witness : Type 0 where
   -- The bytes hold these codings, and the bundle is accepted.

@@ -35,6 +35,9 @@ enum-told-2 c = search needs
 same-length : tie.Need-same-length
 same-length c = search needs
 
+slice-aggregate-inv-cipher : tie.Need-slice-aggregate-inv-cipher
+slice-aggregate-inv-cipher c = search needs
+
 expand-key-requires : tie.Need-expand-key-requires
 expand-key-requires c κs = search needs
 
@@ -52,6 +55,7 @@ decipher-spec =
     enum-told
     load-requires
     expand-key-requires
+    slice-aggregate-inv-cipher
     load-requires-2
     inv-cipher-requires
     store-requires

@@ -35,6 +35,9 @@ enum-told-2 c = search needs
 same-length : tie.Need-same-length
 same-length c = search needs
 
+slice-aggregate-cipher : tie.Need-slice-aggregate-cipher
+slice-aggregate-cipher c = search needs
+
 expand-key-requires : tie.Need-expand-key-requires
 expand-key-requires c κs = search needs
 
@@ -52,6 +55,7 @@ encipher-spec =
     enum-told
     load-requires
     expand-key-requires
+    slice-aggregate-cipher
     load-requires-2
     cipher-requires
     store-requires

@@ -1,8 +1,9 @@
 -- Laws, not definitions: the inverse cipher undoes the cipher, both ways round, for any number of rounds and any round keys.
 -- Assumes nothing.
-use mathlib.Core.Path.{_≡_, refl, ap, _∙_}
+use mathlib.Core.Path.{_≡_, ap, _∙_}
 use mathlib.Core.List.{List}
-use Prim.Native.Nat.{ℕ, zero, suc, _-_}
+use Prim.Native.Nat.{ℕ, zero, suc, _+_, _-_}
+use native.Mathlib.Omega.{arith}
 use Rattle.bits.specs.Bytes.{Bytes, Block}
 use Rattle.round.specs.State.{SubBytes, ShiftRows, MixColumns, AddRoundKey, InvSubBytes, InvShiftRows, InvMixColumns}
 use Rattle.round.specs.Key.{keyOf, KeyExpansion, roundsOf}
@@ -44,34 +45,37 @@ module _ (w : List ℕ) (l : Bytes w) where
   rounds-block zero s b = b
   rounds-block (suc r) s b = add _ (suc r) (mix-block _)
 
-  inv-rounds-block : (r : ℕ) (s : List ℕ) → Block s → Block (invRounds w r s)
+  inv-rounds-block : (nr r : ℕ) (s : List ℕ) → Block s → Block (invRounds nr w r s)
   unfolding invRounds
-  inv-rounds-block zero s b = b
-  inv-rounds-block (suc r) s b = inv-rounds-block r _ (inv-mix-block _)
+  inv-rounds-block nr zero s b = b
+  inv-rounds-block nr (suc r) s b = inv-mix-block _
 
-  rounds-back : (r : ℕ) (s : List ℕ) → Block s → invRounds w r (first (rounds w r s)) ≡ first s
+  -- r rounds of the inverse cipher take the last r of the cipher's back, and leave m.
+  rounds-back : (nr : ℕ) (s : List ℕ) → Block s → (r m : ℕ) → r + m ≡ nr - 1 → invRounds nr w r (first (rounds w (nr - 1) s)) ≡ first (rounds w m s)
   unfolding rounds invRounds first undo
-  rounds-back zero s b = refl
-  rounds-back (suc r) s b =
-      let t : List ℕ = first (rounds w r s) in
-      let m : Block (MixColumns t) = mix-block t in
-      ap (λ (z : List ℕ). invRounds w r (InvMixColumns (AddRoundKey z (keyOf w (suc r))))) (undo-first _ (add (MixColumns t) (suc r) m))
-      ∙ ap (λ (z : List ℕ). invRounds w r (InvMixColumns z)) (add-back (MixColumns t) (keyOf w (suc r)) (m .long))
-      ∙ ap (invRounds w r) (inv-mix t (first-block _ (rounds-block r s b)))
-      ∙ rounds-back r s b
+  rounds-back nr s b zero m e = ap (λ (n : ℕ). first (rounds w n s)) (let same : nr - 1 ≡ m = omega arith in same)
+  rounds-back nr s b (suc r) m e =
+      let t : List ℕ = first (rounds w m s) in
+      let k : List ℕ = keyOf w (suc m) in
+      ap (λ (z : List ℕ). InvMixColumns (AddRoundKey (undo z) (keyOf w (nr - suc r)))) (rounds-back nr s b r (suc m) (omega arith))
+      ∙ ap (λ (n : ℕ). InvMixColumns (AddRoundKey (undo (first (AddRoundKey (MixColumns t) k))) (keyOf w n))) (let its : nr - suc r ≡ suc m = omega arith in its)
+      ∙ ap (λ (z : List ℕ). InvMixColumns (AddRoundKey z k)) (undo-first _ (add (MixColumns t) (suc m) (mix-block t)))
+      ∙ ap InvMixColumns (add-back (MixColumns t) k (mix-block t .long))
+      ∙ inv-mix t (first-block _ (rounds-block m s b))
 
-  back-rounds : (r : ℕ) (s : List ℕ) → Block s → rounds w r (undo (invRounds w r s)) ≡ undo s
+  -- And the other way round.
+  back-rounds : (nr : ℕ) (s : List ℕ) → Block s → (r m : ℕ) → r + m ≡ nr - 1 → rounds w r (undo (invRounds nr w (nr - 1) s)) ≡ undo (invRounds nr w m s)
   unfolding rounds invRounds first undo
-  back-rounds zero s b = refl
-  back-rounds (suc r) s b =
+  back-rounds nr s b zero m e = ap (λ (n : ℕ). undo (invRounds nr w n s)) (let same : nr - 1 ≡ m = omega arith in same)
+  back-rounds nr s b (suc r) m e =
+      let t : List ℕ = undo (invRounds nr w m s) in
       let k : List ℕ = keyOf w (suc r) in
-      let h : Block (undo s) = undo-block s b in
-      let a : Block (AddRoundKey (undo s) k) = add (undo s) (suc r) h in
-      let i : Block (InvMixColumns (AddRoundKey (undo s) k)) = inv-mix-block _ in
-      ap (λ (z : List ℕ). AddRoundKey (MixColumns (first z)) k) (back-rounds r (InvMixColumns (AddRoundKey (undo s) k)) i)
-      ∙ ap (λ (z : List ℕ). AddRoundKey (MixColumns z) k) (first-undo _ i)
-      ∙ ap (λ (z : List ℕ). AddRoundKey z k) (mix-inv _ a)
-      ∙ add-back (undo s) k (h .long)
+      let h : Block t = undo-block _ (inv-rounds-block nr m s b) in
+      ap (λ (z : List ℕ). AddRoundKey (MixColumns (first z)) k) (back-rounds nr s b r (suc m) (omega arith))
+      ∙ ap (λ (n : ℕ). AddRoundKey (MixColumns (first (undo (InvMixColumns (AddRoundKey t (keyOf w n)))))) k) (let its : nr - suc m ≡ suc r = omega arith in its)
+      ∙ ap (λ (z : List ℕ). AddRoundKey (MixColumns z) k) (first-undo _ (inv-mix-block _))
+      ∙ ap (λ (z : List ℕ). AddRoundKey z k) (mix-inv _ (add t (suc r) h))
+      ∙ add-back t k (h .long)
 
 pub cipher-block : CipherBlock
 unfolding Cipher first
@@ -79,27 +83,27 @@ cipher-block w l nr s b = add w l _ nr (first-block _ (rounds-block w l (nr - 1)
 
 pub inv-cipher-block : InvCipherBlock
 unfolding InvCipher undo
-inv-cipher-block w l nr s b = add w l _ 0 (undo-block _ (inv-rounds-block w l (nr - 1) _ (add w l s nr b)))
+inv-cipher-block w l nr s b = add w l _ 0 (undo-block _ (inv-rounds-block w l nr (nr - 1) _ (add w l s nr b)))
 
 pub inv-cipher-cipher : InvCipherCipher
-unfolding Cipher InvCipher first undo
+unfolding rounds Cipher InvCipher first undo
 inv-cipher-cipher w l nr s b =
     let t : List ℕ = AddRoundKey s (keyOf w 0) in
     let h : Block t = add w l s 0 b in
-    ap (λ (z : List ℕ). AddRoundKey (undo (invRounds w (nr - 1) z)) (keyOf w 0))
+    ap (λ (z : List ℕ). AddRoundKey (undo (invRounds nr w (nr - 1) z)) (keyOf w 0))
     (add-back (first (rounds w (nr - 1) t)) (keyOf w nr) (first-block _ (rounds-block w l (nr - 1) t h) .long))
-    ∙ ap (λ (z : List ℕ). AddRoundKey (undo z) (keyOf w 0)) (rounds-back w l (nr - 1) t h)
+    ∙ ap (λ (z : List ℕ). AddRoundKey (undo z) (keyOf w 0)) (rounds-back w l nr t h (nr - 1) 0 (omega arith))
     ∙ ap (λ (z : List ℕ). AddRoundKey z (keyOf w 0)) (undo-first t h)
     ∙ add-back s (keyOf w 0) (b .long)
 
 pub cipher-inv-cipher : CipherInvCipher
-unfolding Cipher InvCipher first undo
+unfolding invRounds Cipher InvCipher first undo
 cipher-inv-cipher w l nr s b =
     let t : List ℕ = AddRoundKey s (keyOf w nr) in
     let h : Block t = add w l s nr b in
     ap (λ (z : List ℕ). AddRoundKey (first (rounds w (nr - 1) z)) (keyOf w nr))
-    (add-back (undo (invRounds w (nr - 1) t)) (keyOf w 0) (undo-block _ (inv-rounds-block w l (nr - 1) t h) .long))
-    ∙ ap (λ (z : List ℕ). AddRoundKey (first z) (keyOf w nr)) (back-rounds w l (nr - 1) t h)
+    (add-back (undo (invRounds nr w (nr - 1) t)) (keyOf w 0) (undo-block _ (inv-rounds-block w l nr (nr - 1) t h) .long))
+    ∙ ap (λ (z : List ℕ). AddRoundKey (first z) (keyOf w nr)) (back-rounds w l nr t h (nr - 1) 0 (omega arith))
     ∙ ap (λ (z : List ℕ). AddRoundKey z (keyOf w nr)) (first-undo t h)
     ∙ add-back s (keyOf w nr) (b .long)
 

@@ -13,6 +13,9 @@ abbrev μ-loop : tie.MeasureT-loop
 μ-loop records₀ records = 1024 - records
 
 -- ---- the needs that the search closes
+longer-keys-requires : tie.Need-longer-keys-requires Inv-loop μ-loop
+longer-keys-requires c κs = search needs
+
 loop-holds : tie.Need-loop-holds Inv-loop μ-loop
 loop-holds c = search needs
 
@@ -52,6 +55,7 @@ main-spec =
     (tie.spec
     Inv-loop
     μ-loop
+    longer-keys-requires
     loop-holds
     slice-aggregate-read-full
     read-full-requires

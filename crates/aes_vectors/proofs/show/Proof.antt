@@ -1,5 +1,5 @@
 -- `aes_vectors::show` ensures nothing: what is left is that it ends and writes within its line. The invariant: i is at most the number of bytes, which
--- is at most 176, and the line keeps its 353 places. Each byte takes two of them, so that one is left for the newline.
+-- is at most 240, and the line keeps its 481 places. Each byte takes two of them, so that one is left for the newline.
 -- Assumes nothing.
 use mathlib.Core.Path.{_≡_, refl}
 use Prim.Native.Nat.{_-_, _≤_}
@@ -10,7 +10,7 @@ use Rattle.aes_vectors.proofs.show.Statement.{statement}
 use Rattle.aes_vectors.proofs.show.Tie as tie
 
 abbrev Inv-loop : tie.InvT-loop
-Inv-loop bytes line₀ i₀ line i = (i ≤ length bytes) × (length line ≡ 353)
+Inv-loop bytes line₀ i₀ line i = (i ≤ length bytes) × (length line ≡ 481)
 
 abbrev μ-loop : tie.MeasureT-loop
 μ-loop bytes line₀ i₀ line i = length bytes - i

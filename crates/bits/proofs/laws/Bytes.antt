@@ -8,9 +8,10 @@ use native.Mathlib.Omega.{arith}
 use lib.Dec.{lit<}
 use lib.ListN.{length}
 use lib.Pow.{pow-add}
-use Rattle.bits.specs.Bytes.{Bytes, Block, byte, number, numberOf, bytesOf, placed}
+use Rattle.bits.specs.Bytes.{Bytes, Block, byte, number, numberOf, numberAt, bytesOf, placed}
 use Rattle.bits.specs.Groups.{group, xorAll}
 use Rattle.bits.specs.Lists.{at}
+use Rattle.bits.specs.Words.{wide}
 use Rattle.bits.proofs.laws.Filled.{Filled, filled-at}
 use Rattle.bits.proofs.laws.Groups.{group-lt, joined-lt, joined-same, joined-group, group-joined, joined-one, xor-placed}
 use Rattle.bits.proofs.laws.Lists.{length-tabulate, at-tabulate, tabulate-below, ext-at}
@@ -28,6 +29,13 @@ byte-from-bottom n i v r e =
 
 pub numberOf-lt : (n : ℕ) (l : List ℕ) → Bytes l → numberOf n l < 2 ^ (8 * n)
 numberOf-lt n l b = joined-lt 8 n (at l) (λ i h. b i)
+
+-- The number of four bytes lies in the low of two words.
+pub low-word : (l : List ℕ) (a hi lo : ℕ) → Bytes l → wide hi lo ≡ number 4 (λ j. at l (a + j)) → (lo ≡ numberAt l a) × (lo < 4294967296)
+unfolding wide numberAt
+low-word l a hi lo b e =
+    let n : number 4 (λ j. at l (a + j)) < 4294967296 = joined-lt 8 4 (λ j. at l (a + j)) (λ i h. b (a + i)) in
+    (omega arith, omega arith)
 
 pub length-bytesOf : (n v : ℕ) → length (bytesOf n v) ≡ n
 unfolding bytesOf

@@ -9,13 +9,13 @@ use Prim.Native.Nat.{ℕ, zero, suc, _+_, _-_, _*_, _/_, _%_, _≤_, _<_}
 use native.Mathlib.Decide.{ℕ-discrete, decLt}
 use native.Mathlib.Omega.{arith}
 use lib.Dec.{eqb}
-use lib.ListN.{length, getD, set, drop, length-set, length-drop}
+use lib.ListN.{length, getD, set, drop, replicate, length-set, length-drop}
 use lib.Seq.{ext-getD, getD-set-same, getD-set-other, getD-drop, paste, length-paste}
 use Rattle.bits.specs.Bytes.{Bytes, number}
 use Rattle.bits.specs.Groups.{joined}
 use Rattle.bits.specs.Lists.{at}
 use Rattle.bits.specs.Nibbles.{pack, half, nibble, setNibble, packed}
-use Rattle.bits.proofs.laws.Lists.{length-tabulate, at-tabulate, tabulate-below, set-below}
+use Rattle.bits.proofs.laws.Lists.{length-tabulate, at-tabulate, tabulate-below, set-below, zero-at}
 use Rattle.bits.proofs.laws.Pasted.{paste-lo, paste-mid, paste-hi}
 
 pub length-packed : (n : ℕ) (f : ℕ → ℕ) → length (packed n f) ≡ n
@@ -198,3 +198,12 @@ packed-nibbles n s len =
 pub packed-bytes : (n : ℕ) (f : ℕ → ℕ) → ((j : ℕ) → j < 2 * n → f j < 16) → Bytes (packed n f)
 unfolding packed
 packed-bytes n f b = tabulate-below 256 n _ (omega arith) (λ i h. omega (arith, b (2 * i) (omega arith), b (2 * i + 1) (omega arith)))
+
+-- ---- the nibbles of zeros
+half-zero : (r : ℕ) → half r 0 ≡ 0
+half-zero zero = refl
+half-zero (suc r) = refl
+
+pub nibble-zero : (n q : ℕ) → nibble (replicate n 0) q ≡ 0
+unfolding nibble
+nibble-zero n q = ap (half (q % 2)) (zero-at n (q / 2)) ∙ half-zero (q % 2)

@@ -8,7 +8,7 @@ use native.Mathlib.Omega.{arith}
 use lib.Dec.{lit<}
 use lib.ListN.{length, take, drop, length-append, List·getD-append}
 use lib.Seq.{drop-at, drop-drop, getD-append-add}
-use Rattle.bits.specs.Bytes.{Bytes, bytesOf}
+use Rattle.bits.specs.Bytes.{Bytes, numberAt, bytesOf}
 use Rattle.bits.specs.Encodings.{imagesOf, encodingBytes, plainEncoding}
 use Rattle.bits.specs.Groups.{group}
 use Rattle.bits.specs.Lists.{at, tabulate, concat, partOf}
@@ -25,9 +25,9 @@ use Rattle.matrices.proofs.laws.Stored.{length-matrixBytes, matrixBytes-bytes, 
 use Rattle.bundle.specs.Built.{bytesBefore, builtOffset, pairBytes, partBytes, sectionBytes, bundleOf, plainBundle}
 use Rattle.bundle.specs.Built.{PlainBytes, Writable, Holds, Built, Building, PlainBuilt}
 use Rattle.bundle.specs.Format.{encodings, byteMatrices, columnMatrices, partCount, partSize, sectionLength, shortest, longest}
-use Rattle.bundle.specs.Format.{numberAt, offset, stated, endBefore, PairRight, frame, sectionOf, partAt}
+use Rattle.bundle.specs.Format.{offset, stated, endBefore, PairRight, frame, sectionOf, partAt}
 use Rattle.answers.specs.declared.Answer.the-variants.{Accepted}
-use Rattle.bundle.proofs.laws.Frame.{frame-accepted, section-is}
+use Rattle.bundle.proofs.laws.Frame.{longest-small, frame-accepted, section-is}
 
 -- ---- sizes
 module _ (nr : ℕ) where
@@ -96,8 +96,7 @@ module _ (nr : ℕ) (E B C : ℕ → List ℕ) (I O : List ℕ) where
 
     -- What a pair states fits in four bytes.
     in-word : longest nr < 4294967296
-    unfolding longest
-    in-word = omega arith
+    in-word = omega (arith, longest-small nr)
 
     offset-is : (i : ℕ) → i < 5 → offset l i ≡ builtOffset nr i
     unfolding numberAt pairBytes

@@ -1,30 +1,30 @@
 -- Laws, not definitions: the definitions as the code meets them, by the test of a branch.
 -- Assumes nothing.
-use mathlib.Core.Bool.{true, false}
+use mathlib.Core.Bool.{Bool, true, false, _||_}
+use lib.Dec.{ltb}
 use mathlib.Core.List.{List, []}
 use mathlib.Core.Path.{_≡_, refl, sym, ap, ap₂, _∙_}
 use Prim.Native.Nat.{ℕ, zero, suc, _+_, _-_, _*_, _≤_, _<_}
-use native.Mathlib.Decide.{ℕ-discrete}
+use native.Mathlib.Decide.{ℕ-discrete, decLt}
 use native.Mathlib.Nat.{zero-mul}
 use native.Mathlib.Omega.{arith}
 use lib.ListN.{length, take, drop}
 use borrow.Author.Tests.{eq-eqb, ne-eqb, lt-ltb, le-ltb}
-use Rattle.bits.specs.Bytes.{Bytes, number}
-use Rattle.bits.specs.Lists.{at}
-use Rattle.bits.specs.Words.{wide}
-use Rattle.bits.proofs.laws.Groups.{joined-lt}
 use Rattle.bits.proofs.laws.Lists.{cut-is}
 use Rattle.bits.proofs.laws.Multiples.{product-le}
-use Rattle.bundle.specs.Format.{encodings, tenEncodings, byteMatrices, tenByteMatrices, columnMatrices, tenColumnMatrices, partCount, partSize}
-use Rattle.bundle.specs.Format.{sectionLength, shortest, longest, numberAt, offset, stated, endBefore, pairBad, lengthBad, frame, sectionOf, partAt}
+use Rattle.rounds.specs.Rounds.{known, Rounds}
+use Rattle.rounds.proofs.laws.Known.{known-rounds, rounds-known}
+use Rattle.bundle.specs.Format.{encodings, mostEncodings, byteMatrices, columnMatrices, partCount, partSize}
+use Rattle.bundle.specs.Format.{sectionLength, shortest, longest, offset, stated, endBefore, pairBad, lengthBad, frame, sectionOf, partAt}
 use Rattle.answers.specs.Search.{first, refusedAt}
 use Rattle.answers.specs.declared.found.Found.{Found}
 use Rattle.answers.specs.declared.found.Found.the-variants.{At, Nothing}
-use Rattle.answers.specs.Answers.{ifAccepted}
+use Rattle.answers.specs.Answers.{refusedIf, andThen, ifAccepted}
 use Rattle.answers.specs.declared.Answer.{Answer}
 use Rattle.answers.specs.declared.Answer.the-variants.{Accepted, Refused}
 use Rattle.answers.specs.declared.Refusal.{Refusal}
 use Rattle.answers.specs.declared.Refusal.the-variants.{BundleLength, Pair}
+use Rattle.answers.proofs.laws.Tests.{differ}
 use Rattle.answers.proofs.laws.Search.{found-refuses, found-passes}
 use Rattle.bundle.proofs.laws.Frame.{framed, right-good, range-good, section-is, section-none, section-fits}
 use Rattle.bundle.proofs.laws.Parts.{part-long}
@@ -45,26 +45,37 @@ no-parts : (nr s : ℕ) → 5 ≤ s → partCount nr s ≡ 0
 unfolding partCount
 no-parts nr s h = let e : suc (suc (suc (suc (suc (s - 5))))) ≡ s = omega arith in ap (partCount nr) (sym e)
 
--- ---- sizes, by the arms of the code's `match`; the numbers are those for ten rounds
-module _ (s : ℕ) where
-  pub count-encodings : 0 ≡ s → (tenEncodings ≡ partCount 10 s) × (tenEncodings ≤ tenEncodings)
+-- ---- sizes, as the code counts them
+module _ (nr : ℕ) (R : Rounds nr) where
+  pub high-ten : nr ≡ 10 → 65536 ≡ longest nr
+  unfolding longest
+  high-ten e = simp (rounds-known nr R, eq-eqb nr 10 e)
+
+  pub high-other : (nr ≡ 10 → ⊥) → 131072 ≡ longest nr
+  unfolding longest
+  high-other n = simp (rounds-known nr R, ne-eqb nr 10 n)
+
+-- The parts of section s, by the arms of the `match`.
+module _ (nr s : ℕ) where
+  pub count-lists : 0 ≡ s → Rounds nr → (32 + 2 * 992 + (nr - 1) * 448 ≡ partCount nr s) × (32 + 2 * 992 + (nr - 1) * 448 ≤ mostEncodings)
   unfolding partCount encodings
-  count-encodings e = (ap (partCount 10) e, omega arith)
+  count-lists e R = (ap (partCount nr) e, omega (arith, R))
 
-  pub count-bytes : 1 ≡ s → (tenByteMatrices ≡ partCount 10 s) × (tenByteMatrices ≤ tenEncodings)
+  pub count-bytes : 1 ≡ s → Rounds nr → (16 * nr ≡ partCount nr s) × (16 * nr ≤ mostEncodings)
   unfolding partCount byteMatrices
-  count-bytes e = (ap (partCount 10) e, omega arith)
+  count-bytes e R = (ap (partCount nr) e, omega (arith, R))
 
-  pub count-columns : 2 ≡ s → (tenColumnMatrices ≡ partCount 10 s) × (tenColumnMatrices ≤ tenEncodings)
+  pub count-columns : 2 ≡ s → Rounds nr → (4 * (nr - 1) ≡ partCount nr s) × (4 * (nr - 1) ≤ mostEncodings)
   unfolding partCount columnMatrices
-  count-columns e = (ap (partCount 10) e, omega arith)
+  count-columns e R = (ap (partCount nr) e, omega (arith, R))
 
-  pub count-block : 3 ≤ s → s < 5 → (1 ≡ partCount 10 s) × (1 ≤ tenEncodings)
-  count-block h k = (sym (block-count 10 s h k), omega arith)
+  pub count-block : 3 ≤ s → s < 5 → (1 ≡ partCount nr s) × (1 ≤ mostEncodings)
+  count-block h k = (sym (block-count nr s h k), omega arith)
 
-  pub count-none : 5 ≤ s → (0 ≡ partCount 10 s) × (0 ≤ tenEncodings)
-  count-none h = (sym (no-parts 10 s h), omega arith)
+  pub count-none : 5 ≤ s → (0 ≡ partCount nr s) × (0 ≤ mostEncodings)
+  count-none h = (sym (no-parts nr s h), omega arith)
 
+module _ (s : ℕ) where
   pub size-encoding : 0 ≡ s → (8 ≡ partSize s) × (1 ≤ 8) × (8 ≤ 2048)
   unfolding partSize
   size-encoding e = (ap partSize e, omega arith, omega arith)
@@ -81,18 +92,10 @@ module _ (s : ℕ) where
   size-block h = (sym (block-size s h), omega arith, omega arith)
 
   -- A section's length, of the count and the size that the code has.
-  pub section-counted : {count size : ℕ} → (count ≡ partCount 10 s) × (count ≤ tenEncodings)
-      → (size ≡ partSize s) × (1 ≤ size) × (size ≤ 2048) → (count * size ≡ sectionLength 10 s) × (count * size ≤ tenEncodings * 2048)
+  pub section-counted : (nr : ℕ) {count size : ℕ} → (count ≡ partCount nr s) × (count ≤ mostEncodings)
+      → (size ≡ partSize s) × (1 ≤ size) × (size ≤ 2048) → (count * size ≡ sectionLength nr s) × (count * size ≤ mostEncodings * 2048)
   unfolding sectionLength
-  section-counted c z = (ap₂ _*_ (c .0) (z .0), product-le _ _ tenEncodings 2048 (c .1) (z .2))
-
--- ---- numbers
--- The number of four bytes lies in the low word.
-pub low-word : (l : List ℕ) (a hi lo : ℕ) → Bytes l → wide hi lo ≡ number 4 (λ j. at l (a + j)) → (lo ≡ numberAt l a) × (lo < 4294967296)
-unfolding wide numberAt
-low-word l a hi lo b e =
-    let n : number 4 (λ j. at l (a + j)) < 4294967296 = joined-lt 8 4 (λ j. at l (a + j)) (λ i h. b (a + i)) in
-    (omega arith, omega arith)
+  section-counted nr c z = (ap₂ _*_ (c .0) (z .0), product-le _ _ mostEncodings 2048 (c .1) (z .2))
 
 -- ---- pairs
 pub before-first : (l : List ℕ) (i : ℕ) → i ≡ 0 → 40 ≡ endBefore l i
@@ -129,7 +132,37 @@ module _ (nr : ℕ) (l : List ℕ) (i : ℕ) {n want : ℕ} (en : n ≡ stated l
     pair-right b c =
         sym (right-good nr l i (record { long = sym en ∙ a ∙ ew; behind = omega arith; within = omega arith }))
 
--- ---- the frame, with the two lengths that the code has: low and high
+-- ---- the frame
+-- A bundle that is not too short has its pairs.
+pub low-forty : (nr : ℕ) {low : ℕ} → low ≡ shortest nr → 40 ≤ low
+unfolding shortest
+low-forty nr e = omega arith
+
+-- Of another number of rounds than 10, 12 and 14 the longest bundle has no byte, and the shortest has some: so every length is bad.
+pub frame-unknown : (nr : ℕ) (l : List ℕ) {k : Bool} → k ≡ known nr → k ≡ false → Refused BundleLength ≡ frame nr l
+unfolding frame lengthBad
+frame-unknown nr l e f = go (decLt (length l) (shortest nr))
+  where
+    none : longest nr ≡ 0
+    none = unfold longest in simp (sym e ∙ f)
+
+    some : 0 < shortest nr
+    some = unfold shortest in omega arith
+
+    go : Dec (length l < shortest nr) → Refused BundleLength
+        ≡ andThen (refusedIf (ltb (length l) (shortest nr) || ltb (longest nr) (length l)) BundleLength) (refusedAt (first 5 (pairBad nr l)) Pair)
+    go (yes h) = simp (lt-ltb (length l) (shortest nr) h)
+    go (no h) = simp (le-ltb (length l) (shortest nr) (omega arith), lt-ltb (longest nr) (length l) (omega (arith, none, some)))
+
+-- So where neither cause 2 nor cause 3 applies, the number of rounds is one of the three.
+pub framed-rounds : (nr : ℕ) (l : List ℕ) → frame nr l ≡ Accepted → Rounds nr
+framed-rounds nr l e = go (known nr) refl
+  where
+    go : (k : Bool) → known nr ≡ k → Rounds nr
+    go true f = known-rounds nr f
+    go false f = absurd (differ (sym e ∙ sym (frame-unknown nr l refl f)))
+
+-- The shortest and the longest bundle, as the code has them, have low and high bytes.
 module _ (nr : ℕ) (l : List ℕ) {low : ℕ} (eo : shortest nr ≡ low) where
   pub frame-short : length l < low → Refused BundleLength ≡ frame nr l
   unfolding frame lengthBad

@@ -1,6 +1,7 @@
 -- Laws, not definitions: causes 2 and 3, and what the sections are where neither applies.
 -- Assumes nothing.
-use mathlib.Core.Bool.{Bool, false, not, _||_}
+use mathlib.Core.Bool.{Bool, true, false, cond, not, _||_}
+use Rattle.rounds.specs.Rounds.{known}
 use mathlib.Core.List.{List, []}
 use mathlib.Core.Path.{_≡_, refl, ap, ap₂, _∙_}
 use Prim.Native.Nat.{ℕ, zero, suc, _+_, _≤_, _<_}
@@ -10,7 +11,7 @@ use lib.ListN.{length, take, drop, length-take, length-drop}
 use borrow.Author.Tests.{not-false, eqb-true, ltb-false, eq-eqb, le-ltb}
 use Rattle.bundle.specs.Format.{encodings, byteMatrices, columnMatrices, partCount, partSize, sectionLength, shortest, longest}
 use Rattle.bundle.specs.Format.{offset, stated, endBefore, PairRight, pairBad, lengthBad, frame, sectionOf}
-use Rattle.bundle.specs.Frames.{Sizes, InRange, Framed, Apart}
+use Rattle.bundle.specs.Frames.{Sizes, LengthRight, Framed, Apart}
 use Rattle.answers.specs.Search.{first, refusedAt}
 use Rattle.answers.specs.declared.found.Found.{Found}
 use Rattle.answers.specs.declared.found.Found.the-variants.{Nothing}
@@ -22,7 +23,7 @@ use Rattle.answers.proofs.laws.Tests.{both, passed, or-left, or-right, neither}
 use Rattle.answers.proofs.laws.Search.{none-all, all-none, none-found}
 
 pub sizes : Sizes
-unfolding encodings byteMatrices columnMatrices partCount partSize sectionLength shortest longest
+unfolding known encodings byteMatrices columnMatrices partCount partSize sectionLength shortest longest
 sizes = record {
   lists = refl;
   bytes = refl;
@@ -34,7 +35,22 @@ sizes = record {
   section-4 = refl;
   low = refl;
   high = refl;
+  low-12 = refl;
+  low-14 = refl;
+  high-12 = refl;
+  high-14 = refl;
+  most-lists = refl;
 }
+
+-- No bundle is longer.
+pub longest-small : (nr : ℕ) → longest nr ≤ 131072
+unfolding longest
+longest-small nr = go (known nr) (eqb nr 10)
+  where
+    go : (a b : Bool) → cond a (cond b 65536 131072) 0 ≤ 131072
+    go true true = omega arith
+    go true false = omega arith
+    go false b = omega arith
 
 -- ---- the tests are exact
 module _ (nr : ℕ) (l : List ℕ) (i : ℕ) where
@@ -59,14 +75,14 @@ module _ (nr : ℕ) (l : List ℕ) (i : ℕ) where
       (neither b c (le-ltb (offset l i) (endBefore l i) (R .behind)) (le-ltb (length l) (offset l i + stated l i) (R .within)))
 
 module _ (nr : ℕ) (l : List ℕ) where
-  pub length-good : lengthBad nr l ≡ false → InRange nr l
+  pub length-good : lengthBad nr l ≡ false → LengthRight nr l
   unfolding lengthBad
   length-good e =
       let a = ltb (length l) (shortest nr) in
       let b = ltb (longest nr) (length l) in
       record { low = ltb-false (length l) (shortest nr) (or-left a b e); high = ltb-false (longest nr) (length l) (or-right a b e) }
 
-  pub range-good : InRange nr l → lengthBad nr l ≡ false
+  pub range-good : LengthRight nr l → lengthBad nr l ≡ false
   unfolding lengthBad
   range-good R =
       neither (ltb (length l) (shortest nr)) (ltb (longest nr) (length l)) (le-ltb (length l) (shortest nr) (R .low)) (le-ltb (longest nr) (length l) (R .high))

@@ -9,9 +9,10 @@ use native.Mathlib.Omega.{arith}
 use lib.Dec.{ltb}
 use lib.ListN.{take, drop}
 use lib.Seq.{getD-take}
+use Rattle.bits.specs.Bytes.{numberAt}
 use Rattle.bits.specs.Lists.{at, partOf}
 use Rattle.bits.proofs.laws.Groups.{joined-same}
-use Rattle.bundle.specs.Format.{shortest, longest, numberAt, offset, stated, endBefore, pairBad, lengthBad}
+use Rattle.bundle.specs.Format.{shortest, longest, offset, stated, endBefore, pairBad, lengthBad}
 use Rattle.bundle.specs.Format.{frame, partSize, sectionOf, partAt}
 use Rattle.bundle.specs.FreeBytes.{SameButFree, FreeBytes}
 use Rattle.answers.specs.Search.{refusedAt}

@@ -1,17 +1,21 @@
 -- Laws, not definitions: the statements of specs/Theorems.antt, and the entry that the call gives.
 -- Assumes nothing.
+use mathlib.Core.Bool.{not}
 use mathlib.Core.List.{List, [], _∷_}
 use mathlib.Core.Path.{_≡_, refl, sym, ap, _∙_}
 use Prim.Native.Nat.{ℕ, zero, suc, _<_, _≤_}
 use native.Mathlib.Decide.{decLt}
 use native.Mathlib.Omega.{arith}
+use borrow.Author.Tests.{lt-ltb, le-ltb}
 use lib.ListN.{length}
 use Rattle.answers.specs.Answers.{replyOf}
 use Rattle.answers.specs.declared.Refusal.{Refusal}
 use Rattle.answers.specs.declared.Refusal.the-variants.{CataloguePosition}
+use Rattle.answers.proofs.laws.Tests.{test-refuses, test-passes}
 use Rattle.bits.specs.Lists.{at}
-use Rattle.catalogue.specs.Catalogue.{side, catalogue, catalogueLength, elementAt, catalogueEntry, entryAnswer}
-use Rattle.catalogue.specs.Theorems.{Calls, Catalogued}
+use Rattle.catalogue.specs.Catalogue.{side, catalogue, catalogueLength, elementAt, catalogueEntry, entryAnswer, judgePosition}
+use Rattle.catalogue.specs.Contracts.{Gives}
+use Rattle.catalogue.specs.Theorems.{EntriesGiven, Catalogued}
 use Rattle.catalogue.specs.declared.Entry.{Entry}
 use Rattle.catalogue.specs.declared.Entry.the-variants.{Matrix, Refused}
 use Rattle.catalogue.proofs.laws.Numbered.{numbered, sixteen-bits}
@@ -37,6 +41,22 @@ entry-given p h = entry-inside catalogue p (omega (arith, long))
 pub entry-refused : (p : ℕ) → catalogueLength ≤ p → catalogueEntry p ≡ Refused CataloguePosition
 entry-refused p h = entry-beyond catalogue p (omega (arith, long))
 
+-- ---- the call's contract, beyond the list and below its length
+pub gives-refused : (p : ℕ) → catalogueLength ≤ p → Gives p (Refused CataloguePosition)
+unfolding judgePosition
+gives-refused p h = record {
+  result = sym (entry-refused p h);
+  reply = ap replyOf (test-refuses _ CataloguePosition (ap not (le-ltb p catalogueLength h)));
+}
+
+pub gives-matrix : (p : ℕ) {v : ℕ} → p < catalogueLength → v ≡ at catalogue p → Gives p (Matrix v)
+unfolding judgePosition
+gives-matrix p h e = record {
+  result = ap Matrix e ∙ sym (entry-given p h);
+  reply = ap replyOf (test-passes _ CataloguePosition (ap not (lt-ltb p catalogueLength h)));
+}
+
+-- ---- what an entry tells of its position
 abbrev number : Entry → ℕ
 number (Matrix v) = v
 number (Refused why) = 0
@@ -69,7 +89,7 @@ module _ (p : ℕ) {v : ℕ} (e : catalogueEntry p ≡ Matrix v) where
 given-rising : (p q v w : ℕ) → p < q → catalogueEntry p ≡ Matrix v → catalogueEntry q ≡ Matrix w → v < w
 given-rising p q v w l e f = omega (arith, rising side p q l (omega (arith, given-inside q f, long)), given-number p e, given-number q f)
 
-calls : Calls
+calls : EntriesGiven
 calls = record {
   sixteen-bits = sixteen-bits;
   long = long;

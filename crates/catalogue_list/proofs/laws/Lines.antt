@@ -21,7 +21,7 @@ use Rattle.io.specs.Digits.{glyph}
 use Rattle.streams.specs.Lines.{matrixLine, matrixRoom}
 use Rattle.streams.specs.Written.{Written}
 use Rattle.streams.proofs.laws.Written.{written-whole}
-use Rattle.catalogue_list.specs.Lines.{linesOf, listBytes, Listed}
+use Rattle.catalogue_list.specs.Lines.{linesOf, listBytes, LinesOfCatalogue}
 
 unfoldable pub lineAt : ℕ → List ℕ
 lineAt p = matrixLine (at catalogue p)
@@ -49,9 +49,9 @@ text-line : (p : ℕ) → p < catalogueLength → partOf matrixRoom (linesOf cat
 unfolding linesOf lineAt partOf
 text-line p h = concat-row matrixRoom lineAt (length catalogue) (λ p h. line-long (at catalogue p)) p (omega (arith, catalogued .calls .long))
 
-pub listed : Listed
+pub lines-of-catalogue : LinesOfCatalogue
 unfolding lineAt
-listed = record { long = text-long; line = λ p h. text-line p h ∙ line-rows (at catalogue p) }
+lines-of-catalogue = record { long = text-long; line = λ p h. text-line p h ∙ line-rows (at catalogue p) }
 
 -- ---- the loop. Its invariant is `Parts` of bits: the first p parts of 5 bytes hold the lines of the first p entries. What the call gave at position p is r.
 module _ {d₀ d : List ℕ} {p : ℕ} (I : Parts catalogueLength matrixRoom lineAt d₀ d p) {r : Entry} (e : r ≡ catalogueEntry p) where

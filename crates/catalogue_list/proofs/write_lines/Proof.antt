@@ -28,14 +28,14 @@ returns c =
     let entry : tie.Start Inv-loop μ-loop = search in
     let turn : tie.At-loop Inv-loop μ-loop = search in
     let given : tie.After-entry-at Inv-loop μ-loop = search in
-    lines-all (turn .loop .inv) (given .entry-at .ensures) (c .enum-told .given .1) (entry .pre)
+    lines-all (turn .loop .inv) (given .entry-at .ensures .result) (c .enum-told .given .1) (entry .pre)
 
 -- where the call gave an entry: its position is within the catalogue, and the turn lends a part
 lent : (known : tie.After-entry Inv-loop μ-loop) → let turn : tie.At-loop Inv-loop μ-loop = search in (turn .loop .position < catalogueLength) × Part (turn .loop .inv)
 lent known =
     let turn : tie.At-loop Inv-loop μ-loop = search in
     let given : tie.After-entry-at Inv-loop μ-loop = search in
-    line-lent (turn .loop .inv) (given .entry-at .ensures) (known .entry .given .1)
+    line-lent (turn .loop .inv) (given .entry-at .ensures .result) (known .entry .given .1)
 
 mul-from : tie.Need-mul-from Inv-loop μ-loop
 mul-from c = omega (arith, lent (search) .0)
@@ -61,7 +61,7 @@ loop-again c =
     let given : tie.After-entry-at Inv-loop μ-loop = search in
     let known : tie.After-entry Inv-loop μ-loop = search in
     let written : tie.After-matrix-line Inv-loop μ-loop = search in
-    lines-more (turn .loop .inv) (given .entry-at .ensures) (known .entry .given .1) (written .matrix-line .kept .1 .0) (written .matrix-line .ensures)
+    lines-more (turn .loop .inv) (given .entry-at .ensures .result) (known .entry .given .1) (written .matrix-line .kept .1 .0) (written .matrix-line .ensures)
 
 same-length : tie.Need-same-length Inv-loop μ-loop
 same-length c =

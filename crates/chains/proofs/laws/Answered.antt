@@ -11,14 +11,14 @@ use native.Mathlib.Omega.{arith}
 use lib.Dec.{eqb}
 use Rattle.round.specs.Key.{roundsOf}
 use Rattle.layout.specs.Stages.{lookups}
+use Rattle.calls.specs.Calls.{Held, tablePart, Call, toStop, oneLookup, fetch, handed, blockLeft, started, serve, lastWalk}
+use Rattle.calls.specs.PlainCount.{argsOf, plain, LentCall, Lent}
+use Rattle.calls.proofs.laws.Calls.{next-le, start-count, counted}
 use Rattle.whitebox.specs.Bundles.{madeSet, madeTable}
-use Rattle.whitebox.specs.Calls.{Held, tablePart, Call, toStop, oneLookup, fetch, handed, blockLeft, started, serve, lastWalk}
 use Rattle.whitebox.specs.Demand3.{Presented}
-use Rattle.whitebox.specs.PlainCount.{argsOf, plain, LentCall, Lent}
-use Rattle.whitebox.proofs.laws.Calls.{next-le, start-count, counted}
 use Rattle.whitebox.proofs.laws.Demands.{demand3-for}
 use Rattle.whitebox.proofs.laws.Joined.{made-in-set}
-use Rattle.evaluate.proofs.laws.Demands.{presented}
+use Rattle.demands.proofs.laws.Demands.{presented}
 use Rattle.chains.specs.Orders.{oneOrder, fetchOrder, callFor, blockBehind, lastBlock, numbersOf, callsOf}
 use Rattle.chains.specs.Answered.{OrdersAnswered, Orders128}
 

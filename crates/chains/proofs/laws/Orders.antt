@@ -15,7 +15,7 @@ use Rattle.answers.proofs.laws.Numbers.{number-is}
 use Rattle.bits.proofs.laws.Lists.{cut, cut-is}
 use Rattle.layout.specs.Stages.{nowhere, placeOf}
 use Rattle.layout.specs.declared.stage.Place.{Place}
-use Rattle.whitebox.specs.Calls.{Held, tablePart, Call, toStop, oneLookup, fetch, reply, handed, passedOn, blockLeft, serve, lastWalk}
+use Rattle.calls.specs.Calls.{Held, tablePart, Call, toStop, oneLookup, fetch, reply, handed, passedOn, blockLeft, serve, lastWalk}
 use Rattle.evaluate.specs.Contracts.{Moves, Fetches}
 use Rattle.evaluate.specs.Held.{held}
 use Rattle.evaluate.specs.declared.walk.Move.{Move}

@@ -21,12 +21,12 @@ use Rattle.external.specs.Calls as external
 use Rattle.external.specs.Coding.{encodeNibbles, encodeBy, decodeBy, encodeInput, encodeOutput, decodeOutput}
 use Rattle.external.proofs.laws.Coding.{multiply-block}
 use Rattle.layout.specs.Stages.{lookups, setBytes}
+use Rattle.calls.specs.Calls.{started, toStop, fetch, judgeFetch, answer, handed}
+use Rattle.calls.specs.PlainCount.{stopArgs, plain}
+use Rattle.calls.proofs.laws.Calls.{start-count, counted}
+use Rattle.calls.proofs.laws.Judged.{presented-right, stop-right}
 use Rattle.whitebox.specs.Bundles.{cipherBlock, madeSet}
-use Rattle.whitebox.specs.Calls.{started, toStop, fetch, judgeFetch, answer, handed}
-use Rattle.whitebox.specs.PlainCount.{stopArgs, plain}
-use Rattle.whitebox.proofs.laws.Calls.{start-count, counted}
 use Rattle.whitebox.proofs.laws.Joined.{made-in-set}
-use Rattle.whitebox.proofs.laws.Judged.{presented-right, stop-right}
 use Rattle.tables.specs.Calls.{setAnswer}
 use Rattle.chains.specs.Whole.{presentAnswer, overAnswer, offAnswer, codedAnswer, wholeAnswer, Refusals}
 use Rattle.chains.proofs.laws.Whole.{set-given}

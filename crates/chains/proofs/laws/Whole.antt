@@ -21,16 +21,17 @@ use Rattle.layout.specs.Ciphers.{other}
 use Rattle.layout.specs.Stages.{lookups, tenLookups}
 use Rattle.layout.proofs.laws.Ciphers.{by-forward, by-inverse}
 use Rattle.layout.proofs.laws.Ten.{ten}
+use Rattle.calls.specs.Calls.{Held, judgeStart, started, toStop, fetch, judgeFetch, answer, handed, blockLeft}
+use Rattle.calls.specs.Calls.{walkedOver}
 use Rattle.whitebox.specs.Bundles.{cipherBlock, madeSet}
-use Rattle.whitebox.specs.Calls.{Held, judgeStart, started, toStop, fetch, judgeFetch, answer, handed, blockLeft}
-use Rattle.whitebox.specs.Demand2.{walkedOver, WalkIsCipher}
+use Rattle.whitebox.specs.Demand2.{WalkIsCipher}
 use Rattle.whitebox.proofs.laws.Demands.{demand2}
 use Rattle.tables.specs.Calls.{setAnswer, setLeft}
 use Rattle.tables.proofs.laws.Calls.{set-lent}
 use Rattle.evaluate.specs.Contracts.{Opens, Moves, Fetches}
 use Rattle.evaluate.specs.declared.walk.Move.{Move}
 use Rattle.evaluate.specs.declared.walk.Opening.{Opening}
-use Rattle.evaluate.proofs.laws.Demands.{calls}
+use Rattle.evaluate.proofs.laws.Whole.{whole-walk}
 use Rattle.chains.specs.Whole.{presentAnswer, overAnswer, offAnswer, codedAnswer, wholeAnswer, Presents, Walks, TakesOff, ThereAndBack}
 
 -- ---- the set and the block under the input coding
@@ -77,7 +78,7 @@ module _ (c : ℕ) (set x lent : List ℕ) {o : Opening} (s : Opens c x o) where
         record {
           answer = k .answer ∙ ap (answer 10 (fetch lent)) same ∙ decides moves g B ∙ decides (s .answer) f _;
           block =
-              calls .whole-walk c set x lent left (record { opening = o; move = m; answer = b; opens = s; moves = all-moves; fetches = k })
+              whole-walk 10 c set x lent left (record { opening = o; move = m; answer = b; opens = s; moves = all-moves; fetches = k })
               ∙ twice B (w .state .standing) lent
               ∙ by-later moves g B over lent
               ∙ by-later (s .answer) f _ over lent;

@@ -2,23 +2,23 @@
 -- Assumes nothing.
 use mathlib.Core.List.{List}
 use mathlib.Core.Path.{_≡_, sym, ap, ap₂, _∙_, subst}
-use Prim.Native.Nat.{ℕ, _+_, _*_, _/_, _%_, _≤_, _<_}
+use Prim.Native.Nat.{ℕ, _+_, _*_, _/_, _%_, _<_}
 use native.Mathlib.Decide.{decLt}
 use native.Mathlib.Nat.{div-add-mod', div-lt-iff-lt-mul, mod-lt}
 use native.Mathlib.Omega.{arith}
 use lib.Bits.{bitXor, xor-lt}
-use lib.ListN.{length, set, drop}
-use lib.Seq.{getD-take, getD-drop}
+use lib.ListN.{length, set}
 use Rattle.bits.specs.Bytes.{Bytes}
 use Rattle.bits.specs.Encodings.{imagesOf, encode, decode, Permutation}
 use Rattle.bits.specs.Lists.{at, tabulate, concat, partOf}
 use Rattle.bits.specs.Nibbles.{pack, packed, nibble}
 use Rattle.bits.proofs.laws.Encodings.{decode-lt}
 use Rattle.bits.proofs.laws.Filled.{Filled, filled-more}
-use Rattle.bits.proofs.laws.Lists.{at-tabulate, at-past, length-tabulate, tabulate-ext, at-concat, length-concat, ext-at, cut, cut-is}
+use Rattle.bits.proofs.laws.Images.{images-long}
+use Rattle.bits.proofs.laws.Lists.{at-tabulate, at-past, length-tabulate, tabulate-ext, at-concat, length-concat, ext-at}
 use Rattle.bits.proofs.laws.Nibbles.{nibble-lt, nibble-even, nibble-odd, packed-ext}
 use Rattle.entries.specs.Encodings.{encodingIn, Nibbles, byNibbles}
-use Rattle.entries.specs.Spread.{encodedByte}
+use Rattle.entries.specs.Xors.{ForSums}
 
 -- The images of bytes are nibbles.
 pub images-below : (s : List ℕ) → Bytes s → (v : ℕ) → at (imagesOf s) v < 16
@@ -35,10 +35,6 @@ two-more p {t} {i} I h =
     let both : 2 * i + 1 + 1 ≡ 2 * (i + 1) = omega arith in
     subst (Filled 16 (nibble p) (set (set t (2 * i) (at p i / 16)) (2 * i + 1) (at p i % 16))) both
     (filled-more (filled-more I (omega arith) (sym (nibble-even p i))) (omega arith) (sym (nibble-odd p i)))
-
--- A part of a list.
-at-cut : (l : List ℕ) (start size i : ℕ) → i < size → at (cut l start (start + size)) i ≡ at l (start + i)
-at-cut l start size i h = ap (λ (t : List ℕ). at t i) (cut-is l start size) ∙ getD-take size (drop start l) i 0 h ∙ getD-drop start l i 0
 
 -- What undoes an encoding, as a list.
 module _ (l a : List ℕ) (e : a ≡ tabulate 16 (decode l)) where
@@ -81,26 +77,19 @@ rows-packed g =
 pub rows-tabulated : (g : ℕ → ℕ → ℕ) → concat 16 (λ i. tabulate 16 (g i)) ≡ tabulate 256 (λ x. g (x / 16) (x % 16))
 rows-tabulated g = in-rows 16 16 g (omega arith)
 
--- Those of place k of a word, from the images of its two nibbles, which are parts of all images.
-pub place-encoded : (images : List ℕ) (k : ℕ)
-    → tabulate 256 (byNibbles (cut images (32 * k) (32 * k + 16)) (cut images (32 * k + 16) (32 * k + 16 + 16))) ≡ tabulate 256 (encodedByte (at images) k)
-place-encoded images k =
-    tabulate-ext 256 _ _ (λ b h.
-    let high : 32 * k + b / 16 ≡ 16 * (2 * k) + b / 16 = omega arith in
-    let low : 32 * k + 16 + b % 16 ≡ 16 * (2 * k + 1) + b % 16 = omega arith in
-    ap₂ pack (at-cut images (32 * k) 16 (b / 16) (omega arith) ∙ ap (at images) high) (at-cut images (32 * k + 16) 16 (b % 16) (omega arith) ∙ ap (at images) low))
-
--- The nibbles in such a part.
-pub part-nibbles : (images : List ℕ) (m start : ℕ) → Nibbles (32 * m) images → start + 16 ≤ 32 * m → Nibbles 16 (cut images start (start + 16))
-part-nibbles images m start small inside v h = subst (λ (x : ℕ). x < 16) (sym (at-cut images start 16 v h)) (small (start + v) (omega arith))
-
 -- ---- lists that are made from the encodings' parts of their section
 pub images-nibbles : (s part images : List ℕ) (n : ℕ) → Permutation (encodingIn s n) → part ≡ partOf 8 s n → images ≡ imagesOf part → Nibbles 16 images
-images-nibbles s part images n permutes p e v h = rw (e, p) (permutes .below v h)
+images-nibbles s part images n permutes p e = record {
+  long = omega (arith, ap length e ∙ images-long part);
+  small = λ v h. rw (e, p) (permutes .below v h);
+}
 
-pub places-lt : (s part places : List ℕ) (n : ℕ) → Permutation (encodingIn s n) → part ≡ partOf 8 s n → places ≡ tabulate 16 (decode (imagesOf part))
+pub places-nibbles : (s part places : List ℕ) (n : ℕ) → Permutation (encodingIn s n) → part ≡ partOf 8 s n → places ≡ tabulate 16 (decode (imagesOf part))
     → Nibbles 16 places
-places-lt s part places n permutes p e = place-below (encodingIn s n) places (rw p at e) permutes
+places-nibbles s part places n permutes p e = record {
+  long = omega (arith, ap length e ∙ length-tabulate 16 _);
+  small = place-below (encodingIn s n) places (rw p at e) permutes;
+}
 
 -- Every byte decoded, from the lists that undo the encodings of its nibbles.
 pub bytes-decoded : (s : List ℕ) (high low : ℕ) (a′ b′ a b dst : List ℕ)
@@ -117,9 +106,9 @@ bytes-decoded s high low a′ b′ a b dst pa ea pb eb e =
     (place-at (encodingIn s low) b (rw pb at eb) (x % 16) (omega arith)))
 
 -- The image of the sum of a nibble and an element of `added` is a nibble.
-pub sum-image : (added result : List ℕ) (a j r : ℕ) → a < 16 → Nibbles 16 added → j < 16 → Nibbles 16 result → r ≡ at result (bitXor a (at added j)) → r < 16
-sum-image added result a j r small nibbles h images e =
-    subst (λ (x : ℕ). x < 16) (sym e) (images (bitXor a (at added j)) (xor-lt 4 a (at added j) small (nibbles j h)))
+pub sum-image : (added result : List ℕ) (a j r : ℕ) → a < 16 → ForSums added result → j < 16 → r ≡ at result (bitXor a (at added j)) → r < 16
+sum-image added result a j r small lists h e =
+    subst (λ (x : ℕ). x < 16) (sym e) (lists .images .small (bitXor a (at added j)) (xor-lt 4 a (at added j) small (lists .undone .small j h)))
 
 -- An XOR table, from the lists of its three encodings.
 pub xor-made : (s : List ℕ) (sum added result : ℕ) (a′ b′ c′ a b c dst : List ℕ)

@@ -2,40 +2,39 @@
 -- which for a call is its walk's cipher's (`readsOf`). What the code has as numbers, the lookups and the bytes of a set, is `count` and `bytes`.
 -- Assumes nothing.
 use mathlib.Core.List.{List}
-use mathlib.Core.Logic.{_⊎_}
 use mathlib.Core.Path.{_≡_, sym, ap, ap₂, _∙_, subst}
 use Prim.Native.Nat.{ℕ, _+_, _-_, _≤_, _<_}
 use native.Mathlib.Numerals.{add-one}
 use native.Mathlib.Omega.{arith}
-use lib.ListN.{length, take, drop, replicate, length-replicate}
+use lib.ListN.{length, length-replicate}
 use Rattle.answers.specs.Answers.{accepted}
 use Rattle.answers.specs.declared.Answer.the-variants.{Accepted, Refused}
 use Rattle.answers.specs.declared.Refusal.{Refusal}
 use Rattle.answers.specs.declared.Refusal.the-variants.{SetLength, BlockLength, Stop, Unfinished}
 use Rattle.answers.proofs.laws.Tests.{differ, reply-was, left-new, left-old}
-use Rattle.network.specs.Lookups.{State, stateAt, zeroArea, lookup, lookupIn}
+use Rattle.network.specs.Lookups.{State, stateAt, zeroArea}
 use Rattle.network.specs.Order.{layerLookups}
-use Rattle.network.specs.Read.{readIn}
 use Rattle.network.specs.Sizes.{offsetOf}
 use Rattle.network.specs.Theorems.{WithinTable}
 use Rattle.network.specs.declared.EntryPlace.{EntryPlace}
 use Rattle.network.proofs.laws.Order.{layer-lookups}
 use Rattle.layout.specs.Ciphers.{kept, readsOf}
-use Rattle.layout.specs.Stages.{widthOf, shapeAt, shapes, lookups, setBytes, nowhere, tableOffset, stageOf, indexOf, placeOf}
+use Rattle.layout.specs.Stages.{widthOf, shapeAt, lookups, setBytes, nowhere, tableOffset, stageOf, indexOf, placeOf}
 use Rattle.layout.specs.declared.stage.Place.{Place}
-use Rattle.layout.proofs.laws.Lookup.{Sizes, Stands, stands, tables-in-set}
-use Rattle.layout.proofs.laws.Ranges.{by-stage}
-use Rattle.whitebox.specs.Calls.{Held, holding, Call, toStop, oneLookup, started, judgeStop, judgeOne, judgeFetch, advance, readNext, lastOffset}
-use Rattle.whitebox.specs.Calls.{answer, reply, handed, passedOn, blockLeft}
-use Rattle.whitebox.specs.PlaceRead.{InTable}
-use Rattle.whitebox.proofs.laws.Calls.{advance-split}
-use Rattle.whitebox.proofs.laws.Judged as judged
-use Rattle.whitebox.proofs.laws.Judged.{presented-wrong, presented-right, set-wrong, stop-right, none-left, table-wrong, table-right, block-wrong, count-wrong, count-right}
-use Rattle.whitebox.proofs.laws.Named.{refused-leaves}
-use Rattle.whitebox.proofs.laws.PlaceRead.{in-table, place-was-read}
-use Rattle.lookups.specs.InPlace.{offsetLimit, Fits, Holds, LookedUp, LayerMade, placeOfLast, sumsIn}
-use Rattle.bits.proofs.laws.Lists.{cut, cut-is, length-cut}
+use Rattle.layout.proofs.laws.Lookup.{Sizes, stands}
+use Rattle.calls.specs.Calls.{marked, keptMark, zeroHeld, Held, holding, Call, toStop, oneLookup, started, judgeStop, judgeOne, judgeFetch, advance, lastOffset}
+use Rattle.calls.specs.Calls.{answer, reply, handed, passedOn, blockLeft}
+use Rattle.calls.specs.PlaceRead.{InTable}
+use Rattle.calls.proofs.laws.Calls.{advance-split}
+use Rattle.calls.proofs.laws.Judged as judged
+use Rattle.calls.proofs.laws.Judged.{presented-wrong, presented-right, set-wrong, stop-right, none-left, table-wrong, table-right, block-wrong, count-wrong, count-right}
+use Rattle.calls.proofs.laws.Kept.{refused-leaves}
+use Rattle.calls.proofs.laws.PlaceRead.{place-was-read}
+use Rattle.lookups.specs.InPlace.{LookedUp, LayerMade, placeOfLast, sumsIn}
 use Rattle.lookups.proofs.laws.Whole.{length-sums-in}
+use Rattle.passes.specs.InPlace.{LookupMade}
+use Rattle.passes.specs.declared.Lookup.{Lookup}
+use Rattle.passes.proofs.laws.Places.{looked-up, read-there, inside-there}
 use Rattle.evaluate.specs.Held.{held}
 use Rattle.evaluate.specs.Advanced.{Refuses, Advanced, Advances}
 use Rattle.evaluate.specs.Contracts.{Opens, Moves, Fetches}
@@ -43,82 +42,29 @@ use Rattle.evaluate.specs.declared.walk.Move.{Move}
 use Rattle.evaluate.specs.declared.walk.Walk.{Walk}
 use Rattle.evaluate.proofs.laws.Stages.{last-split, layer-walk, layer-read, layer-inside}
 
--- ---- the place of a lookup
-module _ {nr count bytes : ℕ} (N : Sizes nr count bytes) (n : ℕ) (p : Place) (h : n < count) (e : p ≡ placeOf nr n) where
-  place : Stands nr n p
-  place = stands (omega (arith, N .all-lookups)) e
-
-  -- The table of a lookup, lent alone, or as a part of the set.
-  pub table-fits : (long : ℕ) → long ≡ p .size → Fits (p .stage) (p .index) long
-  table-fits long l = record { within = place .index; sized = l ∙ place .kind }
-
-  pub part-within : p .offset + p .size ≤ bytes
-  part-within = omega (arith, place .end, tables-in-set nr, N .all-bytes)
-
-  pub part-fits : (set : List ℕ) → length set ≡ bytes → Fits (p .stage) (p .index) (length (cut set (p .offset) (p .offset + p .size)))
-  part-fits set l = table-fits _ (length-cut set (p .offset) (p .size) (omega (arith, part-within)))
-
-  pub place-width : (m : ℕ) → m ≡ widthOf (p .stage) → (m ≡ 4) ⊎ (m ≡ 16)
-  place-width m f = rw f (place .width)
-
-  -- The tables of a stage or half, from its first lookup on, lie in a set.
-  pub place-holds : (long : ℕ) → long ≡ bytes → bytes ≤ offsetLimit → p .index ≡ 0 → Holds (p .stage) (p .offset) long
-  place-holds long l s z = record { width = place .width; room = omega (arith, place .layer z, tables-in-set nr, N .all-bytes); short = omega arith }
-
--- The lookup made in place is the walk's.
-module _ (reads : ℕ → ℕ) (nr n : ℕ) (p : Place) (h : n < lookups nr) (e : p ≡ placeOf nr n) {t s a s′ a′ : List ℕ} {r : EntryPlace}
-    (l : LookedUp (shapeAt reads (p .stage)) (p .index) t (p .offset) s a r s′ a′) where
-  looked-up : lookup (shapes reads nr) t (stateAt n s a) ≡ stateAt (n + 1) s′ a′
-  unfolding lookup
-  looked-up =
-      let w : State = stateAt n s a in
-      by-stage nr .lookup-is reads n h t w
-      ∙ ap (λ (p : Place). lookupIn (shapeAt reads (p .stage)) (p .index) t w) (sym e)
-      ∙ l .walk n
-      ∙ ap (λ (k : ℕ). stateAt k s′ a′) (sym (add-one n))
-
-  -- And so is the place that it read.
-  pub read-there : r ≡ readNext reads nr (stateAt n s a)
-  read-there =
-      l .read
-      ∙ ap (λ (p : Place). readIn (shapeAt reads (p .stage)) (p .index) (p .offset) s a) e
-      ∙ sym (by-stage nr .read-is reads n h (tableOffset nr n) s a)
-
-  offset-there : r .offset ≡ readNext reads nr (stateAt n s a) .offset
-  offset-there = ap (λ (r : EntryPlace). r .offset) read-there
-
-  pub inside-there : InTable nr n (r .offset)
-  inside-there =
-      in-table nr n h r (subst (λ (p : Place). WithinTable (widthOf (p .stage)) (p .index) (p .offset) r) e (l .table))
-
 -- ---- a step: one lookup, or all of a stage or half, made in place, is the walk's
-module _ {reads : ℕ → ℕ} {nr count bytes : ℕ} (N : Sizes nr count bytes) {set : List ℕ} {n stop : ℕ} {p : Place} {s a s′ a′ : List ℕ}
-    (e : p ≡ placeOf nr n) (b : n < stop) (d : stop ≤ count) where
-  pub one-advanced : {r : EntryPlace} → LookedUp (shapeAt reads (p .stage)) (p .index) (cut set (p .offset) (p .offset + p .size)) (p .offset) s a r s′ a′
-      → Advanced reads nr set n stop (n + 1) (r .offset) s a s′ a′
-  unfolding advance lastOffset
-  one-advanced {r} l =
-      let w : State = stateAt n s a in
-      let inside : n < lookups nr = omega (arith, N .all-lookups) in
-      let one : n + 1 - n ≡ 1 = omega arith in
-      let part = ap (λ (p : Place). take (p .size) (drop (p .offset) set)) (sym e) ∙ sym (cut-is set (p .offset) (p .size)) in
-      record {
-        more = omega arith;
-        most = omega arith;
-        walk =
-            ap (λ (x : ℕ). advance reads nr set x w) one
-            ∙ ap (λ (t : List ℕ). lookup (shapes reads nr) t w) part
-            ∙ looked-up reads nr n p inside e l;
-        offset = offset-there reads nr n p inside e l ∙ ap (λ (x : ℕ). lastOffset reads nr set x w) (sym one);
-        inside = subst (λ (k : ℕ). InTable nr k (r .offset)) (let z : n ≡ n + 1 - 1 = omega arith in z) (inside-there reads nr n p inside e l);
-        kept = l .kept;
-        long = l .long;
-      }
+pub one-advanced : {reads : ℕ → ℕ} {nr : ℕ} {set : List ℕ} {n stop : ℕ} {s a s′ a′ : List ℕ} {r : Lookup} → n < stop → LookupMade reads nr set n s a r s′ a′
+    → Advanced reads nr set n stop (n + 1) (r .offset) s a s′ a′
+unfolding lastOffset advance
+one-advanced {reads} {nr} {set} {n} {s = s} {a} {s′} {a′} {r} b made =
+    let w : State = stateAt n s a in
+    let one : n + 1 - n ≡ 1 = omega arith in
+    record {
+      more = omega arith;
+      most = omega arith;
+      walk = ap (λ (x : ℕ). advance reads nr set x w) one ∙ made .walk ∙ ap (λ (k : ℕ). stateAt k s′ a′) (sym (add-one n));
+      offset = ap (λ (r : EntryPlace). r .offset) (made .place) ∙ ap (λ (x : ℕ). lastOffset reads nr set x w) (sym one);
+      inside = subst (λ (k : ℕ). InTable nr k (r .offset)) (let z : n ≡ n + 1 - 1 = omega arith in z) (made .inside);
+      kept = made .kept;
+      long = made .long;
+    }
 
+module _ {reads : ℕ → ℕ} {nr : ℕ} {set : List ℕ} {n stop : ℕ} {p : Place} {s a s′ a′ : List ℕ}
+    (e : p ≡ placeOf nr n) (b : n < stop) (d : stop ≤ lookups nr) where
   pub all-advanced : {all m : ℕ} {r : EntryPlace} → m ≡ widthOf (p .stage) → all ≡ layerLookups m → p .index ≡ 0 → all ≤ stop - n → length s ≡ 16
       → length a ≡ 256 → LayerMade (shapeAt reads (p .stage)) set (p .offset) s a r s′ a′ → Advanced reads nr set n stop (n + all) (r .offset) s a s′ a′
   all-advanced {all} {m} {r} v c z b′ ls la f =
-      let inside : n < lookups nr = omega (arith, N .all-lookups) in
+      let inside : n < lookups nr = omega arith in
       let x : n + all - n ≡ all = omega arith in
       let q : all ≡ layerLookups (widthOf (stageOf nr n)) = c ∙ ap layerLookups v ∙ ap (λ (p : Place). layerLookups (widthOf (p .stage))) e in
       let i : indexOf nr n ≡ 0 = ap (λ (p : Place). p .index) (sym e) ∙ z in
@@ -202,20 +148,20 @@ module _ {reads : ℕ → ℕ} {nr : ℕ} {set : List ℕ} {stop : ℕ} {w₀ : 
       )
 
 -- ---- start
-pub start-refused : (c : ℕ) (block : List ℕ) → (length block ≡ 16 → ⊥)
-    → Opens c block (record { answer = Refused BlockLength; walk = record { cipher = 0; count = 0; standing = replicate 16 0; area = zeroArea } })
+pub start-refused : (c : ℕ) (block : List ℕ) (w : Walk) → (length block ≡ 16 → ⊥) → held w ≡ zeroHeld
+    → Opens c block (record { answer = Refused BlockLength; walk = w })
 unfolding started
-start-refused c block n =
+start-refused c block w n f =
     let j = presented-wrong (length block) n in
-    record { answer = j; walk = left-old _ BlockLength _ _ (sym j) }
+    record { answer = j; walk = f ∙ left-old _ BlockLength _ _ (sym j) }
 
 -- The walk w keeps the cipher, and its standing bytes s are the block.
-pub start-done : (c : ℕ) (block s : List ℕ) (w : Walk) → length block ≡ 16 → s ≡ block → held w ≡ holding (kept c) (stateAt 0 s zeroArea)
+pub start-done : (c : ℕ) (block s : List ℕ) (w : Walk) → length block ≡ 16 → s ≡ block → held w ≡ holding (marked c) (stateAt 0 s zeroArea)
     → Opens c block (record { answer = Accepted; walk = w })
 unfolding started
 start-done c block s w l e f =
     let j = presented-right (length block) l in
-    record { answer = j; walk = f ∙ ap (λ (x : List ℕ). holding (kept c) (stateAt 0 x zeroArea)) e ∙ left-new _ _ _ (sym j) }
+    record { answer = j; walk = f ∙ ap (λ (x : List ℕ). holding (marked c) (stateAt 0 x zeroArea)) e ∙ left-new _ _ _ (sym j) }
 
 -- ---- a move: the answer, the walk handed back, and the offset passed on
 -- One that is refused, as any call c: the definitions leave the walk and pass on the offset of no lookup, and the walk has not moved.
@@ -276,19 +222,23 @@ module _ {nr count bytes : ℕ} (N : Sizes nr count bytes) (table : List ℕ) (w
 
     pub one-done : {s′ a′ : List ℕ} {r : EntryPlace} → m .answer ≡ Accepted → length table ≡ p .size
         → LookedUp (shapeAt (readsOf (w .cipher)) (p .stage)) (p .index) table (p .offset) (w .standing) (w .area) r s′ a′
-        → held (m .walk) ≡ holding (kept (w .cipher)) (stateAt (w .count + 1) s′ a′) → m .offset ≡ r .offset → Moves nr (oneLookup table) w m
+        → held (m .walk) ≡ holding (keptMark (held w .mark)) (stateAt (w .count + 1) s′ a′) → m .offset ≡ r .offset → Moves nr (oneLookup table) w m
     unfolding answer handed passedOn
-    one-done {r = r} a l u f g =
+    one-done {s′} {a′} {r} a l u f g =
         let reads = readsOf (w .cipher) in
         let j = table-right nr _ _ left (l ∙ stands left e .size) in
         record {
           answer = a ∙ j;
-          walk = f ∙ ap (holding (kept (w .cipher))) (sym (looked-up reads nr (w .count) p left e u)) ∙ left-new _ _ (held w) (sym j);
-          offset = g ∙ offset-there reads nr (w .count) p left e u ∙ left-new _ _ (nowhere nr) (sym j);
+          walk =
+              f
+              ∙ ap (λ (k : ℕ). holding (keptMark (held w .mark)) (stateAt k s′ a′)) (add-one (w .count))
+              ∙ ap (holding (keptMark (held w .mark))) (sym (looked-up reads nr (w .count) left e u))
+              ∙ left-new _ _ (held w) (sym j);
+          offset = g ∙ ap (λ (r : EntryPlace). r .offset) (read-there reads nr (w .count) left e u) ∙ left-new _ _ (nowhere nr) (sym j);
           inside =
               λ more.
               rw g (subst (λ (k : ℕ). InTable nr k (r .offset)) (let z : w .count ≡ m .walk .count - 1 = omega (arith, ap (λ (v : Held). v .state .count) f) in z)
-              (inside-there reads nr (w .count) p left e u));
+              (inside-there reads nr (w .count) left e u));
         }
 
 -- ---- fetch: the answer, and the block as it is left

@@ -1,15 +1,24 @@
 -- Laws, not definitions: a chain of calls in code answers as the list of its calls does, for any number of rounds. A call that meets its contract answers
--- what that list has it answer, and leaves the walk that it says; the rest is an induction.
+-- what that list has it answer, and leaves the walk that it says; the rest is an induction. And a walk of the code is known by what it holds.
 -- Assumes nothing.
 use mathlib.Core.List.{List, [], _∷_, map}
 use mathlib.Core.Path.{_≡_, refl, ap, ap₂, _∙_}
 use Prim.Native.Nat.{ℕ}
 use Rattle.answers.specs.Answers.{replyOf}
-use Rattle.whitebox.specs.Calls.{Held, Served, reply, handed, passedOn, blockLeft, serve, lastWalk}
-use Rattle.whitebox.proofs.laws.Served.{served}
+use Rattle.calls.specs.Calls.{Held, Served, reply, handed, passedOn, blockLeft, serve, lastWalk}
+use Rattle.calls.proofs.laws.Served.{served}
 use Rattle.evaluate.specs.Held.{held}
 use Rattle.evaluate.specs.Chains.{CallMade, moveTo, moveOne, fetched, callOf, walkAfter, servedBy, Meets, Serves, ChainServes}
 use Rattle.evaluate.specs.declared.walk.Walk.{Walk}
+
+-- ---- two walks that hold the same are the same
+-- The code's walk is all that is held.
+unheld : Held → Walk
+unheld h = record { cipher = h .mark .cipher; count = h .state .count; standing = h .state .standing; area = h .state .area }
+
+pub same-walk : (v w : Walk) → held v ≡ held w → v ≡ w
+unfolding unheld
+same-walk v w e = ap unheld e
 
 module _ (nr : ℕ) where
   -- ---- one call

@@ -1,4 +1,4 @@
--- Laws, not definitions: the place that was read, of the code, from that of the definitions (crate whitebox). A move that meets its contract has the answer, the
+-- Laws, not definitions: the place that was read, of the code, from that of the definitions (crate calls). A move that meets its contract has the answer, the
 -- walk and the offset that these have; a lookup that meets its contract reads the place that these give, within its table, so what it puts down stands there.
 -- Assumes nothing.
 use mathlib.Core.Path.{_≡_, sym, ap, _∙_, subst}
@@ -16,9 +16,9 @@ use Rattle.network.proofs.laws.Read.{puts-what-it-reads}
 use Rattle.layout.specs.Ciphers.{readsOf}
 use Rattle.layout.specs.Stages.{shapeAt, tableOffset, stageOf, indexOf}
 use Rattle.layout.proofs.laws.Ranges.{by-stage}
-use Rattle.whitebox.specs.Calls.{Held, Call, placeRead, reply}
-use Rattle.whitebox.specs.PlaceRead.{InTable}
-use Rattle.whitebox.proofs.laws.PlaceRead.{in-table, place-was-read}
+use Rattle.calls.specs.Calls.{Held, Call, placeRead, reply}
+use Rattle.calls.specs.PlaceRead.{InTable}
+use Rattle.calls.proofs.laws.PlaceRead.{in-table, place-was-read}
 use Rattle.evaluate.specs.Held.{held}
 use Rattle.evaluate.specs.Contracts.{Moves}
 use Rattle.evaluate.specs.PlaceRead.{LookupsMade, MovesMade, SingleMovesMade, NoLookupMade, PlacesMade}

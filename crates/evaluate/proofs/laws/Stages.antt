@@ -19,10 +19,10 @@ use Rattle.layout.specs.declared.stage.Stage.{Stage}
 use Rattle.layout.proofs.laws.Lookup.{first-byte}
 use Rattle.layout.proofs.laws.Ranges.{in-stage, by-stage}
 use Rattle.layout.proofs.laws.Stages.{lookups-16, lookups-4}
-use Rattle.whitebox.specs.Calls.{tablePart, step, advance, readNext, lastOffset}
-use Rattle.whitebox.specs.PlaceRead.{InTable}
-use Rattle.whitebox.proofs.laws.Calls.{advance-split, advance-last}
-use Rattle.whitebox.proofs.laws.PlaceRead.{in-table}
+use Rattle.calls.specs.Calls.{tablePart, step, advance, readNext, lastOffset}
+use Rattle.calls.specs.PlaceRead.{InTable}
+use Rattle.calls.proofs.laws.Calls.{advance-split, advance-last}
+use Rattle.calls.proofs.laws.PlaceRead.{in-table}
 use Rattle.lookups.specs.InPlace.{tableFrom, spreadsIn, xorsIn, placeOfLast, sumsIn}
 use Rattle.lookups.proofs.laws.Layers.{at-spread, at-xor, at-last}
 

@@ -160,13 +160,11 @@ module _ (nr : ℕ) (l : List ℕ) {p : List ℕ} where
   pub output-long : p ≡ outputMatrixPart nr l → judge nr l ≡ Accepted → 2048 ≤ length p
   output-long e = matrix-room nr l 4 (omega arith) (omega arith) p e
 
-  pub input-has : p ≡ inputMatrixPart nr l → Bytes l → judge nr l ≡ Accepted
-      → (2048 ≤ length p) × (hasInverse (invert 128 (matrixOf 16 p)) ≡ true)
-  input-has e bytes a = (input-long e a, part-has p _ e (at-bytes nr l 3 0 bytes) (accepted-sound nr l bytes a .input))
+  pub input-has : p ≡ inputMatrixPart nr l → Bytes l → judge nr l ≡ Accepted → hasInverse (invert 128 (matrixOf 16 p)) ≡ true
+  input-has e bytes a = part-has p _ e (at-bytes nr l 3 0 bytes) (accepted-sound nr l bytes a .input)
 
-  pub output-has : p ≡ outputMatrixPart nr l → Bytes l → judge nr l ≡ Accepted
-      → (2048 ≤ length p) × (hasInverse (invert 128 (matrixOf 16 p)) ≡ true)
-  output-has e bytes a = (output-long e a, part-has p _ e (at-bytes nr l 4 0 bytes) (accepted-sound nr l bytes a .output))
+  pub output-has : p ≡ outputMatrixPart nr l → Bytes l → judge nr l ≡ Accepted → hasInverse (invert 128 (matrixOf 16 p)) ≡ true
+  output-has e bytes a = part-has p _ e (at-bytes nr l 4 0 bytes) (accepted-sound nr l bytes a .output)
 
 -- ---- the four codings: what the code does with the part p is what the definition does with the bundle's matrix
 module _ (nr : ℕ) (l x old : List ℕ) {p out : List ℕ} where

@@ -161,7 +161,7 @@ plain-nibbles E first plain x B =
     (λ q b. ap (λ (e : List ℕ). encode e (nibble x q)) (plain q b) ∙ at-tabulate 16 _ (nibble x q) (nibble-lt x (B .bytes) q))
     ∙ packed-nibbles 16 x (B .long)
 
-plain-multiply : (x : List ℕ) → Block x → multiply (identity 128) x ≡ x
+pub plain-multiply : (x : List ℕ) → Block x → multiply (identity 128) x ≡ x
 unfolding multiply
 plain-multiply x B =
     ap (bytesOf 16) (product-identity 128 (numberOf 16 x) (numberOf-lt 16 x (B .bytes))) ∙ bytesOf-numberOf 16 x (B .long) (B .bytes)

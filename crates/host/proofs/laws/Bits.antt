@@ -14,19 +14,19 @@ use Rattle.answers.proofs.laws.Tests.{differ, left-new}
 use Rattle.bits.specs.Flips.{flipped}
 use Rattle.layout.specs.Ciphers.{readsOf}
 use Rattle.layout.proofs.laws.Cases.{starred}
+use Rattle.calls.specs.Calls.{judgeWhole}
+use Rattle.calls.specs.Calls.{walkedOver}
 use Rattle.whitebox.specs.Bundles.{madeSet}
-use Rattle.whitebox.specs.Calls.{judgeWhole}
-use Rattle.whitebox.specs.Demand2.{walkedOver}
 use Rattle.sensitivity.specs.Reads.{bitsRead}
 use Rattle.sensitivity.specs.Theorems.{Lendable}
 use Rattle.sensitivity.proofs.laws.Calls.{flipped-lent}
 use Rattle.sensitivity.proofs.laws.Proved.{sensitivity}
 use Rattle.next_bit.specs.Contracts.{Finds}
-use Rattle.next_bit.specs.NextBit.{answerOf, nextBit}
+use Rattle.next_bit.specs.NextBit.{bitAnswer, nextBit}
 use Rattle.next_bit.specs.Search.{Tells}
 use Rattle.next_bit.specs.declared.search.NextBit.{NextBit}
 use Rattle.next_bit.specs.declared.search.NextBit.the-variants.{Bit, NoneLeft, Refused}
-use Rattle.next_bit.proofs.laws.Calls.{next-answers}
+use Rattle.next_bit.proofs.laws.Calls.{next-answers, finds}
 use Rattle.next_bit.proofs.laws.Proved.{bits-had}
 use Rattle.host.specs.Bits.{bitLeft, BitsTold, RefusedKeepsBit, BitsCount}
 use Rattle.host.specs.Told.{none}
@@ -36,10 +36,10 @@ use Rattle.host.proofs.laws.Walks.{good}
 
 -- ---- the call, where the search handed back r, and n is its answer's number: for each result, what is returned and what is left behind the pointer
 module _ (c : ℕ) (set block : List ℕ) (from : ℕ) {r : NextBit} (e : Finds c 10 set block from r) {n : ℕ} (old : ℕ) where
-  by-result : (s : NextBit) → r ≡ s → n ≡ numberOf (answerOf s)
+  by-result : (s : NextBit) → r ≡ s → n ≡ numberOf (bitAnswer s)
       → (n ≡ numberOf (judgeWhole 10 (length set) (length block))) × (bitLeft s old ≡ bitLeft (nextBit c 10 set block from) old)
   by-result s f g =
-      let T = told-by answerOf (λ r. bitLeft r old) (nextBit c 10 set block from) s e f g in
+      let T = told-by bitAnswer (λ r. bitLeft r old) (nextBit c 10 set block from) s (e .result) f g in
       (T .0 ∙ ap numberOf (next-answers c 10 set block from), T .1)
 
   pub next-bit : {v : ℕ} → r ≡ Bit v → n ≡ numberOf Accepted
@@ -60,26 +60,26 @@ module _ (c : ℕ) (set block : List ℕ) (from old : ℕ) (lent : Lendable 10 s
   due = nextBit c 10 set block from
 
   told : Tells (bitsRead (readsOf c) 10 set block) from due
-  told = bits-had .smallest c 10 set block lent from due refl
+  told = bits-had .smallest c 10 set block lent from due (finds c 10 set block from refl)
 
-  accepted : answerOf due ≡ Accepted
+  accepted : bitAnswer due ≡ Accepted
   accepted = next-answers c 10 set block from ∙ bits-had .tests 10 (length set) (length block) .none (lent .long) (lent .block .long)
 
   -- A bit of the set has another number than the one that tells of none.
   below-none : (v : ℕ) → due ≡ Bit v → v ≡ none → ⊥
   below-none v e f =
-      omega (arith, sensitivity .in-order (readsOf c) 10 set block lent .within v (told .bit-only v e .listed), lent .long, starred .all-bytes)
+      omega (arith, sensitivity .in-order (readsOf c) 10 set block lent .within v (told .bit-only v e .listed), starred .table-bytes)
 
   -- By the result r, which is no refusal.
   none-told : (r : NextBit) → due ≡ r → bitLeft r old ≡ none → r ≡ NoneLeft
   none-told (Bit v) e f = absurd (below-none v e f)
   none-told NoneLeft e f = refl
-  none-told (Refused why) e f = differ (sym accepted ∙ ap answerOf e)
+  none-told (Refused why) e f = differ (sym accepted ∙ ap bitAnswer e)
 
   bit-told : (r : NextBit) → due ≡ r → (bitLeft r old ≡ none → ⊥) → r ≡ Bit (bitLeft r old)
   bit-told (Bit v) e f = refl
   bit-told NoneLeft e f = absurd (f refl)
-  bit-told (Refused why) e f = differ (sym accepted ∙ ap answerOf e)
+  bit-told (Refused why) e f = differ (sym accepted ∙ ap bitAnswer e)
 
 pub bits-told : BitsTold
 bits-told c set block from old lent =
@@ -92,7 +92,7 @@ bits-told c set block from old lent =
       bit-if = λ v S. ap (λ (r : NextBit). bitLeft r old) (T .bit-if v S);
     }
 
-kept : (r : NextBit) (old : ℕ) → (answerOf r ≡ Accepted → ⊥) → bitLeft r old ≡ old
+kept : (r : NextBit) (old : ℕ) → (bitAnswer r ≡ Accepted → ⊥) → bitLeft r old ≡ old
 kept (Bit v) old f = absurd (f refl)
 kept NoneLeft old f = absurd (f refl)
 kept (Refused why) old f = refl
@@ -120,8 +120,8 @@ bits-count c key l block given presented i old below lent lent′ room room′ =
     left c (flipped set i) block lent′ (flipped-lent 10 set block (S .right) i) room′ in
     record {
       changes = λ e same.
-          D .changes (T .bit-only i (bit-told c set block i old (S .right) r refl (λ f. omega arith) ∙ ap Bit e) .listed) (sym turned ∙ same ∙ before);
+          D .differ-exactly .1 (T .bit-only i (bit-told c set block i old (S .right) r refl (λ f. omega arith) ∙ ap Bit e) .listed) (sym turned ∙ same ∙ before);
       only = λ other.
           ap (λ (r : NextBit). bitLeft r old)
-          (T .bit-if i (record { listed = D .only (λ same. other (turned ∙ same ∙ sym before)); reached = le-refl i; least = λ u q h. h }));
+          (T .bit-if i (record { listed = D .differ-exactly .0 (λ same. other (turned ∙ same ∙ sym before)); reached = le-refl i; least = λ u q h. h }));
     }

@@ -22,7 +22,7 @@ use Rattle.judgement.specs.Judge.{judgeEncodings, judgeByteMatrices, judgeColum
 use Rattle.external.specs.Calls.{answer}
 use Rattle.layout.specs.Stages.{lookups, setBytes, tableSize}
 use Rattle.tables.specs.Calls.{judgedFor, setAnswerFor, tableAnswerFor, judged, setAnswer, tableAnswer}
-use Rattle.whitebox.specs.Calls.{judgeWhole}
+use Rattle.calls.specs.Calls.{judgeWhole}
 use Rattle.records.specs.Record.{recordBytes}
 use Rattle.records.specs.Replay.{judgeRecord}
 use Rattle.host.specs.Returned.{Returned}

@@ -13,7 +13,7 @@ use Rattle.answers.proofs.laws.Tests.{differ}
 use Rattle.layout.specs.Stages.{lookups}
 use Rattle.layout.proofs.laws.Cases.{starred}
 use Rattle.records.specs.Contracts.{Replays}
-use Rattle.records.specs.Replay.{judgeRecord, answerOf, replayed}
+use Rattle.records.specs.Replay.{judgeRecord, verdictAnswer, replayed}
 use Rattle.records.specs.Theorems.{Exact}
 use Rattle.records.specs.declared.replay.Verdict.{Verdict}
 use Rattle.records.specs.declared.replay.Verdict.the-variants.{Own, Differs, Refused}
@@ -23,10 +23,10 @@ use Rattle.host.proofs.laws.Pointers.{told-by}
 
 -- ---- the call, where the replay handed back v, and n is its answer's number: for each verdict, what is returned and what is left behind the pointer
 module _ (c : ℕ) (set block rec : List ℕ) {v : Verdict} (e : Replays c 10 set block rec v) {n : ℕ} (old : ℕ) where
-  by-verdict : (w : Verdict) → v ≡ w → n ≡ numberOf (answerOf w)
+  by-verdict : (w : Verdict) → v ≡ w → n ≡ numberOf (verdictAnswer w)
       → (n ≡ numberOf (judgeRecord 10 (length set) (length block) (length rec))) × (differsLeft w old ≡ differsLeft (replayed c 10 set block rec) old)
   by-verdict w f g =
-      let T = told-by answerOf (λ v. differsLeft v old) (replayed c 10 set block rec) w e f g in
+      let T = told-by verdictAnswer (λ v. differsLeft v old) (replayed c 10 set block rec) w (e .result) f g in
       (T .0 ∙ ap numberOf (records-and-replays .answers c 10 set block rec), T .1)
 
   pub replay-own : v ≡ Own → n ≡ numberOf Accepted
@@ -54,12 +54,12 @@ module _ (c : ℕ) (set block rec : List ℕ) (old : ℕ) (ok : judgeRecord 10 (
   own-told : (v : Verdict) → replayed c 10 set block rec ≡ v → differsLeft v old ≡ none → v ≡ Own
   own-told Own e f = refl
   own-told (Differs k) e f = absurd (below-none k (exact .first-only k e .below) f)
-  own-told (Refused r) e f = differ (sym ok ∙ sym (records-and-replays .answers c 10 set block rec) ∙ ap answerOf e)
+  own-told (Refused r) e f = differ (sym ok ∙ sym (records-and-replays .answers c 10 set block rec) ∙ ap verdictAnswer e)
 
   lookup-told : (v : Verdict) → replayed c 10 set block rec ≡ v → (differsLeft v old ≡ none → ⊥) → v ≡ Differs (differsLeft v old)
   lookup-told Own e f = absurd (f refl)
   lookup-told (Differs k) e f = refl
-  lookup-told (Refused r) e f = differ (sym ok ∙ sym (records-and-replays .answers c 10 set block rec) ∙ ap answerOf e)
+  lookup-told (Refused r) e f = differ (sym ok ∙ sym (records-and-replays .answers c 10 set block rec) ∙ ap verdictAnswer e)
 
 pub tells-exactly : TellsExactly
 tells-exactly c set block rec old ok = record {
@@ -69,7 +69,7 @@ tells-exactly c set block rec old ok = record {
   first-if = λ k B. ap (λ (v : Verdict). differsLeft v old) (exact c set block rec old ok .first-if k B);
 }
 
-kept : (v : Verdict) (old : ℕ) → (answerOf v ≡ Accepted → ⊥) → differsLeft v old ≡ old
+kept : (v : Verdict) (old : ℕ) → (verdictAnswer v ≡ Accepted → ⊥) → differsLeft v old ≡ old
 kept Own old f = absurd (f refl)
 kept (Differs k) old f = absurd (f refl)
 kept (Refused r) old f = refl

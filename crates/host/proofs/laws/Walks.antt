@@ -12,12 +12,12 @@ use Rattle.answers.specs.declared.Refusal.the-variants.{BlockLength}
 use Rattle.answers.proofs.laws.Tests.{first-refuses, second-decides, length-wrong, length-right, left-new, left-old}
 use Rattle.layout.specs.Stages.{tenLookups}
 use Rattle.layout.proofs.laws.Cases.{starred}
-use Rattle.whitebox.specs.Calls.{toStop, judgeWhole}
+use Rattle.calls.specs.Calls.{toStop, judgeWhole}
 use Rattle.evaluate.specs.Contracts.{Opens, Moves, Fetches}
-use Rattle.evaluate.specs.Demands.{WalkMade}
+use Rattle.evaluate.specs.Whole.{WalkMade}
 use Rattle.evaluate.specs.declared.walk.Move.{Move}
 use Rattle.evaluate.specs.declared.walk.Opening.{Opening}
-use Rattle.evaluate.proofs.laws.Demands.{calls}
+use Rattle.evaluate.proofs.laws.Whole.{whole-walk}
 use Rattle.host.specs.Walks.{walkAnswer, walkLeaves}
 
 -- ---- The answer, test by test, behind the answer w for set and block.
@@ -50,4 +50,4 @@ module _ (c : ℕ) (set block lent : List ℕ) {a : Answer} (e : a ≡ walkAnswe
       let made : WalkMade c 10 set block lent left =
       record { opening = o; move = m; answer = b; opens = s; moves = rw (starred .all-lookups) h; fetches = k }
       in
-      calls .whole-walk c set block lent left made ∙ left-new _ _ lent (sym e ∙ f)
+      whole-walk 10 c set block lent left made ∙ left-new _ _ lent (sym e ∙ f)

@@ -23,7 +23,7 @@ loop-holds c =
     let digit : tie.After-digit Inv-loop μ-loop = search in
     let row : tie.After-row Inv-loop μ-loop = search in
     let entry : tie.Start Inv-loop μ-loop = search in
-    clearing-none (entry .pre .1) (entry .pre .2) (row .row .ensures) (digit .digit .ensures) (other .row2 .ensures) (sum .add .ensures)
+    clearing-none (entry .pre .room) (entry .pre .column) (row .row .ensures) (digit .digit .ensures) (other .row2 .ensures) (sum .add .ensures)
 
 loop-again : tie.Need-loop-again Inv-loop μ-loop
 loop-again c =

@@ -34,7 +34,7 @@ use Rattle.judgement.specs.Cases.{RefusedWith, NoneBelow4, List0, Byte15
 use Rattle.judgement.specs.Judge.{judge}
 use Rattle.judgement.specs.Judgements.{GoodEncodings, GoodByteMatrix, GoodColumnMatrix, GoodByteMatrices, FirstUnfit}
 use Rattle.judgement.specs.Witness.{mixingMatrix}
-use Rattle.judgement.proofs.laws.Judgements.{only}
+use Rattle.judgement.proofs.laws.Judgements.{why-judge}
 use Rattle.judgement.proofs.laws.Matrices.{equal-rows}
 use Rattle.judgement.proofs.laws.Mixing.{mixing-square, mixing-matrices, identity-block, last-bad-square, last-bad-block, last-bad-byte, last-bad-column}
 use Rattle.judgement.proofs.laws.Mixing.{twins, twins-square, twins-blocks, twins-equal}
@@ -63,7 +63,7 @@ pub list-0 : List0
 unfolding encodings
 list-0 l bytes high a b = record {
   refusal = Encoding 0;
-  judged = only 10 l bytes (Refused (Encoding 0)) (
+  judged = why-judge 10 l bytes (Refused (Encoding 0)) (
     none-below l high (frame 10 l) refl,
     record {
       below = omega arith;
@@ -79,7 +79,7 @@ pub byte-159 : Byte159
 unfolding byteMatrices
 byte-159 l bytes only-fault a b ha hb ne e = record {
   refusal = ByteMatrix 159;
-  judged = only 10 l bytes (Refused (ByteMatrix 159)) (
+  judged = why-judge 10 l bytes (Refused (ByteMatrix 159)) (
     only-fault .framed,
     only-fault .lists,
     record {
@@ -105,7 +105,7 @@ plain-judged nr l some bytes whole plain =
       before = λ i h. absurd (omega arith);
       here = subst (Unfit 2) (sym (plain .bytes 0 (omega arith))) (inr identity-block);
     } in
-    (lists, only nr l bytes (Refused (ByteMatrix 0)) (whole, lists, first))
+    (lists, why-judge nr l bytes (Refused (ByteMatrix 0)) (whole, lists, first))
 
 pub plain-refused : PlainRefused
 plain-refused =
@@ -137,7 +137,7 @@ module _ (B C : ℕ → List ℕ) (byte-squares : (n : ℕ) → Square 8 (B n)) 
         before = λ i k. good-bytes i (omega arith) (before i k);
         here = subst (Unfit 2) (sym (built .holds .bytes n h)) unfit;
       } in
-      let judged = only 10 (plainBut 10 B C) (built .all-bytes) (Refused (ByteMatrix n)) (whole, lists, first) in
+      let judged = why-judge 10 (plainBut 10 B C) (built .all-bytes) (Refused (ByteMatrix n)) (whole, lists, first) in
       record { refusal = ByteMatrix n; judged = judged; number = refl; with = refl }
 
   column-fault : (n : ℕ) → n < columnMatrices 10 → All (byteMatrices 10) (λ i. BlockInvertible 2 (B i)) → All n (λ i. BlockInvertible 8 (C i))
@@ -150,7 +150,7 @@ module _ (B C : ℕ → List ℕ) (byte-squares : (n : ℕ) → Square 8 (B n)) 
         here = subst (Unfit 8) (sym (built .holds .columns n h)) unfit;
       } in
       let lower : GoodByteMatrices 10 (plainBut 10 B C) = λ i k. good-bytes i k (bytes i k) in
-      let judged = only 10 (plainBut 10 B C) (built .all-bytes) (Refused (ColumnMatrix n)) (whole, lists, lower, first) in
+      let judged = why-judge 10 (plainBut 10 B C) (built .all-bytes) (Refused (ColumnMatrix n)) (whole, lists, lower, first) in
       record { refusal = ColumnMatrix n; judged = judged; number = refl; with = refl }
 
 -- ---- one matrix is m, the others mix

@@ -10,36 +10,30 @@ use native.Mathlib.Nat.{zero-add, add-zero}
 use native.Mathlib.Numerals.{add-one}
 use native.Mathlib.Omega.{arith}
 use lib.Bits.{bitXor, bitAnd}
-use lib.Dec.{eqb, eqb→eq}
+use lib.Dec.{eqb}
 use lib.ListN.{drop}
 use lib.Seq.{getD-take, getD-drop}
 use borrow.Author.Tests.{eq-eqb, ne-eqb, eqb-false}
 use Rattle.answers.proofs.laws.Tests.{or-left, or-right, neither}
 use Rattle.bits.specs.Bytes.{Bytes}
 use Rattle.bits.specs.Encodings.{imagesOf, Permutation}
-use Rattle.bits.specs.Groups.{group}
 use Rattle.bits.specs.Lists.{at, partOf}
 use Rattle.bits.specs.Nibbles.{nibble}
 use Rattle.bits.specs.Vectors.{bit, unit}
-use Rattle.bits.proofs.laws.Checked.{all-at}
 use Rattle.bits.proofs.laws.Images.{image-at, images-long}
-use Rattle.bits.proofs.laws.Nibbles.{nibble-lt, nibble-even, nibble-odd}
-use Rattle.bits.proofs.laws.Vectors.{bit-lt, bit-unit-same}
-use Rattle.bits.proofs.laws.Xor.{xor-assoc}
+use Rattle.bits.proofs.laws.Nibbles.{nibble-lt}
+use Rattle.bits.proofs.laws.Vectors.{bit-zero}
 use Rattle.judgement.specs.Judge.{among, repeats, noPermutation}
-use Rattle.judgement.specs.Marks.{metBefore, pairMarks}
-use Rattle.judgement.proofs.laws.Marks.{pair-other, bit-turned, turned-set, both-free, pair-free, top-kept}
+use Rattle.judgement.proofs.laws.Marks.{mark-free, mark-set, turned-set, turned-other}
 
 -- ---- the numbers met so far, marked in the bits of a number: bit y says whether y is among the first i
 abbrev Marked : ℕ → (ℕ → ℕ) → ℕ → Type 0
 Marked s f i = (y : ℕ) → y < 16 → eqb (bit 16 y s) 1 ≡ among i 0 f y
 
--- None at first: the mark that stands from the start is above theirs.
-marked-none : (f : ℕ → ℕ) → Marked metBefore f 0
-unfolding among group
-marked-none f y h =
-    let none : bit 16 y metBefore ≡ 0 = eqb→eq (bit 16 y metBefore) 0 (all-at 16 (λ y. eqb (bit 16 y metBefore) 0) tt y h) in
-    rw none
+-- None at first.
+marked-none : (f : ℕ → ℕ) → Marked 0 f 0
+unfolding among
+marked-none f y h = rw (bit-zero 16 y)
 
 among-next : (k j : ℕ) (f : ℕ → ℕ) (x : ℕ) → among (suc k) j f x ≡ (among k j f x || eqb (f (j + k)) x)
 unfolding among
@@ -49,25 +43,18 @@ among-next (suc k) j f x =
     ap (λ (b : Bool). eqb (f j) x || b) (among-next k (suc j) f x ∙ rw e)
     ∙ sym (or-assoc (eqb (f j) x) (among k (suc j) f x) (eqb (f (j + suc k)) x))
 
-module _ (s : ℕ) (f : ℕ → ℕ) (i : ℕ) (h : f i < 16) (new : among i 0 f (f i) ≡ false) (S : Marked s f i) where
+module _ (s : ℕ) (f : ℕ → ℕ) (i : ℕ) (h : f i < 16) (new : bit 16 (f i) s ≡ 0) (S : Marked s f i) where
+  among-none-yet : among i 0 f (f i) ≡ false
+  among-none-yet = sym (S (f i) h) ∙ rw new
+
   next : (y : ℕ) → among (i + 1) 0 f y ≡ (among i 0 f y || eqb (f i) y)
   next y = ap (λ (k : ℕ). among k 0 f y) (add-one i) ∙ among-next i 0 f y ∙ rw (zero-add i)
 
-  here : (y : ℕ) → y ≡ f i → eqb (bit 16 y (bitXor s (unit 16 (f i)))) 1 ≡ among (i + 1) 0 f y
-  here y e =
-      let z : bit 16 (f i) s ≡ 0 = omega (arith, bit-lt 16 (f i) s, eqb-false (bit 16 (f i) s) 1 (S (f i) h ∙ new)) in
-      let b : bit 16 (f i) (bitXor s (unit 16 (f i))) ≡ 1 = turned-set s (f i) (f i) refl z in
-      rw (next y, e, b, new, eq-eqb (f i) (f i) refl)
-
-  there : (y : ℕ) → y < 16 → (y ≡ f i → ⊥) → eqb (bit 16 y (bitXor s (unit 16 (f i)))) 1 ≡ among (i + 1) 0 f y
-  there y k e =
-      let b : bit 16 y (bitXor s (unit 16 (f i))) ≡ bit 16 y s = bit-turned s (f i) y h k (λ q. e (sym q)) in
-      rw (next y, b, S y k, ne-eqb (f i) y (λ q. e (sym q))) (sym (or-false (among i 0 f y)))
-
   marked-more : Marked (bitXor s (unit 16 (f i))) f (i + 1)
-  marked-more y k = elim (ℕ-discrete y (f i)) [
-    | yes e ↦ here y e
-    | no e ↦ there y k e
+  marked-more y k = elim (ℕ-discrete (f i) y) [
+    | yes e ↦ subst (λ (z : ℕ). eqb (bit 16 z (bitXor s (unit 16 (f i)))) 1 ≡ among (i + 1) 0 f z) e
+        (rw (next (f i), turned-set s (f i) h new, among-none-yet, eq-eqb (f i) (f i) refl))
+    | no e ↦ rw (next y, turned-other s (f i) h y k e, S y k, ne-eqb (f i) y e) (sym (or-false (among i 0 f y)))
   ]
 
 -- ---- one turn of the loop over the images
@@ -147,96 +134,43 @@ unfolding noPermutation
 in-section s n =
     repeats-same 16 0 (at (imagesOf (partOf 8 s n))) (imageIn s n) (λ i h. image-at (partOf 8 s n) i (omega arith) ∙ nibble-part s n i (omega arith))
 
--- ---- one turn of the loop over a list's bytes: images i and i + 1, of the byte b
-module _ (m s : ℕ) (f : ℕ → ℕ) (i b : ℕ) (e : b / 16 ≡ f i) (e′ : b % 16 ≡ f (i + 1)) (small : b < 256) (h : i + 1 < m) (S : Marked s f i) where
-  abbrev once : ℕ
-  once = bitXor s (unit 16 (b / 16))
-
-  first-told : among i 0 f (f i) ≡ eqb (bit 16 (b / 16) s) 1
-  first-told = ap (among i 0 f) (sym e) ∙ sym (S (b / 16) (omega arith))
-
-  -- Where the first image is new, it is marked.
-  module _ (new : bit 16 (b / 16) s ≡ 0) where
-    first-new : among i 0 f (f i) ≡ false
-    first-new = first-told ∙ rw new
-
-    first-marked : Marked once f (i + 1)
-    first-marked = subst (λ (x : ℕ). Marked (bitXor s (unit 16 x)) f (i + 1)) (sym e) (marked-more s f i (omega arith) first-new S)
-
-    second-told : among (i + 1) 0 f (f (i + 1)) ≡ eqb (bit 16 (b % 16) once) 1
-    second-told = ap (among (i + 1) 0 f) (sym e′) ∙ sym (first-marked (b % 16) (omega arith))
-
-    second-repeats : bit 16 (b % 16) once ≡ 1 → repeats (m - i) i f ≡ true
-    second-repeats one = repeats-no m i f (omega arith) first-new ∙ repeats-yes m (i + 1) f h (second-told ∙ rw one)
-
-  byte-repeats : bitAnd s (pairMarks b) ≢ 0 → repeats (m - i) i f ≡ true
-  byte-repeats hit = elim (ℕ-discrete (bit 16 (b / 16) s) 0) [
-    | no marked ↦ repeats-yes m i f (omega arith) (first-told ∙ eq-eqb (bit 16 (b / 16) s) 1 (omega (arith, bit-lt 16 (b / 16) s)))
-    | yes new ↦ elim (ℕ-discrete (b / 16) (b % 16)) [
-      | yes same ↦ second-repeats new (turned-set s (b / 16) (b % 16) same new)
-      | no other ↦ elim (ℕ-discrete (bit 16 (b % 16) s) 0) [
-        | yes free ↦ absurd (hit (ap (bitAnd s) (sym (pair-other b other)) ∙ both-free s (b / 16) (b % 16) (omega arith) (omega arith) new free))
-        | no marked ↦ second-repeats new (bit-turned s (b / 16) (b % 16) (omega arith) (omega arith) other ∙ omega (arith, bit-lt 16 (b % 16) s))
-      ]
-    ]
-  ]
-
-  byte-new : bit 17 0 s ≡ 1 → bitAnd s (pairMarks b) ≡ 0
-      → (repeats (m - i) i f ≡ repeats (m - (i + 1 + 1)) (i + 1 + 1) f) × Marked (bitXor s (pairMarks b)) f (i + 1 + 1)
-  byte-new top free =
-      let F = pair-free s b small top free in
-      let second : bit 16 (b % 16) once ≡ 0 = bit-turned s (b / 16) (b % 16) (omega arith) (omega arith) (F .differ) ∙ F .second in
-      let new : among (i + 1) 0 f (f (i + 1)) ≡ false = second-told (F .first) ∙ rw second in
-      let both : bitXor once (unit 16 (b % 16)) ≡ bitXor s (pairMarks b) = xor-assoc s _ _ ∙ ap (bitXor s) (pair-other b (F .differ)) in (
-        repeats-no m i f (omega arith) (first-new (F .first)) ∙ repeats-no m (i + 1) f h new,
-        subst (λ (z : ℕ). Marked z f (i + 1 + 1)) (ap (λ (x : ℕ). bitXor once (unit 16 x)) (sym e′) ∙ both)
-            (marked-more once f (i + 1) (omega arith) new (first-marked (F .first))),
-      )
-
--- Byte i of list n has its images 2 i and 2 i + 1.
-abbrev pub byteIn : List ℕ → ℕ → ℕ → ℕ
-byteIn s n i = at s (n * 8 + i)
-
-byte-images : (s : List ℕ) (n i : ℕ) → (byteIn s n i / 16 ≡ imageIn s n (2 * i)) × (byteIn s n i % 16 ≡ imageIn s n (2 * i + 1))
-byte-images s n i =
-    let a : 2 * (n * 8 + i) ≡ n * 16 + 2 * i = omega arith in
-    let o : 2 * (n * 8 + i) + 1 ≡ n * 16 + (2 * i + 1) = omega arith in
-    (sym (nibble-even s (n * 8 + i)) ∙ ap (nibble s) a, sym (nibble-odd s (n * 8 + i)) ∙ ap (nibble s) o)
-
--- The loop's invariant: the images of the first i bytes of list n differ, `met` marks them, and the images left decide.
+-- The loop's invariant: the first i images of list n differ, `met` marks them, and the images left decide.
 pub record Imaged (l : List ℕ) (n met i : ℕ) : Type 0 where
-  pub within : i ≤ 8
-  pub same : badIn l n ≡ repeats (16 - 2 * i) (2 * i) (imageIn l n)
-  pub marks : Marked met (imageIn l n) (2 * i)
-  pub top : bit 17 0 met ≡ 1
+  pub within : i ≤ 16
+  pub same : badIn l n ≡ repeats (16 - i) i (imageIn l n)
+  pub marks : Marked met (imageIn l n) i
 
-pub imaged-none : (l : List ℕ) (n : ℕ) → Imaged l n metBefore 0
-imaged-none l n = record { within = omega arith; same = in-section l n; marks = marked-none (imageIn l n); top = bit-unit-same 17 0 }
+pub imaged-none : (l : List ℕ) (n : ℕ) → Imaged l n 0 0
+imaged-none l n = record { within = omega arith; same = in-section l n; marks = marked-none (imageIn l n) }
 
--- Byte i is tested by its marks.
-module _ {l : List ℕ} {n met i pair : ℕ} (I : Imaged l n met i) (h : i < 8) (small : byteIn l n i < 256) (e : pair ≡ pairMarks (byteIn l n i)) where
-  pub imaged-here : bitAnd met pair ≢ 0 → true ≡ badIn l n
+-- Image i, which is x, is tested by its mark.
+module _ {l : List ℕ} {n met i x mark : ℕ} (I : Imaged l n met i) (h : i < 16) (image : (x ≡ imageIn l n i) × (x < 16)) (e : mark ≡ unit 16 x) where
+  abbrev f : ℕ → ℕ
+  f = imageIn l n
+
+  small : f i < 16
+  small = subst (λ (z : ℕ). z < 16) (image .0) (image .1)
+
+  marked : mark ≡ unit 16 (f i)
+  marked = e ∙ ap (unit 16) (image .0)
+
+  pub imaged-here : bitAnd met mark ≢ 0 → true ≡ badIn l n
   imaged-here hit =
-      let images = byte-images l n i in
-      let told = rw e at hit in
-      sym (I .same ∙ byte-repeats 16 met (imageIn l n) (2 * i) (byteIn l n i) (images .0) (images .1) small (omega arith) (I .marks) told)
+      let set : bit 16 (f i) met ≡ 1 = mark-set met (f i) small (λ z. hit (ap (bitAnd met) marked ∙ z)) in
+      let before : among i 0 f (f i) ≡ true = sym (I .marks (f i) small) ∙ rw set in
+      sym (I .same ∙ repeats-yes 16 i f h before)
 
-  pub imaged-next : bitAnd met pair ≡ 0 → Imaged l n (bitXor met pair) (i + 1)
+  pub imaged-next : bitAnd met mark ≡ 0 → Imaged l n (bitXor met mark) (i + 1)
   imaged-next free =
-      let f = imageIn l n in
-      let b = byteIn l n i in
-      let images = byte-images l n i in
-      let new = byte-new 16 met f (2 * i) b (images .0) (images .1) small (omega arith) (I .marks) (I .top) (ap (bitAnd met) (sym e) ∙ free) in
-      let two : 2 * i + 1 + 1 ≡ 2 * (i + 1) = omega arith in
+      let new : bit 16 (f i) met ≡ 0 = mark-free met (f i) small (ap (bitAnd met) (sym marked) ∙ free) in
       record {
         within = omega arith;
-        same = I .same ∙ new .0 ∙ ap (λ (k : ℕ). repeats (16 - k) k f) two;
-        marks = subst (λ (k : ℕ). Marked (bitXor met pair) f k) two (subst (λ (z : ℕ). Marked (bitXor met z) f (2 * i + 1 + 1)) (sym e) (new .1));
-        top = ap (λ (z : ℕ). bit 17 0 (bitXor met z)) e ∙ top-kept met b small (I .top) (ap (bitAnd met) (sym e) ∙ free);
+        same = I .same ∙ repeats-no 16 i f h (among-none-yet met f i small new (I .marks));
+        marks = subst (λ (z : ℕ). Marked (bitXor met z) f (i + 1)) (sym marked) (marked-more met f i small new (I .marks));
       }
 
-pub imaged-all : {l : List ℕ} {n met i : ℕ} → Imaged l n met i → 8 ≤ i → false ≡ badIn l n
-imaged-all {l} {n} {i = i} I h = sym (I .same ∙ repeats-end 16 (2 * i) (imageIn l n) (omega arith))
+pub imaged-all : {l : List ℕ} {n met i : ℕ} → Imaged l n met i → 16 ≤ i → false ≡ badIn l n
+imaged-all {l} {n} {i = i} I h = sym (I .same ∙ repeats-end 16 i (imageIn l n) h)
 
 -- ---- the test is exact
 pub good-permutation : (p : List ℕ) → Bytes p → noPermutation p ≡ false → Permutation (imagesOf p)

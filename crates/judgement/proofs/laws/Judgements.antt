@@ -32,7 +32,7 @@ use Rattle.judgement.specs.Judge.{noPermutation, noInverse, mixingBad, e
 use Rattle.judgement.specs.Judge.{judgeEncodings, judgeByteMatrices, judgeColumnMatrices, judgeBlockMatrices, judge}
 use Rattle.judgement.specs.Judgements.{GoodEncoding, GoodByteMatrix, GoodColumnMatrix, GoodInputMatrix, GoodOutputMatrix}
 use Rattle.judgement.specs.Judgements.{GoodEncodings, GoodByteMatrices, GoodColumnMatrices, FirstUnfit, Sound, Why}
-use Rattle.judgement.specs.Judgements.{Reasoned, Only, AcceptedExactly, RefusedExactly, Parts, FreeBytes}
+use Rattle.judgement.specs.Judgements.{AcceptedExactly, RefusedExactly, Parts, FreeBytes}
 use Rattle.judgement.proofs.laws.Encodings.{good-permutation, permutation-good}
 use Rattle.judgement.proofs.laws.Matrices.{good-invertible, invertible-good, good-mixing, mixing-good, not-unfit}
 
@@ -163,6 +163,7 @@ module _ (nr : ℕ) (l : List ℕ) (bytes : Bytes l) where
       (λ n e. (F, at-bad (encodings nr) (encodingBad nr l) (GoodEncoding nr l) list-to list-from n e))
       (λ e. bytes-why F (lists-all e))
 
+  -- Every judgement is given for its reason.
   why : Why nr l (judge nr l)
   unfolding judge frame
   why =
@@ -189,7 +190,8 @@ module _ (nr : ℕ) (l : List ℕ) (bytes : Bytes l) where
   unfolding judgeColumnMatrices
   past-columns F A B C = past-bytes F A B ∙ rw (columns-none C)
 
-  why-judge : (j : Answer) → Why nr l j → judge nr l ≡ j
+  -- No other judgement has one.
+  pub why-judge : (j : Answer) → Why nr l j → judge nr l ≡ j
   unfolding judge frame judgeEncodings judgeByteMatrices judgeColumnMatrices judgeBlockMatrices
   why-judge Accepted S =
       past-columns (S .framed) (S .lists) (S .bytes) (S .columns) ∙ rw (input-from (S .input), output-from (S .output))
@@ -215,12 +217,6 @@ module _ (nr : ℕ) (l : List ℕ) (bytes : Bytes l) where
   why-judge (Refused Unfinished) W = absurd W
   why-judge (Refused RecordLength) W = absurd W
   why-judge (Refused CataloguePosition) W = absurd W
-
-pub reasoned : Reasoned
-reasoned = why
-
-pub only : Only
-only = why-judge
 
 pub accepted-sound : (nr : ℕ) (l : List ℕ) → Bytes l → judge nr l ≡ Accepted → Sound nr l
 accepted-sound nr l bytes e = subst (Why nr l) e (why nr l bytes)

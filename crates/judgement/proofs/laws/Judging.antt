@@ -10,7 +10,7 @@ use Rattle.bits.specs.Lists.{partOf}
 use Rattle.matrices.specs.Matrices.{matrixOf}
 use Rattle.inversion.specs.Elimination.{invert, hasInverse}
 use Rattle.blocks.specs.Blocks.{someBlockBad}
-use Rattle.bundle.specs.Format.{tenEncodings, partCount, partSize, sectionLength, frame, sectionOf, partAt, inputMatrixPart, outputMatrixPart}
+use Rattle.bundle.specs.Format.{mostEncodings, partCount, partSize, sectionLength, frame, sectionOf, partAt, inputMatrixPart, outputMatrixPart}
 use Rattle.answers.specs.Search.{first, refusedAt}
 use Rattle.answers.specs.declared.found.Found.{Found}
 use Rattle.answers.specs.declared.Answer.{Answer}
@@ -19,6 +19,7 @@ use Rattle.answers.specs.declared.Refusal.{Refusal}
 use Rattle.answers.specs.declared.Refusal.the-variants.{Encoding, ByteMatrix, ColumnMatrix, InputMatrix, OutputMatrix}
 use Rattle.bundle.proofs.laws.Frame.{section-length}
 use Rattle.bits.proofs.laws.Cuts.{part-cut}
+use Rattle.judgement.specs.Asked.{MatricesIn, MatrixSection}
 use Rattle.judgement.specs.Judge.{noPermutation, noInverse, mixingBad}
 use Rattle.judgement.specs.Judge.{judgeEncodings, judgeByteMatrices, judgeColumnMatrices, judgeBlockMatrices, judge}
 
@@ -53,26 +54,30 @@ unfolding sectionLength
 section-room nr l s a b c f h = rw (a, b, c) (omega (arith, section-length nr l f s h))
 
 module _ (nr : ℕ) (l : List ℕ) (s : ℕ) {t : List ℕ} {size count : ℕ} (a : t ≡ sectionOf nr l s) (b : size ≡ partSize s)
-    (c : (count ≡ partCount nr s) × (count ≤ tenEncodings)) (w : ℕ) where
+    (c : (count ≡ partCount nr s) × (count ≤ mostEncodings)) (w : ℕ) where
   -- what the search asks
-  pub matrices-asked : (frame nr l ≡ Accepted) × (s < 5) × (w ≤ 16) × (partSize s ≡ 8 * w * w)
-      → (w ≤ 16) × (size ≡ 8 * w * w) × (count < 4294967296) × (count * size ≤ length t)
-  matrices-asked p = (p .2, b ∙ p .3, omega (arith, c .1), section-room nr l s a b (c .0) (p .0) (p .1))
+  pub matrices-asked : MatrixSection nr l s w → MatricesIn t w size count
+  matrices-asked S = record {
+    narrow = S .narrow;
+    square = b ∙ S .square;
+    numbered = omega (arith, c .1);
+    room = section-room nr l s a b (c .0) (S .framed) (S .there);
+  }
 
   pub matrices-searched : {f : Found} → f ≡ first count (badMixingIn w size t) → f ≡ first (partCount nr s) (λ n. mixingBad w (partAt nr l s n))
   unfolding partAt
   matrices-searched e = e ∙ rw (a, b, c .0)
 
-pub encodings-asked : (l : List ℕ) {t : List ℕ} {count : ℕ} → t ≡ sectionOf 10 l 0 → (count ≡ partCount 10 0) × (count ≤ tenEncodings)
-    → frame 10 l ≡ Accepted → (count ≤ tenEncodings) × (count * 8 ≤ length t)
+pub encodings-asked : (nr : ℕ) (l : List ℕ) {t : List ℕ} {count : ℕ} → t ≡ sectionOf nr l 0 → (count ≡ partCount nr 0) × (count ≤ mostEncodings)
+    → frame nr l ≡ Accepted → (count ≤ mostEncodings) × (count * 8 ≤ length t)
 unfolding partSize
-encodings-asked l a c f = (c .1, section-room 10 l 0 {size = 8} a refl (c .0) f (omega arith))
+encodings-asked nr l a c f = (c .1, section-room nr l 0 {size = 8} a refl (c .0) f (omega arith))
 
 -- ---- causes 4 to 6: the search found f, and the judgement is the refusal for it
-pub encodings-judged : (l : List ℕ) {t : List ℕ} {count : ℕ} {f : Found} → t ≡ sectionOf 10 l 0 → (count ≡ partCount 10 0) × (count ≤ tenEncodings)
-    → f ≡ first count (λ n. noPermutation (partOf 8 t n)) → refusedAt f Encoding ≡ judgeEncodings 10 l
+pub encodings-judged : (nr : ℕ) (l : List ℕ) {t : List ℕ} {count : ℕ} {f : Found} → t ≡ sectionOf nr l 0 → (count ≡ partCount nr 0) × (count ≤ mostEncodings)
+    → f ≡ first count (λ n. noPermutation (partOf 8 t n)) → refusedAt f Encoding ≡ judgeEncodings nr l
 unfolding judgeEncodings partAt partSize partCount
-encodings-judged l a c e = rw (e, a, c .0)
+encodings-judged nr l a c e = rw (e, a, c .0)
 
 module _ (nr : ℕ) (l : List ℕ) {f : Found} where
   pub bytes-judged : f ≡ first (partCount nr 1) (λ n. mixingBad 1 (partAt nr l 1 n)) → refusedAt f ByteMatrix ≡ judgeByteMatrices nr l

@@ -1,4 +1,4 @@
--- Laws, not definitions: the tests of a matrix and of its blocks are exact, and a matrix with two equal rows has no inverse.
+-- Laws, not definitions: the tests of a matrix and of its blocks are exact (`MixingExact` of specs/Judgements.antt), and a matrix with two equal rows has no inverse.
 -- Assumes nothing.
 use mathlib.Core.Bool.{Bool, true, false, not}
 use mathlib.Core.List.{List}
@@ -18,8 +18,9 @@ use Rattle.inversion.proofs.laws.Inverses.{answered, exact, passes-invertible, 
 use Rattle.catalogue.specs.Catalogue.{side}
 use Rattle.blocks.specs.Blocks.{someBlockBad}
 use Rattle.blocks.specs.Theorems.{TestTells, BlockInvertible, Unfit}
-use Rattle.blocks.proofs.laws.Proved.{test-exact}
+use Rattle.blocks.proofs.laws.Proved.{test-exact, unfit-not}
 use Rattle.judgement.specs.Judge.{noInverse, mixingBad}
+use Rattle.judgement.specs.Judgements.{MixingExact}
 
 module _ (n : ℕ) (m : List ℕ) (fits : RowsFit n (at m)) where
   -- Two equal rows: some vector has a product with a one in the one row and a zero in the other.
@@ -76,3 +77,14 @@ module _ (w : ℕ) (p : List ℕ) (bytes : Bytes p) where
       by : (b : Bool) → noInverse w p ≡ b → Unfit (2 * w) (matrixOf w p)
       by true e = inl (λ whole. clash (noInverse w p) e (whole-good whole))
       by false e = inr (exactly .fails .0 (not-false-true blocksBad (λ t. none (record { whole = good-whole e; blocks = exactly .passes .0 t }))))
+
+pub mixing-exact : MixingExact
+mixing-exact w p bytes =
+    let m = matrixOf w p in
+    record {
+      refuses = (
+        λ e. not-unfit w p bytes (λ good. clash (mixingBad w p) e (mixing-good w p bytes good)),
+        λ bad. not-false-true (mixingBad w p) (λ e. unfit-not (2 * w) m bad (good-mixing w p bytes e)),
+      );
+      passes = (good-mixing w p bytes, mixing-good w p bytes);
+    }

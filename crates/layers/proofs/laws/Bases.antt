@@ -1,7 +1,7 @@
 -- Laws, not definitions: the rows of a basis, that is the words of the bytes 2^0 to 2^7, as a loop makes them.
 -- Assumes nothing.
 use mathlib.Core.List.{List}
-use mathlib.Core.Path.{_≡_, ap, ap₂, _∙_}
+use mathlib.Core.Path.{_≡_, refl, ap, ap₂, _∙_}
 use Prim.Native.Nat.{ℕ, _+_, _-_, _*_, _^_, _<_}
 use native.Mathlib.Omega.{arith}
 use lib.ListN.{length}
@@ -25,6 +25,10 @@ mixed-row p m f k y x v em ey ex ev = wide-alone v ∙ ev ∙ ap₂ (product 32)
 
 -- ---- row k of the entry and of second halves
 -- The section of the byte matrices, which has 8 bytes of each, `count` as the number that the code has.
+pub byte-count : (nr : ℕ) → byteMatrices nr ≡ 16 * nr
+unfolding byteMatrices
+byte-count nr = refl
+
 pub byte-section-long : (nr count : ℕ) (l s : List ℕ) → byteMatrices nr ≡ count → s ≡ sectionOf nr l 1 → frame nr l ≡ Accepted → length s ≡ count * 8
 unfolding sectionLength partCount partSize
 byte-section-long nr count l s n e f = ap length e ∙ section-length nr l f 1 (omega arith) ∙ ap (λ (k : ℕ). k * 8) n

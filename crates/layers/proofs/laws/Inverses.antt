@@ -21,9 +21,10 @@ use Rattle.inversion.specs.Elimination.{inverseOf}
 use Rattle.bundle.specs.Format.{columnMatrices, columnMatrixPart, inputMatrixPart, columnMatrix, inputMatrix}
 use Rattle.judgement.specs.Judge.{judge}
 use Rattle.judgement.proofs.laws.Judgements.{accepted-sound}
+use Rattle.layout.specs.Stages.{InRounds}
 use Rattle.layout.specs.declared.stage.Stage.{Stage}
 use Rattle.layout.specs.declared.stage.Stage.the-variants.{Entry, First, Second, Exit, Beyond}
-use Rattle.layers.specs.Layers.{InRounds, Begins, inputWords, columnWords, inputInverse, columnInverse, columnInverses, columnNumber}
+use Rattle.layers.specs.Layers.{Begins, inputWords, columnWords, inputInverse, columnInverse, columnInverses, columnNumber}
 use Rattle.layers.specs.Layers.{spreadInverse, inverseFor, spreadChosen, chosenFrom}
 use Rattle.layers.specs.Inverses.{Chosen, ColumnsLong}
 use Rattle.layers.proofs.laws.Code.{frame-of, column-part-long, input-part-long}
@@ -42,6 +43,11 @@ module _ (nr : ℕ) (l p : List ℕ) (bytes : Bytes l) (ok : judge nr l ≡ Acce
 
 -- ---- words over the front of a list
 -- Where they are as many as the list, they are all of it.
+-- A number of a column matrix, as the format counts them.
+pub column-below : (nr : ℕ) {n : ℕ} → n < 4 * (nr - 1) → n < columnMatrices nr
+unfolding columnMatrices
+column-below nr h = h
+
 all-written : (w d d′ : List ℕ) (k : ℕ) → d′ ≡ w ++ drop k d → length d ≡ k → d′ ≡ w
 all-written w d d′ k e h = e ∙ ap (λ (r : List ℕ). w ++ r) (ap (λ (n : ℕ). drop n d) (sym h) ∙ drop-length d) ∙ append-nil w
 

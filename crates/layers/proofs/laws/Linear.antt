@@ -12,13 +12,13 @@ use Rattle.bits.proofs.laws.Checked.{all, all-at}
 use Rattle.bits.proofs.laws.Groups.{joined-same, joined-xor, group-xor}
 use Rattle.bits.proofs.laws.Xor.{Linear, cond-xor, cond-lt}
 use Rattle.bits.proofs.laws.XorAll.{xorAll-same, xorAll-one}
+use Rattle.matrices.specs.ByNibbles.{combined}
 use Rattle.matrices.specs.Matrices.{product}
+use Rattle.matrices.proofs.laws.ByNibbles.{combined-linear}
 use Rattle.matrices.proofs.laws.Matrices.{product-lt, product-xor}
 use Rattle.field.specs.Field.{mul}
 use Rattle.field.proofs.laws.Field.{mul-xor, mul-lt}
 use Rattle.field.proofs.laws.OnBytes.{OnBytes, same}
-use Rattle.entries.specs.Spread.{combined}
-use Rattle.entries.proofs.laws.Combined.{combined-linear}
 
 -- ---- the xor of eight words
 abbrev bitIs : ℕ → ℕ → Bool

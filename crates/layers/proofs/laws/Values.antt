@@ -13,8 +13,10 @@ use Rattle.bits.specs.Bytes.{Bytes}
 use Rattle.bits.specs.Lists.{at, tabulate}
 use Rattle.bits.proofs.laws.Filled.{Filled, filled-more}
 use Rattle.bits.proofs.laws.Lists.{at-tabulate, tabulate-ext}
+use Rattle.matrices.specs.ByNibbles.{combined, nibbleByte, wordIn}
 use Rattle.matrices.specs.Matrices.{product, matrixOf, Invertible}
 use Rattle.matrices.specs.Rows.{rowAt, rowsOf, stored, wordsOf}
+use Rattle.matrices.proofs.laws.ByNibbles.{word-in}
 use Rattle.matrices.proofs.laws.Matrices.{product-lt, product-xor}
 use Rattle.matrices.proofs.laws.Rows.{row-stored}
 use Rattle.matrices.proofs.laws.Words.{length-words, product-of-words}
@@ -25,20 +27,11 @@ use Rattle.judgement.proofs.laws.Judgements.{accepted-sound}
 use Rattle.whitebox.specs.Bundles.{codingsOf}
 use Rattle.whitebox.specs.Parts.{Parts}
 use Rattle.whitebox.specs.Words.{substituted}
-use Rattle.entries.specs.Spread.{combined, nibbleByte, wordIn}
-use Rattle.entries.proofs.laws.Combined.{word-in}
+use Rattle.layers.specs.Layers.{behindAt}
 use Rattle.layers.proofs.laws.Code.{frame-of, byte-part-long, byte-is}
 use Rattle.layers.proofs.laws.Linear.{by-powers}
 
 -- ---- the byte behind the S-box, for every byte that is read
--- The byte x times the rows of m, then xor `before`, S-box, xor `behind`; the S-box is any, `box`.
-abbrev pub behindSbox : (ℕ → ℕ) → List ℕ → ℕ → ℕ → ℕ → ℕ
-behindSbox box m before behind x = bitXor (box (bitXor (product 8 (rowsOf 8 m) x) before)) behind
-
--- Of byte k of `read`.
-abbrev pub behindAt : (ℕ → ℕ) → List ℕ → ℕ → ℕ → List ℕ → ℕ → ℕ
-behindAt box m before behind read k = behindSbox box m before behind (at read k)
-
 -- `basis` has the columns of m, `products` a row for each byte with one nibble, and `sbox` the S-box.
 pub record Prepared (box : ℕ → ℕ) (m basis products sbox : List ℕ) : Type 0 where
   pub columns : (k : ℕ) → k < 8 → rowAt basis k ≡ product 8 (rowsOf 8 m) (2 ^ k)

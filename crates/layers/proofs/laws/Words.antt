@@ -73,5 +73,5 @@ module _ (s : List ℕ) (first n v : ℕ) where
       filled-more F (omega arith) (ey ∙ ap₂ (λ (t : List ℕ) (z : ℕ). product 8 (matrixOf 1 t) z) ep (byte-from-bottom n j v x ex))
 
 -- A byte matrix of its section of `count` has 8 bytes.
-pub part-room : (count : ℕ) (s p : List ℕ) (first n j : ℕ) → length s ≡ count * 8 → first + n ≤ count → j < n → p ≡ partOf 8 s (first + j) → 8 ≤ length p
-part-room count s p first n j l h k e = omega (arith, ap length e, part-length 8 s (first + j) (omega arith))
+pub part-room : (s p : List ℕ) (first n j : ℕ) → (first + n) * 8 ≤ length s → j < n → p ≡ partOf 8 s (first + j) → 8 ≤ length p
+part-room s p first n j l k e = omega (arith, ap length e, part-length 8 s (first + j) (omega arith))

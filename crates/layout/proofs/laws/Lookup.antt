@@ -23,8 +23,8 @@ pub record Sizes (nr count bytes : ℕ) : Type 0 where
   pub all-bytes : setBytes nr ≡ bytes
 
 -- By their own names.
-pub own-sizes : (nr : ℕ) → Sizes nr (lookups nr) (setBytes nr)
-own-sizes nr = record { all-lookups = refl; all-bytes = refl }
+pub own-sizes : {nr : ℕ} → Sizes nr (lookups nr) (setBytes nr)
+own-sizes = record { all-lookups = refl; all-bytes = refl }
 
 pub tables-in-set : (nr : ℕ) → tablesBytes nr ≤ setBytes nr
 unfolding setBytes

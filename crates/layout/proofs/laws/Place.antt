@@ -8,7 +8,7 @@ use native.Mathlib.Nat.{mul-le-mul-right}
 use native.Mathlib.Omega.{arith}
 use borrow.Author.Tests.{lt-ltb, le-ltb}
 use Rattle.layout.specs.Stages.{widthOf, shifted, sourceOf, lookups, entryLookups, halfLookups, stageOf, roundAt, inRound}
-use Rattle.layout.specs.Stages.{firstLookup, firstByte, indexOf, placeOf, placeFrom, placeInRound}
+use Rattle.layout.specs.Stages.{firstLookup, firstByte, indexOf, placeOf, placeFrom, placeInRound, placeBeyond}
 use Rattle.layout.specs.declared.stage.Place.{Place}
 use Rattle.layout.specs.declared.stage.Stage.{Stage}
 use Rattle.layout.specs.declared.stage.Stage.the-variants.{Entry, First, Second, Exit, Beyond}
@@ -48,10 +48,26 @@ module _ (nr k : ℕ) {p : Place} where
   in-entry h q =
       q ∙ ap (placeFrom Entry 16 0) (let e : k ≡ k - 0 = omega arith in e) ∙ place-at nr k Entry (omega (arith, lookups-are nr)) (stage-entry nr k h)
 
-  pub in-exit : firstLookup nr Exit ≤ k → k < firstLookup nr Beyond → p ≡ placeFrom Exit 16 (firstByte nr Exit) (k - firstLookup nr Exit) → p ≡ placeOf nr k
-  in-exit lo hi q = q ∙ place-at nr k Exit (omega (arith, lookups-are nr)) (stage-exit nr k lo hi)
+  -- The exit begins at lookup `first` and byte `start`.
+  pub in-exit : (first start : ℕ) → first ≡ firstLookup nr Exit → start ≡ firstByte nr Exit → first ≤ k → k < firstLookup nr Beyond
+      → p ≡ placeFrom Exit 16 start (k - first) → p ≡ placeOf nr k
+  in-exit first start f b lo hi q =
+      q
+      ∙ ap₂ (λ (x y : ℕ). placeFrom Exit 16 y (k - x)) f b
+      ∙ place-at nr k Exit (omega (arith, lookups-are nr)) (stage-exit nr k (omega arith) hi)
 
-  pub in-rounds : entryLookups ≤ k → k < firstLookup nr Exit → p ≡ placeInRound nr (roundAt k) (inRound k) → p ≡ placeOf nr k
+  -- There are `all` lookups and `bytes` of tables.
+  pub beyond : (all bytes : ℕ) → all ≡ firstLookup nr Beyond → bytes ≡ firstByte nr Beyond → all ≤ k → p ≡ placeBeyond (k - all) bytes → p ≡ placeOf nr k
+  unfolding indexOf
+  beyond all bytes f b lo q =
+      q
+      ∙ ap₂ (λ (x y : ℕ). placeBeyond (k - x) y) f b
+      ∙ rw (stage-beyond nr k (omega arith))
+      (ap₂ (λ (x y : ℕ). record { stage = Beyond; index = k - firstLookup nr Beyond; size = x; offset = y })
+      (sym (by-stage nr .size-none k (omega (arith, lookups-are nr))))
+      (sym (by-stage nr .offset-none k (omega (arith, lookups-are nr)) ∙ by-stage nr .table-bytes)))
+
+  pub in-rounds : entryLookups ≤ k → k < firstLookup nr Exit → p ≡ placeInRound (roundAt k) (inRound k) → p ≡ placeOf nr k
   unfolding placeInRound
   in-rounds lo hi q = q ∙ go (decLt (inRound k) halfLookups)
     where
@@ -61,7 +77,7 @@ module _ (nr k : ℕ) {p : Place} where
       less : k < lookups nr
       less = omega (arith, lookups-are nr)
 
-      go : Dec (inRound k < halfLookups) → placeInRound nr r (inRound k) ≡ placeOf nr k
+      go : Dec (inRound k < halfLookups) → placeInRound r (inRound k) ≡ placeOf nr k
       go (yes h) =
           rw (lt-ltb (inRound k) halfLookups h)
           (ap (placeFrom (First r) 4 (firstByte nr (First r))) (let e : inRound k ≡ k - firstLookup nr (First r) = omega arith in e)
@@ -71,22 +87,13 @@ module _ (nr k : ℕ) {p : Place} where
           (ap (placeFrom (Second r) 4 (firstByte nr (Second r))) (let e : inRound k - halfLookups ≡ k - firstLookup nr (Second r) = omega arith in e)
           ∙ place-at nr k (Second r) less (stage-second nr k lo hi (omega arith)))
 
-pub beyond : (nr k : ℕ) → firstLookup nr Beyond ≤ k
-    → record { stage = Beyond; index = k - firstLookup nr Beyond; size = 0; offset = firstByte nr Beyond } ≡ placeOf nr k
-unfolding indexOf
-beyond nr k lo =
-    rw (stage-beyond nr k lo)
-    (ap₂ (λ (x y : ℕ). record { stage = Beyond; index = k - firstLookup nr Beyond; size = x; offset = y })
-    (sym (by-stage nr .size-none k (omega (arith, lookups-are nr))))
-    (sym (by-stage nr .offset-none k (omega (arith, lookups-are nr)) ∙ by-stage nr .table-bytes)))
-
 -- ---- the two arms inside a round
-module _ (nr r j : ℕ) {p : Place} where
-  pub first-half : j < halfLookups → p ≡ placeFrom (First r) 4 (firstByte nr (First r)) j → p ≡ placeInRound nr r j
+module _ (r j : ℕ) {p : Place} where
+  pub first-half : j < halfLookups → p ≡ placeFrom (First r) 4 (firstByte r (First r)) j → p ≡ placeInRound r j
   unfolding placeInRound
   first-half h q = rw (lt-ltb j halfLookups h) q
 
-  pub second-half : halfLookups ≤ j → p ≡ placeFrom (Second r) 4 (firstByte nr (Second r)) (j - halfLookups) → p ≡ placeInRound nr r j
+  pub second-half : halfLookups ≤ j → p ≡ placeFrom (Second r) 4 (firstByte r (Second r)) (j - halfLookups) → p ≡ placeInRound r j
   unfolding placeInRound
   second-half h q = rw (le-ltb j halfLookups h) q
 

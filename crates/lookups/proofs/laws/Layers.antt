@@ -22,7 +22,7 @@ use Rattle.layout.specs.Stages.{widthOf, entryLookups}
 use Rattle.layout.specs.declared.stage.Stage.{Stage}
 use Rattle.layout.specs.declared.stage.Stage.the-variants.{Entry, First, Second, Exit, Beyond}
 use Rattle.layout.proofs.laws.Stages.{lookups-16, lookups-4}
-use Rattle.lookups.specs.InPlace.{SpreadRead, XorRead, PairRead, Fits, XorIn, XorMade, PairMade, LookedUp}
+use Rattle.lookups.specs.InPlace.{SpreadIn, XorIn, Fits, SpreadRead, XorRead, PairRead, XorMade, PairMade, LookedUp}
 use Rattle.lookups.proofs.laws.Area.{both-entry, xor-both}
 
 -- ---- an XOR lookup at its two places
@@ -105,7 +105,7 @@ unfolding layerLookups xors
 lookups-0 = refl
 
 -- Lookup j of a stage or half of width m, over a table of the given length: a spread lookup below 16, else an XOR lookup.
-module _ {s : Stage} {j long : ℕ} (f : Fits s j long) where
+module _ {s : Stage} {j from long : ℕ} (f : Fits s j from long) where
   kind : (s : Stage) → 16 ≤ j → j < layerLookups (widthOf s) → XorIn (widthOf s) (j - 16)
   kind Entry h w = inl (refl, omega (arith, lookups-16))
   kind (First r) h w = inr (refl, omega (arith, lookups-4))
@@ -113,8 +113,8 @@ module _ {s : Stage} {j long : ℕ} (f : Fits s j long) where
   kind Exit h w = inl (refl, omega (arith, lookups-16))
   kind Beyond h w = absurd (omega (arith, lookups-0))
 
-  pub spread-sized : {m : ℕ} → m ≡ widthOf s → j < 16 → long ≡ 256 * m
-  spread-sized e h = f .sized ∙ rw e (spread-size (widthOf s) j h)
+  pub spread-asked : {m : ℕ} → m ≡ widthOf s → m ≤ 16 → j < 16 → SpreadIn m j long
+  spread-asked e b h = record { width = b; within = h; sized = f .sized ∙ rw e (spread-size (widthOf s) j h) }
 
   pub xor-sized : 16 ≤ j → long ≡ 128
   xor-sized h = f .sized ∙ xor-size (widthOf s) j h

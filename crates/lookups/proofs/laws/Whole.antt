@@ -18,7 +18,7 @@ use Rattle.network.specs.Sizes.{offsetOf, layerBytes}
 use Rattle.network.specs.declared.EntryPlace.{EntryPlace}
 use Rattle.network.proofs.laws.Order.{layer-lookups}
 use Rattle.network.proofs.laws.Read.{read-xor, nibble-within}
-use Rattle.lookups.specs.InPlace.{SpreadRead, XorIn, PairMade, XorsMade, LayerMade, tableFrom, spreadsIn, xorsIn, placeOfLast, sumsIn}
+use Rattle.lookups.specs.InPlace.{SpreadIn, XorIn, XorTables, SpreadRead, PairMade, XorsMade, LayerMade, tableFrom, spreadsIn, xorsIn, placeOfLast, sumsIn}
 use Rattle.lookups.proofs.laws.Layers.{length-xor, length-sums}
 
 -- ---- where the tables begin: of spread lookup p, and of XOR lookups 2y and 2y + 1
@@ -66,8 +66,8 @@ module _ {S : Shape} {set : List ℕ} {from m : ℕ} {s a₀ a : List ℕ} {p : 
   pub table-ends : p < 16 → spreadAt from m p + 256 * m ≤ length set
   table-ends h = omega (arith, I .room, row-inside p (256 * m) 16 h)
 
-  pub table-long : p < 16 → length (cut set (spreadAt from m p) (spreadAt from m p + 256 * m)) ≡ 256 * m
-  table-long h = length-cut set (spreadAt from m p) (256 * m) (table-ends h)
+  pub table-asked : p < 16 → m ≤ 16 → SpreadIn m p (length (cut set (spreadAt from m p) (spreadAt from m p + 256 * m)))
+  table-asked h b = record { width = b; within = h; sized = length-cut set (spreadAt from m p) (256 * m) (table-ends h) }
 
   pub spreads-more : (i : ℕ) (a′ : List ℕ) → p < 16 → i ≡ S .source p
       → {r : ℕ} → SpreadRead (cut set (spreadAt from m p) (spreadAt from m p + 256 * m)) m p (at s i) a r a′ → Spreads S set from m s a₀ a′ (p + 1)
@@ -155,14 +155,13 @@ module _ {m : ℕ} {set : List ℕ} {from n : ℕ} {a₀ : List ℕ} {e : ℕ} {
   lowTable = cut set (pairAt from m y + 128) (pairAt from m y + 128 + 128)
 
   -- What the two lookups of a turn ask: their tables, one behind the other, have 128 bytes each.
-  pub pair-asked : y < n
-      → XorIn m (2 * y + 1) × (length highTable ≡ 128) × (length lowTable ≡ 128) × (length a ≡ 256)
-  pair-asked h = (
-    xor-inside h,
-    length-cut set (pairAt from m y) 128 (omega (arith, I .room)),
-    length-cut set (pairAt from m y + 128) 128 (omega (arith, I .room)),
-    I .long,
-  )
+  pub pair-asked : y < n → XorIn m (2 * y + 1) × XorTables highTable lowTable × (length a ≡ 256)
+  pair-asked h =
+      let tables : XorTables highTable lowTable = record {
+        high = length-cut set (pairAt from m y) 128 (omega (arith, I .room));
+        low = length-cut set (pairAt from m y + 128) 128 (omega (arith, I .room));
+      } in
+      (xor-inside h, tables, I .long)
 
   -- The first of the two.
   first-made : xorArea m (2 * y) highTable a ≡ xorsIn m set from (2 * y + 1) a₀
@@ -209,7 +208,7 @@ module _ {m : ℕ} {set : List ℕ} {from n : ℕ} {a₀ : List ℕ} {e : ℕ} {
 -- ---- all lookups
 -- The table of the last, of `all`, begins there, and it ends where the tables of the stage or half do.
 abbrev lastAt : ℕ → ℕ → ℕ → ℕ
-lastAt from m all = from + 4096 * m + (all - 17) * 128
+lastAt from m all = from + 4096 * m + (all - 1 - 16) * 128
 
 pub last-ends : (from m all bytes : ℕ) → (m ≡ 4) ⊎ (m ≡ 16) → all ≡ layerLookups m → from + layerBytes m ≤ bytes → lastAt from m all + 128 ≤ bytes
 unfolding layerBytes

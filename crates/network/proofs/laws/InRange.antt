@@ -13,7 +13,7 @@ use Rattle.network.specs.Numbers.{Numbers, encodingNumber, layerResults,
 use Rattle.network.specs.Order.{GoodWidth, xors, layerLookups, nibbleOf, addedOf, sumOf}
 use Rattle.network.specs.Sizes.{resultsIn}
 use Rattle.network.specs.Tables.{Layer, Good, AllGood, widthsOf, spreadEntry, spreadTable, xorEntry, xorTable, tableIn, tableAt}
-use Rattle.network.specs.Theorems.{InRange}
+use Rattle.network.specs.Theorems.{NumbersInRange}
 use Rattle.network.proofs.laws.Order.{xor-in, added-lt, added-word-lt, nibble-in, word-group, nibble-group, first-word-lt}
 
 -- ---- the numbers of a layer lie between its first and the next layer's
@@ -81,7 +81,7 @@ module _ (E E′ : ℕ → List ℕ) (limit : ℕ) (same : (n : ℕ) → n < lim
       next-ends : nextNumbers (L .width) N .first + resultsIn (widthsOf Ls) ≤ limit
       next-ends = unfold nextNumbers in omega arith
 
-pub in-range : InRange
+pub in-range : NumbersInRange
 unfolding startNumbers
 in-range E E′ Ls g same k =
     tables-same E E′ (32 + resultsIn (widthsOf Ls)) same Ls g startNumbers (λ q b. omega arith) (omega arith) k

@@ -102,7 +102,7 @@ xor-in m k a b = omega (arith, layer-lookups m)
 
 -- ---- `added`, at the XOR lookup x that is to be made
 module _ (m : ℕ) (good : GoodWidth m) where
-  added-0 : (w h : ℕ) → added m 0 w h ≡ 0
+  pub added-0 : (w h : ℕ) → added m 0 w h ≡ 0
   unfolding added
   added-0 w h =
       rw (zero-div (2 * m), zero-mod (2 * m))

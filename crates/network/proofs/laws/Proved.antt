@@ -1,6 +1,7 @@
 -- Laws, not definitions: the statements of specs/Theorems.antt.
 -- Assumes nothing.
 use Rattle.network.specs.Theorems.{Network}
+use Rattle.network.proofs.laws.Added.{added-so-far}
 use Rattle.network.proofs.laws.InRange.{in-range}
 use Rattle.network.proofs.laws.Network.{one-lookup, from-any-layer, closed-end}
 use Rattle.network.proofs.laws.Places.{place-by-place}
@@ -15,6 +16,7 @@ network =
       from-any-layer = from-any-layer;
       at-the-end = closed-end;
       place-by-place = place-by-place;
+      added-so-far = added-so-far;
       rule-labels = rule-labels;
       rule-tables = rule-tables;
       in-range = in-range;

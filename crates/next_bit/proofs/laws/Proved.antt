@@ -14,23 +14,23 @@ use Rattle.bits.specs.Lists.{Listed}
 use Rattle.round.specs.Key.{roundsOf}
 use Rattle.layout.specs.Ciphers.{readsOf}
 use Rattle.layout.proofs.laws.Lookup.{own-sizes}
+use Rattle.calls.specs.Calls.{Held, judgeWhole, serve}
+use Rattle.calls.proofs.laws.Kept.{reads-kept}
 use Rattle.whitebox.specs.Bundles.{madeSet}
-use Rattle.whitebox.specs.Calls.{Held, judgeWhole, serve}
-use Rattle.whitebox.proofs.laws.Named.{reads-kept}
 use Rattle.sensitivity.specs.Reads.{bitsRead}
 use Rattle.sensitivity.specs.Theorems.{Lendable}
 use Rattle.sensitivity.proofs.laws.Proved.{sensitivity}
 use Rattle.evaluate.specs.Chains.{callOf}
 use Rattle.evaluate.proofs.laws.Chains.{chain-serves}
-use Rattle.evaluate.proofs.laws.Demands.{whole-walk}
+use Rattle.evaluate.proofs.laws.Whole.{whole-walk}
 use Rattle.passes.proofs.laws.Judged.{bad-set, bad-block, good}
 use Rattle.next_bit.specs.Contracts.{Finds}
-use Rattle.next_bit.specs.NextBit.{nextIn, nextBy, answerOf, nextBit}
+use Rattle.next_bit.specs.NextBit.{nextIn, nextBy, bitAnswer, nextBit}
 use Rattle.next_bit.specs.Search.{Tells}
 use Rattle.next_bit.specs.Theorems.{TestsInOrder, AnswersByLengths, GoesByCipher, Asked, ListsHad, OthersAloneMade, AnswersRestOn, BitsHad}
 use Rattle.next_bit.specs.declared.search.NextBit.{NextBit}
 use Rattle.next_bit.specs.declared.search.NextBit.the-variants.{Bit}
-use Rattle.next_bit.proofs.laws.Calls.{next-answers, next-accepted}
+use Rattle.next_bit.proofs.laws.Calls.{next-answers, next-accepted, finds}
 use Rattle.next_bit.proofs.laws.Listed.{searches-exact, searchStart, searches-enumerate}
 use Rattle.next_bit.proofs.laws.Runs.{not-both}
 
@@ -38,13 +38,13 @@ use Rattle.next_bit.proofs.laws.Runs.{not-both}
 tests : TestsInOrder
 tests nr set block =
     record {
-      set-first = λ n. ap replyOf (sym (bad-set (own-sizes nr) set block n));
-      block-second = λ e n. ap replyOf (sym (bad-block (own-sizes nr) set block e n));
-      none = λ e f. sym (good (own-sizes nr) set block e f);
+      set-first = λ n. ap replyOf (sym (bad-set own-sizes set block n));
+      block-second = λ e n. ap replyOf (sym (bad-block own-sizes set block e n));
+      none = λ e f. sym (good own-sizes set block e f);
     }
 
 by-lengths : AnswersByLengths
-by-lengths c nr set x from r f = ap answerOf f ∙ next-answers c nr set x from
+by-lengths c nr set x from r f = ap bitAnswer (f .result) ∙ next-answers c nr set x from
 
 by-cipher : GoesByCipher
 unfolding nextBit
@@ -56,10 +56,10 @@ module _ (c nr : ℕ) (set x : List ℕ) (lent : Lendable nr set x) where
   l = bitsRead (readsOf c) nr set x
 
   found : (from : ℕ) → nextBit c nr set x from ≡ nextIn l from
-  found from = next-accepted c nr set x from (sym (good (own-sizes nr) (length set) (length x) (lent .long) (lent .block .long)))
+  found from = next-accepted c nr set x from (sym (good own-sizes (length set) (length x) (lent .long) (lent .block .long)))
 
   told : (from : ℕ) (r : NextBit) → Finds c nr set x from r → Tells l from r
-  told from r f = subst (Tells l from) (sym (f ∙ found from)) (searches-exact l (sensitivity .in-order (readsOf c) nr set x lent .rising) from)
+  told from r f = subst (Tells l from) (sym (f .result ∙ found from)) (searches-exact l (sensitivity .in-order (readsOf c) nr set x lent .rising) from)
 
   -- Bit i is in the list exactly if a call from i on gives i.
   given-listed : (i : ℕ) (r : NextBit) → Finds c nr set x i r → r ≡ Bit i → Listed l i
@@ -75,21 +75,23 @@ module _ (c nr : ℕ) (set x : List ℕ) (lent : Lendable nr set x) where
   asked zero p e =
       let at-end : p ≡ length l = omega arith in
       subst (Asked c nr set x (searchStart l p)) (sym (ap (λ (q : ℕ). drop q l) at-end ∙ drop-length l))
-      (sym (found (searchStart l p) ∙ ap (λ (q : ℕ). nextIn l (searchStart l q)) at-end ∙ searches-enumerate l (sensitivity .in-order (readsOf c) nr set x lent .rising) .end))
+      (finds c nr set x (searchStart l p)
+      (sym (found (searchStart l p) ∙ ap (λ (q : ℕ). nextIn l (searchStart l q)) at-end ∙ searches-enumerate l (sensitivity .in-order (readsOf c) nr set x lent .rising) .end)))
   asked (suc n) p e =
       let inside : p < length l = omega arith in
       subst (Asked c nr set x (searchStart l p)) (sym (drop-cons l p 0 inside)) (
-        sym (found (searchStart l p) ∙ searches-enumerate l (sensitivity .in-order (readsOf c) nr set x lent .rising) .each p inside),
+        finds c nr set x (searchStart l p)
+            (sym (found (searchStart l p) ∙ searches-enumerate l (sensitivity .in-order (readsOf c) nr set x lent .rising) .each p inside)),
         asked n (suc p) (omega arith),
       )
 
   -- Calls that meet their contract give one list.
   one-list : (from : ℕ) (vs ws : List ℕ) → Asked c nr set x from vs → Asked c nr set x from ws → vs ≡ ws
   one-list from [] [] a b = refl
-  one-list from [] (w ∷ ws) a b = not-both (b .0 ∙ sym a)
-  one-list from (v ∷ vs) [] a b = not-both (a .0 ∙ sym b)
+  one-list from [] (w ∷ ws) a b = not-both (b .0 .result ∙ sym (a .result))
+  one-list from (v ∷ vs) [] a b = not-both (a .0 .result ∙ sym (b .result))
   one-list from (v ∷ vs) (w ∷ ws) a b =
-      let e : v ≡ w = same-bit (a .0 ∙ sym (b .0)) in
+      let e : v ≡ w = same-bit (a .0 .result ∙ sym (b .0 .result)) in
       ap₂ (λ (y : ℕ) (ys : List ℕ). y ∷ ys) e (one-list (suc v) vs ws (a .1) (subst (λ (y : ℕ). Asked c nr set x (suc y) ws) (sym e) (b .1)))
     where
       same-bit : Bit v ≡ Bit w → v ≡ w
@@ -113,22 +115,19 @@ others c nr set x lent i r f ungiven o opens ms ms′ chain chain′ alike over 
 
 -- ---- a made set
 made : (nk : ℕ) → AnswersRestOn nk
-made nk c key l x given presented i r f =
+made nk c key l x given presented i r f lent lent′ left left′ room room′ w w′ =
     let nr : ℕ = roundsOf nk in
     let set : List ℕ = madeSet c nk key l in
     let S = sensitivity .made nk c key l x given presented in
+    let D = S .exactly i lent lent′ room room′ in
+    let left-is = whole-walk nr c set x lent left w in
+    let left′-is = whole-walk nr c (flipped set i) x lent′ left′ w′ in
     record {
-      changes = λ e lent lent′ left left′ room room′ w w′ same.
-          S .exactly i lent lent′ room room′ .changes (given-listed c nr set x (S .right) i r f e)
-          (sym (whole-walk nr c (flipped set i) x lent′ left′ w′) ∙ same ∙ whole-walk nr c set x lent left w);
-      keeps = λ n lent lent′ left left′ room room′ w w′.
-          whole-walk nr c (flipped set i) x lent′ left′ w′
-          ∙ S .exactly i lent lent′ room room′ .keeps (λ p. n (listed-given c nr set x (S .right) i r f p))
-          ∙ sym (whole-walk nr c set x lent left w);
-      only = λ lent lent′ left left′ room room′ w w′ other.
-          listed-given c nr set x (S .right) i r f
-          (S .exactly i lent lent′ room room′ .only
-          (λ same. other (whole-walk nr c (flipped set i) x lent′ left′ w′ ∙ same ∙ sym (whole-walk nr c set x lent left w))));
+      differ-exactly = (
+        λ other. listed-given c nr set x (S .right) i r f (D .differ-exactly .0 (λ same. other (left′-is ∙ same ∙ sym left-is))),
+        λ e same. D .differ-exactly .1 (given-listed c nr set x (S .right) i r f e) (sym left′-is ∙ same ∙ left-is),
+      );
+      keeps = λ n. left′-is ∙ D .keeps (λ p. n (listed-given c nr set x (S .right) i r f p)) ∙ sym left-is;
     }
 
 pub bits-had : BitsHad

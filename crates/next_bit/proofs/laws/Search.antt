@@ -16,7 +16,7 @@ use Rattle.layout.specs.Ciphers.{readsOf}
 use Rattle.layout.specs.Stages.{lookups, tableOffset, stageOf, indexOf}
 use Rattle.layout.proofs.laws.Lookup.{Sizes, widest}
 use Rattle.layout.proofs.laws.Ranges.{in-stage}
-use Rattle.whitebox.specs.Calls.{toStop, readNext}
+use Rattle.calls.specs.Calls.{toStop, readNext}
 use Rattle.evaluate.specs.Contracts.{Opens, Moves}
 use Rattle.evaluate.specs.declared.walk.Move.{Move}
 use Rattle.evaluate.specs.declared.walk.Opening.{Opening}

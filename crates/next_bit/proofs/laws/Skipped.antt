@@ -12,11 +12,11 @@ use Rattle.network.specs.Lookups.{State, stateAt}
 use Rattle.layout.specs.Ciphers.{readsOf}
 use Rattle.layout.specs.Stages.{lookups, tableOffset, entryLookups, halfLookups, halfBytes, stageOf, firstLookup, firstByte, indexOf}
 use Rattle.layout.specs.declared.stage.Stage.{Stage}
-use Rattle.layout.specs.declared.stage.Stage.the-variants.{First}
+use Rattle.layout.specs.declared.stage.Stage.the-variants.{First, Exit}
 use Rattle.layout.proofs.laws.Instance.{next-offset}
 use Rattle.layout.proofs.laws.Lookup.{first-byte}
 use Rattle.layout.proofs.laws.Ranges.{lookups-are, by-range}
-use Rattle.whitebox.specs.Calls.{Held, stateFrom, toStop, handed}
+use Rattle.calls.specs.Calls.{Held, stateFrom, toStop, handed}
 use Rattle.evaluate.specs.Contracts.{Opens, Moves}
 use Rattle.evaluate.specs.declared.walk.Move.{Move}
 use Rattle.evaluate.specs.declared.walk.Opening.{Opening}
@@ -51,6 +51,12 @@ module _ (nr h : ℕ) (some : h ≤ 2 * (nr - 1)) where
   pub half-offset : tableOffset nr k ≡ firstByte nr (First 1) + halfBytes * h
   unfolding indexOf
   half-offset = first-byte nr k inside (omega (arith, begins .0)) ∙ begins .1
+
+-- The exit's first lookup r, at or before a byte that is not before its tables.
+pub exit-offset : (nr r byte : ℕ) → r ≡ firstLookup nr Exit → firstByte nr Exit ≤ byte → tableOffset nr r ≤ byte
+exit-offset nr r byte e h =
+    let f : r ≡ entryLookups + halfLookups * (2 * (nr - 1)) = omega arith in
+    omega (arith, ap (tableOffset nr) f, half-offset nr (2 * (nr - 1)) (omega arith))
 
 -- ---- a walk over a memory of the right length, moved to a stop
 module _ (c : ℕ) {nr : ℕ} {set block : List ℕ} (lent : Lendable nr set block) where

@@ -9,7 +9,7 @@ use Rattle.answers.specs.declared.Refusal.the-variants.{SetLength, BlockLength}
 use Rattle.answers.proofs.laws.Tests.{both, first-refuses, second-decides, length-wrong, length-right, length-was}
 use Rattle.layout.specs.Stages.{setBytes}
 use Rattle.layout.proofs.laws.Lookup.{Sizes}
-use Rattle.whitebox.specs.Calls.{judgeWhole}
+use Rattle.calls.specs.Calls.{judgeWhole}
 
 module _ {nr count bytes : ℕ} (N : Sizes nr count bytes) (set block : ℕ) where
   pub bad-set : (set ≡ bytes → ⊥) → Refused SetLength ≡ judgeWhole nr set block

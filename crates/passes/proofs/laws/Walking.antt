@@ -3,46 +3,23 @@
 -- Assumes nothing.
 use mathlib.Core.List.{List}
 use mathlib.Core.Path.{_≡_, sym, ap, _∙_}
-use Prim.Native.Nat.{ℕ, suc, _+_, _-_, _<_}
+use Prim.Native.Nat.{ℕ, suc, _+_, _<_}
 use native.Mathlib.Numerals.{add-one}
 use native.Mathlib.Omega.{arith}
 use lib.ListN.{length, length-replicate}
-use Rattle.bits.proofs.laws.Lists.{cut}
 use Rattle.network.specs.Lookups.{stateAt, zeroArea}
-use Rattle.network.specs.declared.EntryPlace.{EntryPlace}
-use Rattle.layout.specs.Stages.{widthOf, shapeAt, lookups, placeOf}
-use Rattle.layout.specs.declared.stage.Place.{Place}
-use Rattle.layout.proofs.laws.Lookup.{Sizes, tables-in-set}
-use Rattle.whitebox.specs.Calls.{advance, stateFrom}
-use Rattle.whitebox.proofs.laws.Calls.{advance-split}
-use Rattle.lookups.specs.InPlace.{LookedUp}
-use Rattle.evaluate.proofs.laws.Calls.{read-there, inside-there, one-advanced}
+use Rattle.layout.specs.Stages.{setBytes}
+use Rattle.layout.proofs.laws.Lookup.{tables-in-set}
+use Rattle.calls.specs.Calls.{advance, stateFrom}
+use Rattle.calls.proofs.laws.Calls.{advance-split}
 use Rattle.passes.specs.InPlace.{LookupMade}
 use Rattle.passes.specs.declared.Lookup.{Lookup}
 
--- ---- one lookup over its table, the part of the set that `place_of` gives
-pub lookup-made : {reads : ℕ → ℕ} {nr count bytes : ℕ} → Sizes nr count bytes → {set : List ℕ} {n : ℕ} {p : Place} → p ≡ placeOf nr n → n < count
-    → {s a s′ a′ : List ℕ} {r : EntryPlace} → LookedUp (shapeAt reads (p .stage)) (p .index) (cut set (p .offset) (p .offset + p .size)) (p .offset) s a r s′ a′
-    → {m : ℕ} → m ≡ widthOf (p .stage) → LookupMade reads nr set n s a (record { offset = r .offset; index = p .index; half = r .half; width = m }) s′ a′
-lookup-made {reads} {nr} N {set} {n} {p} e b {s} {a} {s′} {a′} l w =
-    let A = one-advanced N {stop = n + 1} e (omega arith) (omega arith) l in
-    let inside : n < lookups nr = omega (arith, N .all-lookups) in
-    let one : n + 1 - n ≡ 1 = omega arith in
-    record {
-      place = read-there reads nr n p inside e l;
-      inside = inside-there reads nr n p inside e l;
-      half = l .table .half;
-      index = ap (λ (p : Place). p .index) e;
-      width = w ∙ ap (λ (p : Place). widthOf (p .stage)) e;
-      walk = ap (λ (k : ℕ). advance reads nr set k (stateAt n s a)) (sym one) ∙ A .walk ∙ ap (λ (k : ℕ). stateAt k s′ a′) (add-one n);
-      kept = A .kept;
-      long = A .long;
-    }
-
+-- ---- a lookup
 -- The place that it read is one of the set.
-pub read-in-set : {reads : ℕ → ℕ} {nr count bytes : ℕ} → Sizes nr count bytes → {set : List ℕ} {n : ℕ} {s a s′ a′ : List ℕ} {r : Lookup}
-    → LookupMade reads nr set n s a r s′ a′ → r .offset < bytes
-read-in-set {nr = nr} N made = omega (arith, made .inside .somewhere, tables-in-set nr, N .all-bytes)
+pub read-in-set : {reads : ℕ → ℕ} {nr : ℕ} {set : List ℕ} {n : ℕ} {s a s′ a′ : List ℕ} {r : Lookup}
+    → LookupMade reads nr set n s a r s′ a′ → r .offset < setBytes nr
+read-in-set {nr = nr} made = omega (arith, made .inside .somewhere, tables-in-set nr)
 
 -- ---- the loops: the first n lookups of the walk from a block have left standing bytes s and area a
 pub record Walking (reads : ℕ → ℕ) (nr : ℕ) (set block s a : List ℕ) (n : ℕ) : Type 0 where

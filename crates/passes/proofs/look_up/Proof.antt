@@ -1,39 +1,41 @@
--- `passes::look_up` meets its contract. `place_of` ensures the stage or half and the table of lookup n, which is a part of the set (`part-within`, `part-fits` of
--- evaluate's `laws.Calls`); `lookup_in` makes the lookup over it, which is the walk's, and `width_of` ensures the bytes of a word (`lookup-made` of `laws.Walking`). The
--- laws are over the sizes of a set, and `ten` are those of the code.
+-- `passes::look_up` meets its contract. `place_of` ensures the place of lookup n, whose table is a part of the set (`there`, by `stands-in` of `laws.Places`): so no
+-- sum wraps, and the part that is lent has the table's length. The lookup that `lookup_in` makes over it (`made-at`) is the walk's (`lookup-made`).
 -- Assumes nothing.
-use Prim.Native.Nat.{_+_, _≤_}
-use Rattle.layout.specs.Stages.{tenSetBytes}
-use Rattle.layout.proofs.laws.Ten.{ten}
-use Rattle.evaluate.proofs.laws.Calls.{part-within, part-fits}
-use Rattle.passes.proofs.laws.Walking.{lookup-made}
+use mathlib.Core.Path.{_∙_}
+use lib.ListN.{length}
+use Rattle.bits.proofs.laws.Lists.{length-cut}
+use Rattle.passes.specs.InPlace.{StandsIn}
+use Rattle.passes.proofs.laws.Places.{stands-in, made-at, lookup-made}
 use native.Mathlib.Omega.{arith}
 use borrow.Author.Needs.{needs}
 use Rattle.passes.proofs.look_up.Statement.{statement}
 use Rattle.passes.proofs.look_up.Tie as tie
 
--- the table of lookup n lies within the set
-within : (c : tie.After-place-of) → c .place-of .result .offset + c .place-of .result .size ≤ tenSetBytes
-within c = part-within ten _ _ (omega arith) (c .place-of .ensures)
-
-add-to : tie.Need-add-to
-add-to c = omega (arith, within (search))
-
-part-lookup-in-end : tie.Need-part-lookup-in-end
-part-lookup-in-end c = omega (arith, within (search))
+there : (c : tie.After-place-of) → let entry : tie.Start = search in StandsIn (c .place-of .result) (length (entry .args .set .now))
+there c =
+    let entry : tie.Start = search in
+    stands-in _ _ (entry .pre .within) (c .place-of .ensures) (entry .pre .rounds) (omega arith)
 
 lookup-in-requires : tie.Need-lookup-in-requires
 lookup-in-requires c κs =
     let place : tie.After-place-of = search in
     let entry : tie.Start = search in
-    (part-fits ten _ _ (omega arith) (place .place-of .ensures) _ (entry .pre .0), omega (arith, within (search)), entry .pre .3, entry .pre .2)
+    let stands = there place in
+    let fits = stands .fits in
+    (record { within = fits .within; sized = length-cut _ _ _ (stands .ends) ∙ fits .sized; short = fits .short }, entry .pre .lent)
 
 returns : tie.Need-returns
 returns c =
     let looked : tie.After-lookup-in = search in
     let place : tie.After-place-of = search in
     let entry : tie.Start = search in
-    lookup-made ten (place .place-of .ensures) (entry .pre .1) (looked .lookup-in .ensures) (c .width-of .ensures .0)
+    lookup-made (entry .pre .within) (place .place-of .ensures) (made-at (looked .lookup-in .ensures) (c .width-of .ensures .0))
+
+add-to : tie.Need-add-to
+add-to c = omega (arith, there (search))
+
+part-lookup-in-end : tie.Need-part-lookup-in-end
+part-lookup-in-end c = omega (arith, there (search))
 
 -- ---- the needs that the search closes
 place-of-requires : tie.Need-place-of-requires

@@ -13,10 +13,10 @@ use Rattle.network.specs.Lookups.{State, stateAt, zeroArea}
 use Rattle.layout.specs.Ciphers.{kept, readsOf}
 use Rattle.layout.specs.Stages.{lookups, setBytes}
 use Rattle.layout.proofs.laws.Lookup.{own-sizes}
-use Rattle.whitebox.specs.Calls.{holding, changed, started, toStop, judgeStop, advance, handed}
-use Rattle.whitebox.proofs.laws.Calls.{advance-count}
-use Rattle.whitebox.proofs.laws.Judged.{presented-right, stop-right}
-use Rattle.whitebox.proofs.laws.Named.{reads-kept}
+use Rattle.calls.specs.Calls.{marked, keptMark, holding, changed, started, toStop, judgeStop, advance, handed}
+use Rattle.calls.proofs.laws.Calls.{advance-count}
+use Rattle.calls.proofs.laws.Judged.{presented-right, stop-right}
+use Rattle.calls.proofs.laws.Kept.{reads-kept}
 use Rattle.evaluate.specs.Held.{held}
 use Rattle.evaluate.specs.Contracts.{Opens, Moves}
 use Rattle.evaluate.specs.declared.walk.Move.{Move}
@@ -37,27 +37,27 @@ module _ {c nr : ℕ} {set block lent left : List ℕ} {a : Answer} (R : Records
   left-is = R .bytes ∙ sym (left-new _ (recordOf c nr set block) lent (sym (R .answer) ∙ ok))
 
   pub right : (length set ≡ setBytes nr) × (length block ≡ 16) × (length lent ≡ lookups nr * entrySize)
-  right = lengths-were (own-sizes nr) _ _ _ (R .answer) ok
+  right = lengths-were own-sizes _ _ _ (R .answer) ok
 
   -- ---- the walk that a start hands back
   module _ {o : Opening} (opens : Opens c block o) where
     abbrev s₀ : State
     s₀ = stateAt 0 block zeroArea
 
-    pub opened : held (o .walk) ≡ holding (kept c) s₀
+    pub opened : held (o .walk) ≡ holding (marked c) s₀
     unfolding started
-    opened = opens .walk ∙ sym (left-new _ (holding (kept c) s₀) _ (sym (presented-right (length block) (right .1))))
+    opened = opens .walk ∙ sym (left-new _ (holding (marked c) s₀) _ (sym (presented-right (length block) (right .1))))
 
     -- Brought to the count n.
     module _ {n : ℕ} (h : n ≤ lookups nr) {r : Move} (moves : Moves nr (toStop set n) (o .walk) r) where
       accepted : judgeStop nr (length set) n 0 ≡ Accepted
       accepted = sym (stop-right nr (length set) n 0 (right .0) h (omega arith))
 
-      pub moved : held (r .walk) ≡ holding (kept (kept c)) (walkAt c nr set block n)
+      pub moved : held (r .walk) ≡ holding (keptMark (marked c)) (walkAt c nr set block n)
       unfolding handed
       moved =
           moves .walk
           ∙ ap (handed nr (toStop set n)) opened
-          ∙ sym (left-new _ (changed (advance (readsOf (kept c)) nr set (n - 0)) (holding (kept c) s₀)) (holding (kept c) s₀) accepted)
-          ∙ ap (λ (i : ℕ). holding (kept (kept c)) (advance (readsOf (kept c)) nr set i s₀)) (let e : n - 0 ≡ n = omega arith in e)
-          ∙ sym (reads-kept (λ f. holding (kept (kept c)) (advance f nr set n s₀)) c)
+          ∙ sym (left-new _ (changed (advance (readsOf (kept c)) nr set (n - 0)) (holding (marked c) s₀)) (holding (marked c) s₀) accepted)
+          ∙ ap (λ (i : ℕ). holding (keptMark (marked c)) (advance (readsOf (kept c)) nr set i s₀)) (let e : n - 0 ≡ n = omega arith in e)
+          ∙ sym (reads-kept (λ f. holding (keptMark (marked c)) (advance f nr set n s₀)) c)

@@ -88,7 +88,7 @@ module _ (c nr : ℕ) (set block rec : List ℕ) (ok : judgeRecord nr (length se
   p = differsAt c nr set block rec
 
   long : length rec ≡ recordBytes nr
-  long = lengths-were (own-sizes nr) _ _ _ refl ok .2
+  long = lengths-were own-sizes _ _ _ refl ok .2
 
   found : replayed c nr set block rec ≡ told (first (lookups nr) p)
   unfolding replayed

@@ -9,7 +9,7 @@ use Rattle.answers.specs.declared.Refusal.{Refusal}
 use Rattle.answers.specs.declared.Refusal.the-variants.{RecordLength}
 use Rattle.answers.proofs.laws.Tests.{both, first-refuses, second-decides, length-wrong, length-right, length-was}
 use Rattle.layout.proofs.laws.Lookup.{Sizes}
-use Rattle.whitebox.specs.Calls.{judgeWhole}
+use Rattle.calls.specs.Calls.{judgeWhole}
 use Rattle.passes.proofs.laws.Judged as passes
 use Rattle.records.specs.Record.{entrySize, recordBytes}
 use Rattle.records.specs.Replay.{judgeRecord}

@@ -1,28 +1,21 @@
 -- Laws, not definitions: the statements of specs/Theorems.antt and Cases.antt.
 -- Assumes nothing.
-use mathlib.Core.Path.{_≡_, refl, sym, ap}
+use mathlib.Core.Path.{refl, sym, ap}
 use Prim.Native.Nat.{ℕ, _*_}
 use native.Mathlib.Omega.{arith}
-use lib.ListN.{length}
 use Rattle.answers.specs.Answers.{replyOf}
-use Rattle.answers.specs.Search.{first}
-use Rattle.answers.specs.declared.Answer.{Answer}
-use Rattle.answers.specs.declared.Answer.the-variants as answer
-use Rattle.answers.specs.declared.Answer.the-variants.{Accepted}
-use Rattle.answers.specs.declared.found.Found.{Found}
-use Rattle.answers.specs.declared.found.Found.the-variants.{At, Nothing}
 use Rattle.bits.specs.Lists.{concat}
 use Rattle.network.specs.Lookups.{stateAt, zeroArea}
 use Rattle.layout.specs.Stages.{lookups}
 use Rattle.layout.proofs.laws.Cases.{starred}
 use Rattle.layout.proofs.laws.Lookup.{own-sizes}
-use Rattle.whitebox.specs.Calls.{advance}
-use Rattle.whitebox.proofs.laws.Named.{reads-kept}
+use Rattle.calls.specs.Calls.{advance}
+use Rattle.calls.proofs.laws.Kept.{reads-kept}
 use Rattle.passes.proofs.laws.Judged.{bad-set, bad-block, good as whole-good}
 use Rattle.records.specs.Cases.{Numbers}
 use Rattle.records.specs.Record.{entrySize, written, entryNext, recordOf}
-use Rattle.records.specs.Replay.{judgeRecord, differsAt, told, verdictBy, answerOf, replayed}
-use Rattle.records.specs.Theorems.{TestsInOrder, ReplayAnswers, RecordsShaped, RecordsAndReplays}
+use Rattle.records.specs.Theorems.{TestsInOrder, RecordsShaped, RecordsAndReplays}
+use Rattle.records.proofs.laws.Calls.{replay-answers}
 use Rattle.records.proofs.laws.Exact.{record-long, record-entry, replays-exact}
 use Rattle.records.proofs.laws.Judged.{bad-whole, bad-record, good}
 use Rattle.records.proofs.laws.Values.{values-put-down}
@@ -31,22 +24,13 @@ use Rattle.records.proofs.laws.Written.{refused-leaves, written-is-own,
 -- ---- the tests
 tests-in-order : TestsInOrder
 tests-in-order nr set block rec =
-    let N = own-sizes nr in
+    let N = own-sizes {nr = nr} in
     record {
       set-first = λ n. ap replyOf (sym (bad-whole nr set block rec (bad-set N set block n) refl));
       block-second = λ e n. ap replyOf (sym (bad-whole nr set block rec (bad-block N set block e n) refl));
       record-third = λ e f n. ap replyOf (sym (bad-record N set block rec (whole-good N set block e f) refl n));
       none = λ e f g. sym (good N set block rec (whole-good N set block e f) refl g);
     }
-
-answered : (a : Answer) (f : Found) → answerOf (verdictBy a (told f)) ≡ a
-answered Accepted Nothing = refl
-answered Accepted (At k) = refl
-answered (answer.Refused r) f = refl
-
-replay-answers : ReplayAnswers
-unfolding replayed
-replay-answers c nr set block rec = answered (judgeRecord nr (length set) (length block) (length rec)) (first (lookups nr) (differsAt c nr set block rec))
 
 -- ---- the record
 records-shaped : RecordsShaped

@@ -1,4 +1,4 @@
--- Laws, not definitions: the values of a record are what the lookups put down (whitebox's `PutDown`): what a lookup read is what the record has.
+-- Laws, not definitions: the values of a record are what the lookups put down (`laws.PutDown` of crate calls): what a lookup read is what the record has.
 -- Assumes nothing.
 use mathlib.Core.List.{List}
 use mathlib.Core.Path.{_≡_, sym, ap, _∙_, subst}
@@ -16,10 +16,10 @@ use Rattle.network.specs.Read.{lookupFrom}
 use Rattle.network.specs.declared.EntryPlace.{EntryPlace}
 use Rattle.layout.specs.Ciphers.{readsOf}
 use Rattle.layout.specs.Stages.{widthOf, shapeAt, lookups, setBytes, stageOf, indexOf}
-use Rattle.whitebox.specs.Calls.{Held, advance, readNext}
-use Rattle.whitebox.proofs.laws.Calls.{advance-split}
-use Rattle.whitebox.proofs.laws.PutDown.{Whole, by-spread, by-xor, by-last, withNibble, word-put, nibble-put, xor-last, last-sum}
-use Rattle.whitebox.proofs.laws.PutDown.{WholeState, next-is, next-whole, stays-whole, starts-whole}
+use Rattle.calls.specs.Calls.{Held, advance, readNext}
+use Rattle.calls.proofs.laws.Calls.{advance-split}
+use Rattle.calls.proofs.laws.PutDown.{Whole, by-spread, by-xor, by-last, withNibble, word-put, nibble-put, xor-last, last-sum}
+use Rattle.calls.proofs.laws.PutDown.{WholeState, next-is, next-whole, stays-whole, starts-whole}
 use Rattle.evaluate.specs.Held.{held}
 use Rattle.records.specs.Contracts.{Records}
 use Rattle.records.specs.Record.{offsetBytes, entryRead, entryNext, walkAt, entryIn}

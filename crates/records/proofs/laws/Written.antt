@@ -20,10 +20,10 @@ use Rattle.network.specs.declared.EntryPlace.{EntryPlace}
 use Rattle.layout.specs.Ciphers.{kept, readsOf}
 use Rattle.layout.specs.Stages.{lookups, indexOf}
 use Rattle.layout.proofs.laws.Lookup.{own-sizes}
-use Rattle.whitebox.specs.Calls.{Held, toStop, judgeStop, readNext, placeRead, answer}
-use Rattle.whitebox.specs.PlaceRead.{InTable}
-use Rattle.whitebox.proofs.laws.Judged.{stop-right}
-use Rattle.whitebox.proofs.laws.Named.{reads-kept}
+use Rattle.calls.specs.Calls.{Held, toStop, judgeStop, readNext, placeRead, answer}
+use Rattle.calls.specs.PlaceRead.{InTable}
+use Rattle.calls.proofs.laws.Judged.{stop-right}
+use Rattle.calls.proofs.laws.Kept.{reads-kept}
 use Rattle.evaluate.specs.Held.{held}
 use Rattle.evaluate.specs.Contracts.{Opens, Moves}
 use Rattle.evaluate.specs.declared.walk.Move.{Move}
@@ -80,10 +80,10 @@ refused-leaves c nr set block lent left a R turned =
 pub written-is-own : WrittenIsOwn
 written-is-own c nr set block lent left a r R ok replays =
     let whole : length left ≡ lookups nr * entrySize = ap length (left-is R ok) ∙ record-long c nr set block in
-    let N = own-sizes nr in
+    let N = own-sizes {nr = nr} in
     let sizes = right R ok in
     let good-again = sym (good N _ _ _ (whole-good N _ _ (sizes .0) (sizes .1)) refl whole) in
-    replays ∙ replays-exact c nr set block left good-again .own-if (left-is R ok)
+    replays .result ∙ replays-exact c nr set block left good-again .own-if (left-is R ok)
 
 pub written-of-moves : WrittenOfMoves
 unfolding answer

@@ -2,28 +2,25 @@
 -- Assumes nothing.
 use mathlib.Core.Path.{_≡_, refl, sym, ap, ap₂, _∙_}
 use mathlib.Core.List.{List, [], _∷_, _++_, append-assoc}
-use Prim.Native.Nat.{ℕ, _+_, _-_, _*_, _≤_, _<_}
-use native.Mathlib.Numerals.{add-one}
+use Prim.Native.Nat.{ℕ, suc, _+_, _-_, _*_, _≤_, _<_}
 use native.Mathlib.Omega.{arith}
 use lib.ListN.{length, take, set, length-set}
 use lib.Seq.{take-all}
 use Rattle.bits.specs.Lists.{at, tabulate}
 use Rattle.bits.proofs.laws.Lists.{put-one, tabulate-at}
 use Rattle.bits.proofs.laws.Filled.{Filled, filled-front}
-use Rattle.round.specs.Key.{wordAt, xorWord, temp, nextWord, expand, KeyExpansion}
+use Rattle.round.specs.Key.{wordAt, xorWord, temp, nextWord, expand, putWord, roundsOf, KeyExpansion}
 use Rattle.round.proofs.laws.Key.{word-take}
 
--- ---- The loop that lays out the key fills 16 of the 176 bytes.
-pub laid : {key w : List ℕ} {i : ℕ} → Filled 176 (at key) w i → 16 ≤ i → length key ≡ 16 → take 16 w ≡ key
-laid {key} F h l = filled-front F h ∙ tabulate-at 16 key l
+-- ---- The loop that lays out the key fills the front of the memory.
+pub laid : {m : ℕ} {key w : List ℕ} {i : ℕ} → Filled m (at key) w i → length key ≤ i → take (length key) w ≡ key
+laid {key = key} F h = filled-front F h ∙ tabulate-at (length key) key refl
 
--- ---- A word of four bytes, written at a: what then stands up to its end.
-abbrev put : List ℕ → ℕ → List ℕ → List ℕ
-put w a x = set (set (set (set w a (at x 0)) (a + 1) (at x 1)) (a + 2) (at x 2)) (a + 3) (at x 3)
-
-put-four : (w : List ℕ) (a : ℕ) (x : List ℕ) → a + 3 < length w
-    → take (a + 4) (put w a x) ≡ take a w ++ (at x 0 ∷ at x 1 ∷ at x 2 ∷ at x 3 ∷ [])
-put-four w a x h =
+-- ---- A word of four bytes, written over word i: what then stands up to its end.
+put-four : (w : List ℕ) (i : ℕ) (x : List ℕ) → 4 * i + 4 ≤ length w
+    → take (4 * i + 4) (putWord w i x) ≡ take (4 * i) w ++ (at x 0 ∷ at x 1 ∷ at x 2 ∷ at x 3 ∷ [])
+put-four w i x h =
+    let a = 4 * i in
     let w1 = set w a (at x 0) in
     let w2 = set w1 (a + 1) (at x 1) in
     let w3 = set w2 (a + 2) (at x 2) in
@@ -40,51 +37,57 @@ word-eta : (a b x : List ℕ) → x ≡ xorWord a b → at x 0 ∷ at x 1 ∷ at
 unfolding xorWord tabulate
 word-eta a b x e = tabulate-at 4 x (ap length e)
 
--- ---- The loop that expands it.
--- Its invariant: the first 4 + n of the 44 words are the key and n words more.
-pub record Expanded (key w : List ℕ) (n : ℕ) : Type 0 where
-  pub within : n ≤ 40
-  pub long : length w ≡ 176
-  pub front : take (16 + 4 * n) w ≡ expand 4 key n
+-- ---- The loop that expands a key of nk words.
+-- Its invariant: the first i words, the key's among them, are those of the expansion.
+pub record Expanded (nk : ℕ) (key w : List ℕ) (i : ℕ) : Type 0 where
+  pub least : nk ≤ i
+  pub within : i ≤ 4 * (roundsOf nk + 1)
+  pub long : length w ≡ 16 * (roundsOf nk + 1)
+  pub front : take (4 * i) w ≡ expand nk key (i - nk)
 
-pub expanded-none : (w : List ℕ) → length w ≡ 176 → Expanded (take 16 w) w 0
+pub expanded-none : (nk : ℕ) (key w : List ℕ) → length w ≡ 16 * (roundsOf nk + 1) → length key ≡ 4 * nk → take (length key) w ≡ key
+    → Expanded nk key w nk
 unfolding expand
-expanded-none w l = record { within = omega arith; long = l; front = refl }
+expanded-none nk key w l k e =
+    let none : nk - nk ≡ 0 = omega arith in
+    record { least = omega arith; within = omega arith; long = l; front = ap (λ (n : ℕ). take n w) (sym k) ∙ e ∙ ap (expand nk key) (sym none) }
 
--- Word 4 + n by the rule, p and q being the words n and n + 3 that it is made of.
-next-word : (key w : List ℕ) (n : ℕ) {p q r x : List ℕ} → take (16 + 4 * n) w ≡ expand 4 key n → p ≡ wordAt w n → q ≡ wordAt w (n + 3)
-    → r ≡ temp 4 (n + 4) q → x ≡ xorWord p r → nextWord 4 (4 + n) (expand 4 key n) ≡ x
-unfolding nextWord
-next-word key w n e f g i j =
-    let k1 : 4 + n - 4 ≡ n = omega arith in
-    let k2 : 4 + n - 1 ≡ n + 3 = omega arith in
-    let k3 : 4 + n ≡ n + 4 = omega arith in
-    let first = known n (omega arith) in
-    let last = known (n + 3) (omega arith) in
-    cc
-  where
-    known : (m : ℕ) → 4 * m + 4 ≤ 16 + 4 * n → wordAt (expand 4 key n) m ≡ wordAt w m
-    known m h = ap (λ (z : List ℕ). wordAt z m) (sym e) ∙ word-take w (16 + 4 * n) m h
+-- Word i by the rule, q and p being the words i - 1 and i - nk that it is made of.
+module _ {nk : ℕ} {key w : List ℕ} {i : ℕ} (some : 1 ≤ nk) (E : Expanded nk key w i) {p q t x : List ℕ}
+    (last : q ≡ wordAt w (i - 1)) (changed : t ≡ temp nk i q) (back : p ≡ wordAt w (i - nk)) (sum : x ≡ xorWord p t) where
+  known : (j : ℕ) → j < i → wordAt (expand nk key (i - nk)) j ≡ wordAt w j
+  known j h = ap (λ (z : List ℕ). wordAt z j) (sym (E .front)) ∙ word-take w (4 * i) j (omega arith)
 
-pub expanded-more : {key w : List ℕ} {n : ℕ} {p q r x : List ℕ} → Expanded key w n → n < 40 → p ≡ wordAt w n → q ≡ wordAt w (n + 3)
-    → r ≡ temp 4 (n + 4) q → x ≡ xorWord p r → Expanded key (put w (16 + 4 * n) x) (n + 1)
-unfolding expand
-expanded-more {key = key} {w = w} {n = n} {p = p} {r = r} {x = x} E h f g i j =
-    let a : ℕ = 16 + 4 * n in
-    let k : 16 + 4 * (n + 1) ≡ a + 4 = omega arith in
-    record {
-      within = omega arith;
-      long = simp length-set (E .long);
-      front =
-          ap (λ (z : ℕ). take z (put w a x)) k
-          ∙ put-four w a x (omega arith)
-          ∙ ap₂ (λ (u v : List ℕ). u ++ v) (E .front) (word-eta p r x j ∙ sym (next-word key w n (E .front) f g i j))
-          ∙ ap (expand 4 key) (sym (add-one n));
-    }
+  next-word : nextWord nk i (expand nk key (i - nk)) ≡ x
+  unfolding nextWord
+  next-word =
+      let first = known (i - nk) (omega (arith, E .least)) in
+      let before-it = known (i - 1) (omega (arith, E .least)) in
+      cc
 
--- v is the memory before the loop, with the key laid out.
-pub expanded-all : (v : List ℕ) {key w : List ℕ} {n : ℕ} → Expanded (take 16 v) w n → 40 ≤ n → take 16 v ≡ key → w ≡ KeyExpansion 4 key
+  one-more : expand nk key (i - nk) ++ x ≡ expand nk key (i + 1 - nk)
+  unfolding expand
+  one-more =
+      let n : i + 1 - nk ≡ suc (i - nk) = omega (arith, E .least) in
+      let same : nk + (i - nk) ≡ i = omega (arith, E .least) in
+      rw (n, same) (ap (λ (z : List ℕ). expand nk key (i - nk) ++ z) (sym next-word))
+
+  pub expanded-more : i < 4 * (roundsOf nk + 1) → {w′ : List ℕ} → w′ ≡ putWord w i x → Expanded nk key w′ (i + 1)
+  expanded-more h d =
+      let k : 4 * (i + 1) ≡ 4 * i + 4 = omega arith in
+      rw d (record {
+        least = omega (arith, E .least);
+        within = omega arith;
+        long = simp length-set (E .long);
+        front =
+            ap (λ (z : ℕ). take z (putWord w i x)) k
+            ∙ put-four w i x (omega (arith, E .long))
+            ∙ ap₂ (λ (u v : List ℕ). u ++ v) (E .front) (word-eta p t x sum)
+            ∙ one-more;
+      })
+
+pub expanded-all : {nk : ℕ} {key w : List ℕ} {i : ℕ} → Expanded nk key w i → 4 * (roundsOf nk + 1) ≤ i → w ≡ KeyExpansion nk key
 unfolding KeyExpansion
-expanded-all v {w = w} {n = n} E h s =
-    let e : n ≡ 40 = omega arith in
-    sym (take-all (16 + 4 * n) w (omega arith)) ∙ E .front ∙ ap₂ (λ (z : List ℕ) (j : ℕ). expand 4 z j) s e
+expanded-all {nk} {key} {w} {i} E h =
+    let e : i ≡ 4 * (roundsOf nk + 1) = omega (arith, E .within) in
+    sym (take-all (4 * i) w (omega (arith, E .long, E .within))) ∙ E .front ∙ ap (λ (z : ℕ). expand nk key (z - nk)) e

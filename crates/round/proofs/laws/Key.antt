@@ -6,10 +6,11 @@ use mathlib.Core.List.{List, [], _∷_}
 use Prim.Native.Nat.{ℕ, zero, suc, _+_, _-_, _*_, _/_, _%_, _≤_, _<_}
 use native.Mathlib.Nat.{add-zero}
 use native.Mathlib.Omega.{arith}
-use native.Mathlib.Decide.{decLt}
-use borrow.Author.Tests.{eq-eqb, ne-eqb}
+use native.Mathlib.Decide.{decLt, ℕ-discrete}
+use Rattle.rounds.specs.Rounds.{Rounds}
+use borrow.Author.Tests.{eq-eqb, ne-eqb, lt-ltb, le-ltb}
 use lib.Dec.{eqb, ltb, eqb→eq, lit<}
-use lib.Bits.{bitXor, xor-lt, xor-zero-r}
+use lib.Bits.{bitXor, xor-lt}
 use lib.ListN.{length, take, drop, length-take}
 use lib.Seq.{getD-take, getD-drop}
 use Rattle.bits.specs.Lists.{at, tabulate}
@@ -18,34 +19,58 @@ use Rattle.bits.proofs.laws.Lists.{tabulate-ext, tabulate-below, append-below, 
 use Rattle.bits.proofs.laws.Filled.{Filled}
 use Rattle.bits.proofs.laws.Checked as checked
 use Rattle.field.specs.Field.{xtime}
-use Rattle.field.specs.Sbox.{sboxOf}
 use Rattle.field.proofs.laws.Field.{xtime-lt}
 use Rattle.field.proofs.laws.Sbox.{sbox-lt}
-use Rattle.round.specs.Key.{rcon, wordAt, RotWord, SubWord, xorWord, Rcon, temp, nextWord, expand, KeyExpansion, keyOf}
+use Rattle.round.specs.Key.{rcon, wordAt, RotWord, SubWord, xorWord, Rcon, temp, nextWord, expand, roundsOf, KeyExpansion, keyOf}
 use Rattle.round.specs.RoundKeys.{RoundKeyBytes}
 use Rattle.round.specs.State.{cell, AddRoundKey}
-use Rattle.round.proofs.laws.State.{is-block, filled-state}
+use Rattle.round.proofs.laws.State.{filled-state}
 
--- The first bytes of the round constants of ten rounds, as the code has them.
+-- The first bytes of the round constants, as the code has them: ten are the most that a key asks for.
 unfoldable pub rconTable : List ℕ
 rconTable = 0 ∷ 1 ∷ 2 ∷ 4 ∷ 8 ∷ 16 ∷ 32 ∷ 64 ∷ 128 ∷ 27 ∷ 54 ∷ []
 
 right : ℕ → ℕ → Bool
 right j x = eqb x (rcon j)
 
-pub rcon-at : (j : ℕ) → j < 11 → at rconTable j ≡ rcon j
+rcon-is : (j : ℕ) → j < 11 → at rconTable j ≡ rcon j
 unfolding rconTable right rcon xtime
-rcon-at j h = eqb→eq _ _ (checked.at right rconTable tt j h)
+rcon-is j h = eqb→eq _ _ (checked.at right rconTable tt j h)
 
--- ---- What becomes of temp, with a key of four words.
-pub temp-turn : (i : ℕ) (t : List ℕ) {a b c d r : ℕ} → i % 4 ≡ 0 → a ≡ sboxOf (at t 1) → r ≡ rcon (i / 4) → b ≡ sboxOf (at t 2)
-    → c ≡ sboxOf (at t 3) → d ≡ sboxOf (at t 0) → bitXor a r ∷ b ∷ c ∷ d ∷ [] ≡ temp 4 i t
-unfolding temp xorWord SubWord RotWord Rcon tabulate
-temp-turn i t e pa pr pb pc pd = rw (eq-eqb (i % 4) 0 e, pa, pr, pb, pc, pd) (simp xor-zero-r)
+pub rcon-at : (j : ℕ) → j < 11 → at rconTable j ∷ 0 ∷ 0 ∷ 0 ∷ [] ≡ Rcon j
+unfolding Rcon
+rcon-at j h = ap (λ (x : ℕ). x ∷ 0 ∷ 0 ∷ 0 ∷ []) (rcon-is j h)
 
-pub temp-keep : (i : ℕ) (t : List ℕ) → (i % 4 ≡ 0 → ⊥) → t ≡ temp 4 i t
-unfolding temp
-temp-keep i t e = rw (ne-eqb (i % 4) 0 e)
+-- ---- What becomes of temp, for a key of nk words: by the tests of the code.
+module _ (nk i : ℕ) (t : List ℕ) where
+  -- At the start of nk words.
+  pub temp-turn : i % nk ≡ 0 → {r s c x : List ℕ} → r ≡ RotWord t → s ≡ SubWord r → c ≡ Rcon (i / nk) → x ≡ xorWord s c → x ≡ temp nk i t
+  unfolding temp
+  temp-turn e pr ps pc px = px ∙ rw (eq-eqb (i % nk) 0 e, pc, ps, pr)
+
+  module _ (e : i % nk ≡ 0 → ⊥) where
+    -- Four or six words: else it stays.
+    pub temp-keep : nk ≤ 6 → t ≡ temp nk i t
+    unfolding temp
+    temp-keep h = rw (ne-eqb (i % nk) 0 e, le-ltb 6 nk h)
+
+    -- Eight words: in their middle each byte goes through the S-box, else it stays.
+    pub temp-sub : 6 < nk → i % nk ≡ 4 → {x : List ℕ} → x ≡ SubWord t → x ≡ temp nk i t
+    unfolding temp
+    temp-sub h m q = q ∙ rw (ne-eqb (i % nk) 0 e, lt-ltb 6 nk h, eq-eqb (i % nk) 4 m)
+
+    pub temp-other : 6 < nk → (i % nk ≡ 4 → ⊥) → t ≡ temp nk i t
+    unfolding temp
+    temp-other h m = rw (ne-eqb (i % nk) 0 e, lt-ltb 6 nk h, ne-eqb (i % nk) 4 m)
+
+-- No word of the expansion asks for a round constant behind the tenth.
+pub rcon-small : (nk i : ℕ) → Rounds (roundsOf nk) → i < 4 * (roundsOf nk + 1) → i / nk < 11
+rcon-small nk i R h = go (ℕ-discrete nk 4) (ℕ-discrete nk 6)
+  where
+    go : Dec (nk ≡ 4) → Dec (nk ≡ 6) → i / nk < 11
+    go (yes e) b = rw e (omega arith)
+    go (no a) (yes e) = rw e (omega arith)
+    go (no a) (no b) = let e : nk ≡ 8 = omega (arith, R) in rw e (omega arith)
 
 -- ---- Words and round keys in a list of words.
 pub word-is : (w : List ℕ) (j : ℕ) → at w (4 * j) ∷ at w (4 * j + 1) ∷ at w (4 * j + 2) ∷ at w (4 * j + 3) ∷ [] ≡ wordAt w j
@@ -67,14 +92,6 @@ unfolding AddRoundKey
 add-filled s w n =
     filled-state (λ r c. bitXor (cell s r c) (cell (keyOf w n) r c)) (λ k. bitXor (at s k) (at w (16 * n + k)))
     (λ r c p q. ap (bitXor (cell s r c)) (sym (key-at w n (r + 4 * c) (omega arith))))
-
--- Behind the last round key of w there is nothing to add.
-pub add-none : (s w : List ℕ) (n : ℕ) → length s ≡ 16 → length w ≤ 16 * n → s ≡ AddRoundKey s (keyOf w n)
-unfolding AddRoundKey
-add-none s w n long past =
-    sym (is-block (λ r c. bitXor (cell s r c) (cell (keyOf w n) r c)) s long
-    (λ r c p q. ap (bitXor (cell s r c)) (key-at w n (r + 4 * c) (omega arith) ∙ at-past w (16 * n + (r + 4 * c)) (omega arith))
-    ∙ xor-zero-r (cell s r c)))
 
 -- ---- Round keys are bytes.
 key-short : (w : List ℕ) (r : ℕ) → length (keyOf w r) ≤ 16

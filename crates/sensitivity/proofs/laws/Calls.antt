@@ -6,7 +6,7 @@ use mathlib.Core.Path.{_≡_, sym, ap, ap₂, _∙_}
 use Prim.Native.Nat.{ℕ, _-_, _≤_}
 use native.Mathlib.Nat.{le-refl}
 use native.Mathlib.Omega.{arith}
-use lib.ListN.{length, replicate}
+use lib.ListN.{length}
 use Rattle.answers.proofs.laws.Tests.{left-new}
 use Rattle.bits.specs.Bytes.{Block}
 use Rattle.bits.specs.Flips.{flipped}
@@ -14,12 +14,11 @@ use Rattle.bits.proofs.laws.Flips.{length-flipped, flipped-bytes}
 use Rattle.network.specs.Lookups.{State, stateAt, zeroArea}
 use Rattle.layout.specs.Ciphers.{kept, readsOf}
 use Rattle.layout.specs.Stages.{lookups}
-use Rattle.layout.proofs.laws.Ciphers.{kept-kept}
-use Rattle.whitebox.specs.Calls.{Held, holding, changed, judgeStart, judgeStop, judgeFetch, started, toStop, fetch, handed, blockLeft}
-use Rattle.whitebox.specs.Calls.{advance, stateFrom}
-use Rattle.whitebox.specs.Demand2.{walkedOver}
-use Rattle.whitebox.proofs.laws.Judged.{presented-right, stop-right, count-right}
-use Rattle.whitebox.proofs.laws.Named.{reads-kept}
+use Rattle.calls.specs.Calls.{marked, zeroHeld, Held, holding, changed, judgeStart, judgeStop, judgeFetch, started}
+use Rattle.calls.specs.Calls.{toStop, fetch, handed, blockLeft, advance, stateFrom, walkedOver}
+use Rattle.calls.proofs.laws.Calls.{mark-kept}
+use Rattle.calls.proofs.laws.Judged.{presented-right, stop-right, count-right}
+use Rattle.calls.proofs.laws.Kept.{reads-kept}
 use Rattle.sensitivity.specs.Theorems.{Lendable}
 use Rattle.sensitivity.proofs.laws.Unread.{state-count}
 
@@ -29,22 +28,22 @@ flipped-lent nr set x lent i = record { long = length-flipped set i ∙ lent .lo
 
 -- ---- the walk that a start hands back
 abbrev pub begun : ℕ → List ℕ → Held
-begun c x = holding (kept c) (stateAt 0 x zeroArea)
+begun c x = holding (marked c) (stateAt 0 x zeroArea)
 
 pub started-is : (c : ℕ) (x : List ℕ) → Block x → started c x ≡ begun c x
 unfolding started
 started-is c x b =
-    sym (left-new (judgeStart (length x)) (begun c x) (holding 0 (stateAt 0 (replicate 16 0) zeroArea)) (sym (presented-right (length x) (b .long))))
+    sym (left-new (judgeStart (length x)) (begun c x) zeroHeld (sym (presented-right (length x) (b .long))))
 
 -- ---- a move to a stop, and a fetch at the end
 module _ (c nr : ℕ) (set x : List ℕ) (lent : Lendable nr set x) where
-  pub moved : (stop : ℕ) → stop ≤ lookups nr → handed nr (toStop set stop) (begun c x) ≡ holding (kept c) (stateFrom (readsOf c) nr set x stop)
+  pub moved : (stop : ℕ) → stop ≤ lookups nr → handed nr (toStop set stop) (begun c x) ≡ holding (marked c) (stateFrom (readsOf c) nr set x stop)
   unfolding handed
   moved stop h =
       let s₀ : State = stateAt 0 x zeroArea in
       let f : Held → Held = changed (advance (readsOf (kept c)) nr set (stop - 0)) in
       sym (left-new (judgeStop nr (length set) stop 0) (f (begun c x)) (begun c x) (sym (stop-right nr (length set) stop 0 (lent .long) h (omega arith))))
-      ∙ ap₂ holding (kept-kept c)
+      ∙ ap₂ holding (mark-kept c)
       (sym (reads-kept (λ (reads : ℕ → ℕ). advance reads nr set (stop - 0) s₀) c)
       ∙ ap (λ (n : ℕ). advance (readsOf c) nr set n s₀) (let z : stop - 0 ≡ stop = omega arith in z))
 

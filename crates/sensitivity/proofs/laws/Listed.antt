@@ -26,10 +26,10 @@ use Rattle.network.specs.Theorems.{WithinTable}
 use Rattle.network.specs.declared.EntryPlace.{EntryPlace}
 use Rattle.layout.specs.Stages.{shapeAt, lookups, tableSize, tableOffset, stageOf, indexOf}
 use Rattle.layout.proofs.laws.Instance.{next-offset}
-use Rattle.whitebox.specs.Calls.{tablePart, step, readNext, stateFrom}
-use Rattle.whitebox.proofs.laws.Calls.{advance-last}
-use Rattle.whitebox.proofs.laws.PlaceRead.{place-was-read}
-use Rattle.whitebox.proofs.laws.PutDown.{Whole, by-spread, by-xor, by-last, withNibble, word-read, word-room, nibble-put, last-sum, WholeState, next-whole}
+use Rattle.calls.specs.Calls.{tablePart, step, readNext, stateFrom}
+use Rattle.calls.proofs.laws.Calls.{advance-last}
+use Rattle.calls.proofs.laws.PlaceRead.{place-was-read}
+use Rattle.calls.proofs.laws.PutDown.{Whole, by-spread, by-xor, by-last, withNibble, word-read, word-room, nibble-put, last-sum, WholeState, next-whole}
 use Rattle.sensitivity.specs.Reads.{firstBit, entryBits, bitsAt, firstRead, bitsRead}
 use Rattle.sensitivity.specs.Theorems.{ListedRead}
 use Rattle.sensitivity.proofs.laws.Runs.{InRun, listed-run}

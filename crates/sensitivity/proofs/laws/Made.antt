@@ -32,12 +32,12 @@ use Rattle.network.specs.declared.EntryPlace.{EntryPlace}
 use Rattle.layout.specs.Stages.{shapeAt, stages, shapes, widths, lookups, tableSize, tableOffset, stageOf, indexOf, widthOf}
 use Rattle.layout.proofs.laws.Instance.{next-offset, stage-shapes}
 use Rattle.layout.proofs.laws.Ranges.{by-stage}
-use Rattle.whitebox.specs.Calls.{tablePart, step, advance, readNext, stateFrom}
+use Rattle.calls.specs.Calls.{tablePart, step, advance, readNext, stateFrom}
+use Rattle.calls.proofs.laws.Calls.{advance-last}
 use Rattle.whitebox.specs.Codings.{Codings, Sound}
 use Rattle.whitebox.specs.Parts.{Parts, Fine}
-use Rattle.whitebox.specs.Tables.{layerOf, layers, tableOf, setOf}
-use Rattle.whitebox.proofs.laws.Calls.{advance-last}
-use Rattle.whitebox.proofs.laws.Set.{set-length, set-part}
+use Rattle.whitebox.specs.Tables.{layerOf, layers, tableOf, tablesOf, setOf}
+use Rattle.whitebox.proofs.laws.Set.{set-length, set-bytes, set-part}
 use Rattle.whitebox.proofs.laws.Values.{layers-good}
 use Rattle.sensitivity.specs.Reads.{firstBit, bitsAt, firstRead, bitsRead}
 use Rattle.sensitivity.specs.Theorems.{Lendable}
@@ -138,11 +138,11 @@ module _ (P : Parts) (fine : Fine P) (undo : Undoable P) (C : Codings) (sound : 
   same = stage-shapes (layerOf P C nr) (P .reads) (λ s. refl) nr
 
   pub set-lent : Lendable nr set x
-  unfolding setOf tableOf
+  unfolding tablesOf tableOf
   set-lent =
       record {
         long = set-length P C nr;
-        bytes = concat-below 256 (lookups nr) (tableOf P C nr) (omega arith) (λ k h. tables-bytes E (sound .encodings) Ls startNumbers k);
+        bytes = set-bytes P C nr (concat-below 256 (lookups nr) (tableOf P C nr) (omega arith) (λ k h. tables-bytes E (sound .encodings) Ls startNumbers k));
         block = block;
       }
 

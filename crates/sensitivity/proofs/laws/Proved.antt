@@ -24,17 +24,16 @@ use Rattle.layout.specs.Ciphers.{readsOf, invShifted}
 use Rattle.layout.specs.Stages.{shifted, lookups}
 use Rattle.layout.proofs.laws.Ciphers.{for-both, inv-shifted-lt}
 use Rattle.layout.proofs.laws.Place.{shifted-lt}
+use Rattle.calls.specs.Calls.{stateFrom, walkedOver}
+use Rattle.calls.proofs.laws.Judged.{presented-was}
 use Rattle.whitebox.specs.Bundles.{codingsOf, partsOf, madeSet}
-use Rattle.whitebox.specs.Calls.{stateFrom}
 use Rattle.whitebox.specs.Codings.{Codings, Sound}
-use Rattle.whitebox.specs.Demand2.{walkedOver}
 use Rattle.whitebox.specs.Demand3.{Given, Presented}
 use Rattle.whitebox.specs.Parts.{Parts, Fine, forward, inverse, partsFor}
 use Rattle.whitebox.proofs.laws.Bundles.{codings-sound}
 use Rattle.whitebox.proofs.laws.Ciphers.{parts-fine, parts-read}
 use Rattle.whitebox.proofs.laws.Forward.{mixed-forward}
 use Rattle.whitebox.proofs.laws.Inverse.{mixed-inverse}
-use Rattle.whitebox.proofs.laws.Judged.{presented-was}
 use Rattle.sensitivity.specs.Reads.{bitsRead}
 use Rattle.sensitivity.specs.Theorems.{Lendable, DependsOn, SensitivityFor, Sensitivity}
 use Rattle.sensitivity.proofs.laws.Apart.{Undoable}
@@ -126,9 +125,11 @@ module _ (c nk : ℕ) (key l x : List ℕ) (given : Given nk key l) (presented :
     depends : DependsOn c nr set x i to to′
     depends =
         record {
-          changes = λ p same. state-differs i p (sym answer′ ∙ same ∙ answer);
+          differ-exactly = (
+            λ other. only other (listed? (bitsRead (readsOf c) nr set x) i),
+            λ p same. state-differs i p (sym answer′ ∙ same ∙ answer),
+          );
           keeps = keeps;
-          only = λ other. only other (listed? (bitsRead (readsOf c) nr set x) i);
         }
       where
         only : (walkedOver c nr (flipped set i) x to′ ≡ walkedOver c nr set x to → ⊥) → Dec (Listed (bitsRead (readsOf c) nr set x) i)

@@ -1,5 +1,5 @@
 -- Laws, not definitions: a bit that no lookup reads makes no difference to any list of calls. Over a memory with the same states as `set` at every count, the walk at
--- each count is known: it is the walk over `set`. So a list of calls answers what is due by these walks (crate whitebox), whichever of the two memories it is lent. And
+-- each count is known: it is the walk over `set`. So a list of calls answers what is due by these walks (crate calls), whichever of the two memories it is lent. And
 -- lists of calls that are alike are due the same: of an answer that is due, the count tells the walk and the offset, and all else is seen.
 -- Assumes nothing.
 use mathlib.Core.List.{List, [], _∷_, map}
@@ -9,14 +9,13 @@ use native.Mathlib.Omega.{arith}
 use lib.ListN.{length}
 use Rattle.bits.specs.Flips.{flipped}
 use Rattle.network.specs.Lookups.{State, stateAt, zeroArea}
-use Rattle.layout.specs.Ciphers.{kept, readsOf}
+use Rattle.layout.specs.Ciphers.{readsOf}
 use Rattle.layout.specs.Stages.{lookups, setBytes}
-use Rattle.layout.proofs.laws.Ciphers.{kept-kept}
-use Rattle.whitebox.specs.Calls.{Held, holding, Call, tablePart, step, advance, stateFrom, started, Served, serve}
-use Rattle.whitebox.specs.PlainCount.{argsOf, plain, blockDue, offsetDue, dueServed, Alike, Seen, seen}
-use Rattle.whitebox.proofs.laws.Calls.{advance-last}
-use Rattle.whitebox.proofs.laws.Named.{reads-kept}
-use Rattle.whitebox.proofs.laws.Served.{Known, serve-is, alike-seen}
+use Rattle.calls.specs.Calls.{marked, Held, holding, Call, tablePart, step, advance, stateFrom, started, Served, serve}
+use Rattle.calls.specs.PlainCount.{argsOf, plain, blockDue, offsetDue, dueServed, Alike, Seen, seen}
+use Rattle.calls.proofs.laws.Calls.{mark-kept, advance-last}
+use Rattle.calls.proofs.laws.Kept.{reads-kept}
+use Rattle.calls.proofs.laws.Served.{Known, serve-is, alike-seen}
 use Rattle.sensitivity.specs.Theorems.{Lendable, LentOver, OthersAloneInCalls}
 use Rattle.sensitivity.proofs.laws.Calls.{flipped-lent, started-is}
 use Rattle.sensitivity.proofs.laws.Unread.{state-count, others-alone}
@@ -31,7 +30,7 @@ module _ (c nr : ℕ) (set x : List ℕ) (lent : Lendable nr set x) where
   S n = stateAt n (state n .standing) (state n .area)
 
   abbrev W : ℕ → Held
-  W n = holding (kept c) (S n)
+  W n = holding (marked c) (S n)
 
   abbrev end : List ℕ
   end = state (lookups nr) .standing
@@ -51,10 +50,10 @@ module _ (c nr : ℕ) (set x : List ℕ) (lent : Lendable nr set x) where
         ∙ same (suc n) h
         ∙ sym (is-state (suc n) h)
 
-    known : Known (kept c) nr (tablePart nr mem) mem S end
+    known : Known (marked c) nr (tablePart nr mem) mem S end
     known =
         record {
-          keeps = kept-kept c;
+          keeps = mark-kept c;
           counts = λ n. refl;
           steps = λ n h. sym (reads-kept (λ (reads : ℕ → ℕ). step reads nr (tablePart nr mem n) (S n)) c) ∙ next n h;
           ends = refl;
@@ -67,12 +66,12 @@ module _ (c nr : ℕ) (set x : List ℕ) (lent : Lendable nr set x) where
     answers cs over = ap (λ (w : Held). serve nr w cs) (started-is c x (lent .block)) ∙ serve-is known cs 0 (omega arith) over
 
   -- ---- two lists of calls that are alike: the answers that are due, back from what is seen of them
-  abbrev answerOf : ℕ → Seen → Served
-  answerOf n s = record { reply = s .reply; walk = W (s .count); offset = offsetDue nr W end n (s .count); block = s .block }
+  abbrev servedOf : ℕ → Seen → Served
+  servedOf n s = record { reply = s .reply; walk = W (s .count); offset = offsetDue nr W end n (s .count); block = s .block }
 
   unfoldable answersOf : ℕ → List Seen → List Served
   answersOf n [] = []
-  answersOf n (s ∷ rest) = answerOf n s ∷ answersOf (s .count) rest
+  answersOf n (s ∷ rest) = servedOf n s ∷ answersOf (s .count) rest
 
   answers-back : (cs : List Call) (n : ℕ) → answersOf n (map seen (dueServed nr W end n cs)) ≡ dueServed nr W end n cs
   unfolding answersOf dueServed
@@ -80,7 +79,7 @@ module _ (c nr : ℕ) (set x : List ℕ) (lent : Lendable nr set x) where
   answers-back (a ∷ cs) n =
       let p = plain nr (argsOf a) n in
       let first : Seen = record { reply = p .reply; count = p .count; block = blockDue nr W end a n } in
-      ap (λ (rest : List Served). answerOf n first ∷ rest) (answers-back cs (p .count))
+      ap (λ (rest : List Served). servedOf n first ∷ rest) (answers-back cs (p .count))
 
   alike-due : (cs cs′ : List Call) → Alike cs cs′ → dueServed nr W end 0 cs ≡ dueServed nr W end 0 cs′
   alike-due cs cs′ alike =

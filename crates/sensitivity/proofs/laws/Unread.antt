@@ -1,5 +1,5 @@
 -- Laws, not definitions: over any memory of the right length. What a lookup reads lies in its table, so the bits of one lookup lie behind those of the lookups
--- before it; a lookup reads one entry of its table's 256, which counts them; and a bit outside that entry makes no difference to it (crate whitebox: what a lookup
+-- before it; a lookup reads one entry of its table's 256, which counts them; and a bit outside that entry makes no difference to it (crate calls: what a lookup
 -- leaves is worked out from the entry at the place that it reads).
 -- Assumes nothing.
 use mathlib.Core.Bool.{Bool, true, false, cond}
@@ -28,10 +28,10 @@ use Rattle.network.specs.declared.EntryPlace.{EntryPlace}
 use Rattle.layout.specs.Stages.{widthOf, shapeAt, lookups, tablesBytes, tableOffset, stageOf, indexOf}
 use Rattle.layout.proofs.laws.Instance.{first-offset, next-offset}
 use Rattle.layout.proofs.laws.Ranges.{by-stage}
-use Rattle.whitebox.specs.Calls.{tablePart, step, advance, readNext, stateFrom}
-use Rattle.whitebox.proofs.laws.Calls.{advance-count, advance-last}
-use Rattle.whitebox.proofs.laws.PlaceRead.{place-was-read}
-use Rattle.whitebox.proofs.laws.PutDown.{WholeState, stays-whole, starts-whole}
+use Rattle.calls.specs.Calls.{tablePart, step, advance, readNext, stateFrom}
+use Rattle.calls.proofs.laws.Calls.{advance-count, advance-last}
+use Rattle.calls.proofs.laws.PlaceRead.{place-was-read}
+use Rattle.calls.proofs.laws.PutDown.{WholeState, stays-whole, starts-whole}
 use Rattle.sensitivity.specs.Reads.{firstBit, entryBits, bitsAt, firstRead, runAt, bitsRead}
 use Rattle.sensitivity.specs.Theorems.{Lendable, ReadInOrder, OthersAlone}
 use Rattle.sensitivity.proofs.laws.Runs.{run-listed, run-below, runs-rise}
@@ -190,5 +190,5 @@ read-in-order reads nr set x lent =
       rising = runs-rise first (bitsAt nr) limit all (least reads nr set x lent) (most reads nr set x lent) all (le-refl all);
       within = λ i p.
           let below : i < 8 * tableOffset nr all = run-below first (bitsAt nr) limit all (least reads nr set x lent) (most reads nr set x lent) all i (le-refl all) p in
-          omega (arith, end, lent .long, by-stage nr .table-bytes, by-stage nr .all-bytes);
+          omega (arith, end);
     }

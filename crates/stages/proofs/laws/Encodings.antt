@@ -2,7 +2,7 @@
 -- Assumes nothing.
 use mathlib.Core.List.{List}
 use mathlib.Core.Path.{_≡_, ap, _∙_}
-use Prim.Native.Nat.{ℕ, _+_, _*_, _/_, _%_, _<_}
+use Prim.Native.Nat.{ℕ, _+_, _*_, _/_, _%_, _≤_, _<_}
 use native.Mathlib.Omega.{arith}
 use Rattle.answers.specs.declared.Answer.the-variants.{Accepted}
 use Rattle.bits.specs.Bytes.{Bytes}
@@ -11,12 +11,15 @@ use Rattle.bits.specs.Lists.{tabulate}
 use Rattle.bits.specs.Nibbles.{pack}
 use Rattle.bits.proofs.laws.Lists.{tabulate-ext}
 use lib.ListN.{length}
+use Rattle.rounds.specs.Rounds.{Rounds}
 use Rattle.bundle.specs.Format.{encodings, partCount, partSize, sectionLength, sectionOf, partAt, encodingOf}
 use Rattle.bundle.proofs.laws.Frame.{section-length}
 use Rattle.judgement.specs.Judge.{judge}
 use Rattle.judgement.proofs.laws.Judgements.{accepted-sound}
+use Rattle.layout.specs.Stages as stages
 use Rattle.layout.specs.Stages.{sourceOf, standingNumber}
 use Rattle.layout.specs.declared.stage.Stage.{Stage}
+use Rattle.whitebox.proofs.laws.Bundles.{encodings-agree}
 use Rattle.entries.specs.Encodings.{encodingIn}
 use Rattle.layers.proofs.laws.Code.{frame-of}
 use Rattle.stages.specs.Spread.{readByte}
@@ -35,6 +38,12 @@ module _ (nr : ℕ) (l s : List ℕ) (e : s ≡ sectionOf nr l 0) where
   encodings-permute bytes accepted n h =
       let good = accepted-sound nr l bytes accepted in
       rw (ap (λ (f : ℕ → List ℕ). f n) encodings-in) (good .lists n h)
+
+-- A number below that of all encodings, as the layout counts them, is one of the format's.
+pub in-format : (nr : ℕ) → Rounds nr → (n : ℕ) → n < stages.encodings nr → n < encodings nr
+in-format nr R n h =
+    let some : 1 ≤ nr = omega (arith, R) in
+    omega (arith, encodings-agree nr some)
 
 -- The bytes that position p of a stage reads, from the byte j that it reads and the numbers of that byte's two encodings.
 pub read-made : (nr : ℕ) (reads : ℕ → ℕ) (l s dst : List ℕ) (stage : Stage) (p j high low : ℕ) → s ≡ sectionOf nr l 0

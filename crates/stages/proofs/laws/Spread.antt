@@ -18,6 +18,7 @@ use Rattle.bits.proofs.laws.Groups.{joined-same}
 use Rattle.bits.proofs.laws.Lists.{at-tabulate, length-tabulate, ext-at, length-concat, at-concat, concat-same}
 use Rattle.bits.proofs.laws.Nibbles.{length-packed, at-packed, packed-ext, nibble-lt}
 use Rattle.bits.proofs.laws.Images.{images-long}
+use Rattle.matrices.specs.ByNibbles.{combined}
 use Rattle.matrices.specs.Matrices.{product}
 use Rattle.matrices.specs.Rows.{rowAt, stored}
 use Rattle.matrices.proofs.laws.Matrices.{product-lt}
@@ -31,7 +32,7 @@ use Rattle.judgement.proofs.laws.Judgements.{accepted-sound}
 use Rattle.network.specs.Numbers.{encodingNumber}
 use Rattle.network.specs.Tables.{spreadEntry, spreadTable}
 use Rattle.network.proofs.laws.Order.{at-div, at-mod}
-use Rattle.layout.specs.Stages.{widthOf, sourceOf, firstNumber, afterRound, standingNumber, numbersOf}
+use Rattle.layout.specs.Stages.{widthOf, sourceOf, firstNumber, afterRound, standingNumber, numbersOf, InRounds}
 use Rattle.layout.specs.declared.stage.Stage.{Stage}
 use Rattle.layout.specs.declared.stage.Stage.the-variants.{Entry, First, Second, Exit, Beyond}
 use Rattle.layout.proofs.laws.Place.{source-lt}
@@ -44,8 +45,7 @@ use Rattle.whitebox.proofs.laws.Bundles.{encoding-is}
 use Rattle.whitebox.proofs.laws.States.{substituted-lt}
 use Rattle.whitebox.proofs.laws.Values.{entry-bytes, mixed-word-bytes, second-bytes, placed-word-bytes}
 use Rattle.entries.specs.Encodings.{encodingIn}
-use Rattle.entries.specs.Spread.{combined, encodedBytes, encodedWord}
-use Rattle.layers.specs.Layers.{InRounds}
+use Rattle.entries.specs.Spread.{encodedBytes, encodedWord}
 use Rattle.layers.proofs.laws.Linear.{by-powers, spread-xor, mixed-xor, exit-xor}
 use Rattle.stages.specs.Spread.{acted, linearWord, wordNumber, readByte}
 

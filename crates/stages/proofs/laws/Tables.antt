@@ -4,18 +4,18 @@ use mathlib.Core.Logic.{inl, inr}
 use mathlib.Core.Path.{_≡_, _∙_}
 use Prim.Native.Nat.{ℕ, _+_, _-_, _≤_, _<_}
 use native.Mathlib.Omega.{arith}
-use Rattle.bundle.specs.Format.{encodings}
+use Rattle.rounds.specs.Rounds.{Rounds}
+use Rattle.bundle.specs.Format.{encodings, mostEncodings}
 use Rattle.network.specs.Numbers.{layerResults}
 use Rattle.network.specs.Order.{GoodWidth, xors, layerLookups}
 use Rattle.network.specs.Sizes.{sizeOf}
 use Rattle.network.proofs.laws.Order.{xor-in}
 use Rattle.network.proofs.laws.Sizes.{xor-size}
-use Rattle.layout.specs.Stages.{widthOf, firstNumber}
+use Rattle.layout.specs.Stages.{widthOf, firstNumber, InRounds}
 use Rattle.layout.specs.declared.stage.Stage.{Stage}
 use Rattle.layout.specs.declared.stage.Stage.the-variants.{Entry, First, Second, Exit, Beyond}
 use Rattle.layout.proofs.laws.Stages.{good-16, good-4, results-16, results-4}
 use Rattle.entries.specs.Words.{WordWidth}
-use Rattle.layers.specs.Layers.{InRounds}
 
 -- ---- widths and numbers by stage
 good-width : (nr : ℕ) (s : Stage) → InRounds nr s → GoodWidth (widthOf s)
@@ -47,3 +47,8 @@ pub xor-asked : (nr : ℕ) (s : Stage) (m first j size : ℕ) → m ≡ widthOf 
     → GoodWidth m × (first + layerResults m ≤ encodings nr) × (j - 16 < xors m) × (size ≡ 128)
 xor-asked nr s m first j size width number round from below long =
     rw (width, number) (good-width nr s round, results-fit nr s round, xor-in (widthOf s) j from below, long ∙ xor-size (widthOf s) j from)
+
+-- No number of rounds has more encodings than 14.
+pub most-encodings : (nr : ℕ) → Rounds nr → encodings nr ≤ mostEncodings
+unfolding encodings
+most-encodings nr R = omega (arith, R)

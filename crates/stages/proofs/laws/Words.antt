@@ -20,16 +20,17 @@ use Rattle.field.specs.Field.{mul}
 use Rattle.bundle.specs.Format.{byteMatrices, columnMatrices, partSize, sectionOf, partAt, encodingPart, encodingOf}
 use Rattle.bundle.specs.Format.{columnMatrix, columnMatrixPart, inputMatrix, outputMatrixPart}
 use Rattle.bundle.proofs.laws.Parts.{at-bytes}
+use Rattle.layout.specs.Stages.{InRounds}
 use Rattle.layout.specs.declared.stage.Stage.{Stage}
 use Rattle.layout.specs.declared.stage.Stage.the-variants.{Entry, First, Second, Exit}
 use Rattle.whitebox.specs.Bundles.{codingsOf}
 use Rattle.whitebox.specs.Parts.{Parts}
 use Rattle.entries.specs.Encodings.{encodingIn}
 use Rattle.entries.proofs.laws.Entries.{images-below}
-use Rattle.layers.specs.Layers.{InRounds, Begins, inputWords, columnWords, inputInverse, columnInverse, columnNumber, inverseFor, spreadWord}
+use Rattle.layers.specs.Layers.{Begins, inputWords, columnWords, inputInverse, columnInverse, columnNumber, inverseFor, spreadWord}
 use Rattle.layers.proofs.laws.Code.{byte-is, column-is}
 use Rattle.layers.proofs.laws.Inverses.{begins-entry, begins-second}
-use Rattle.layers.proofs.laws.Numbers.{round-second}
+use Rattle.layout.proofs.laws.Numbers.{round-second}
 use Rattle.stages.specs.Spread.{wordNumber}
 use Rattle.stages.proofs.laws.Spread.{images-front, entry-form, first-form, second-form, exit-form}
 

@@ -8,33 +8,42 @@ use Prim.Native.Nat.{ℕ, _*_, _≤_, _<_}
 use native.Mathlib.Omega.{arith}
 use borrow.Author.Tests.{ltb-true, lt-ltb, le-ltb}
 use lib.Dec.{ltb}
+use lib.ListN.{length, take}
+use lib.Seq.{take-length}
 use Rattle.answers.specs.Answers.{refusedIf, wantsLength, andThen}
 use Rattle.answers.specs.declared.Answer.{Answer}
 use Rattle.answers.specs.declared.Answer.the-variants.{Accepted, Refused}
 use Rattle.answers.specs.declared.Refusal.{Refusal}
 use Rattle.answers.specs.declared.Refusal.the-variants.{KeyLength, TableNumber, SetLength}
 use Rattle.answers.proofs.laws.Tests.{first-refuses, second-decides, both, test-refuses, test-passes, passed, length-wrong, length-right, length-was, stops, decides}
-use Rattle.bits.specs.Lists.{concat}
 use Rattle.round.specs.Key.{KeyExpansion, roundsOf}
 use Rattle.judgement.specs.Judge.{judge}
-use Rattle.layout.specs.Stages.{lookups, setBytes, tableSize, placeOf}
+use Rattle.layout.specs.Stages.{lookups, tablesBytes, setBytes, tableSize, placeOf}
 use Rattle.layout.specs.declared.stage.Place.{Place}
+use Rattle.layout.specs.declared.stage.Stage.{Stage}
 use Rattle.layout.proofs.laws.Lookup.{Sizes}
-use Rattle.whitebox.specs.Bundles.{codingsOf, madeSet, madeTable}
-use Rattle.whitebox.specs.Parts.{partsFor}
-use Rattle.whitebox.specs.Tables.{tableOf, setOf}
+use Rattle.whitebox.specs.Bundles.{madeSet, madeTable}
+use Rattle.whitebox.specs.Tables.{tablesOf, setOf}
+use Rattle.stages.specs.Table.{stageTable}
 use Rattle.tables.specs.Calls.{judgedFor, setAnswerFor, tableAnswerFor}
+use Rattle.tables.specs.Set.{tablesMade}
+use Rattle.tables.proofs.laws.Set.{table-made}
 
 -- ---- what is made for the cipher c, from the key that the code has copied and the round keys that it has expanded
 module _ (c nk : ℕ) (key copy l w dst : List ℕ) (same : copy ≡ key) (e : w ≡ KeyExpansion nk copy) where
-  pub set-made : (count : ℕ) → lookups (roundsOf nk) ≡ count
-      → dst ≡ concat count (tableOf (partsFor c (roundsOf nk) w) (codingsOf (roundsOf nk) l) (roundsOf nk)) → dst ≡ madeSet c nk key l
-  unfolding madeSet setOf
-  set-made count n d = rw (e, same, sym n) at d
+  -- A memory of the set's length that begins with all tables is the set.
+  pub set-made : length dst ≡ setBytes (roundsOf nk) → take (tablesBytes (roundsOf nk)) dst ≡ tablesMade c (roundsOf nk) w l → dst ≡ madeSet c nk key l
+  unfolding madeSet setOf tablesOf setBytes
+  set-made long front = sym (ap (λ (n : ℕ). take n dst) (sym long) ∙ take-length dst) ∙ (rw (e, same) at front)
 
-  pub one-made : (n : ℕ) → dst ≡ tableOf (partsFor c (roundsOf nk) w) (codingsOf (roundsOf nk) l) (roundsOf nk) n → dst ≡ madeTable c nk key l n
-  unfolding madeTable
-  one-made n d = rw (e, same) at d
+  pub one-made : (s : Stage) (j : ℕ) → dst ≡ stageTable c (roundsOf nk) w l s j → dst ≡ stageTable c (roundsOf nk) (KeyExpansion nk key) l s j
+  one-made s j d = rw (e, same) at d
+
+-- What is made at the place of table n is table n of the set.
+pub table-by-place : (c nk : ℕ) (key l dst : List ℕ) (n : ℕ) (q : Place) → q ≡ placeOf (roundsOf nk) n → n < lookups (roundsOf nk)
+    → dst ≡ stageTable c (roundsOf nk) (KeyExpansion nk key) l (q .stage) (q .index) → dst ≡ madeTable c nk key l n
+unfolding madeTable
+table-by-place c nk key l dst n q e h d = table-made (roundsOf nk) n q e _ _ dst h d
 
 -- ---- causes 1 to 7
 module _ (nk key : ℕ) (l : List ℕ) where

@@ -4,7 +4,7 @@
 use mathlib.Core.Bool.{not}
 use mathlib.Core.List.{List}
 use mathlib.Core.Path.{_≡_, refl, sym, ap, _∙_, subst}
-use Prim.Native.Nat.{ℕ, suc}
+use Prim.Native.Nat.{ℕ}
 use borrow.Author.Tests.{lt-ltb}
 use lib.ListN.{length}
 use Rattle.answers.specs.declared.Answer.the-variants.{Accepted}
@@ -13,8 +13,8 @@ use Rattle.answers.proofs.laws.Tests.{second-decides, test-passes, length-right
 use Rattle.bits.specs.Bytes.{Bytes}
 use Rattle.round.specs.Key.{roundsOf}
 use Rattle.layout.specs.Stages.{lookups, setBytes, tableSize}
+use Rattle.calls.specs.Calls.{tablePart}
 use Rattle.whitebox.specs.Bundles.{madeSet, madeTable}
-use Rattle.whitebox.specs.Calls.{tablePart}
 use Rattle.whitebox.specs.Demand2.{WalkIsCipher}
 use Rattle.whitebox.specs.Demand3.{Given}
 use Rattle.whitebox.proofs.laws.Demands.{demand2-for}
@@ -58,12 +58,12 @@ walk-is-cipher nk c key l held b lent k bytes e block room =
 
 -- ---- the round trip
 pub sets-give-back : (nk : ℕ) → MadeSetsGiveBack nk
-sets-give-back nk i i′ key l l′ held held′ x lent lent′ k bytes bytes′ e e′ crossed presented room room′ =
+sets-give-back nk i i′ key l l′ held held′ x lent lent′ away away′ k bytes bytes′ e e′ crossed presented room room′ =
     let g = given-by-set nk key l (length held) k bytes e in
     let g′ = given-by-set nk key l′ (length held′) k bytes′ e′ in
     let left : madeSet 0 nk key l ≡ setLeft 0 nk key l held = left-new _ (madeSet 0 nk key l) held e in
-    let left′ : madeSet (suc i′) nk key l′ ≡ setLeft (suc i′) nk key l′ held′ = left-new _ (madeSet (suc i′) nk key l′) held′ e′ in
-    rw (sym left, sym left′) (round-trip-for nk i i′ key l l′ x lent lent′ g g′ crossed presented room room′)
+    let left′ : madeSet i′ nk key l′ ≡ setLeft i′ nk key l′ held′ = left-new _ (madeSet i′ nk key l′) held′ e′ in
+    rw (sym left, sym left′) (round-trip-for nk i i′ key l l′ x lent lent′ away away′ g g′ crossed presented room room′)
 
 -- ---- one table
 pub table-of-set : (nk : ℕ) → TableOfSet nk

@@ -1,57 +1,40 @@
 -- Laws, not definitions: a table by the place that the code has of it, and a loop that writes the tables of a set one by one.
 -- Assumes nothing.
-use mathlib.Core.List.{List, _++_}
+use mathlib.Core.List.{List}
 use mathlib.Core.Path.{_≡_, refl, sym, ap, ap₂, _∙_, subst}
 use Prim.Native.Nat.{ℕ, _+_, _-_, _*_, _≤_, _<_}
 use native.Mathlib.Numerals.{add-one}
 use native.Mathlib.Omega.{arith}
-use borrow.Rule.Slice.PartMut.{putMid}
-use lib.ListN.{length}
+use borrow.Rule.Slice.PartMut.{putMid, same-len-mid}
+use lib.ListN.{length, length-take, length-drop, take}
 use Rattle.bits.specs.Lists.{concat}
-use Rattle.bits.proofs.laws.Lists.{cut}
+use Rattle.bits.proofs.laws.Lists.{cut, take-put}
 use Rattle.bits.proofs.laws.Parts.{PartsAt, parts-at-more, parts-at-all}
 use Rattle.bundle.specs.Format.{columnMatrices}
 use Rattle.network.specs.Tables.{tableIn}
-use Rattle.layout.specs.Stages.{stageOf, indexOf, lookups, tablesBytes, tableSize, tableOffset, numbersOf, placeOf}
+use Rattle.layout.specs.Stages.{lookups, tablesBytes, setBytes, tableSize, tableOffset, numbersOf, placeOf}
 use Rattle.layout.specs.declared.stage.Place.{Place}
 use Rattle.layout.proofs.laws.Instance.{next-offset}
-use Rattle.layout.proofs.laws.Lookup.{stands}
-use Rattle.layout.proofs.laws.Ranges.{by-range, by-stage}
+use Rattle.layout.proofs.laws.Lookup.{stands, tables-in-set}
+use Rattle.layout.proofs.laws.Numbers.{round-at}
+use Rattle.layout.proofs.laws.Ranges.{by-stage}
 use Rattle.whitebox.specs.Codings.{Codings}
 use Rattle.whitebox.specs.Parts.{Parts}
 use Rattle.whitebox.specs.Tables.{layerOf, layers, tableOf}
-use Rattle.layers.specs.Layers.{InRounds, columnWords, columnInverses, inputInverse, inverseFor, Begins, chosenFrom}
-use Rattle.layers.proofs.laws.Inverses.{written-begins, columns-long, chosen-begins}
+use Rattle.layers.specs.Layers.{columnWords, columnInverses, inputInverse, inverseFor, Begins, chosenFrom}
+use Rattle.layers.proofs.laws.Inverses.{columns-long, chosen-begins}
 
 -- ---- a table by the place that the code has of it
--- Its stage or half is one of nr rounds.
-in-rounds : (nr n : ℕ) → 1 ≤ nr → n < lookups nr → InRounds nr (stageOf nr n)
-in-rounds nr n some h = by-range nr n h (InRounds nr) (λ a. some) (λ r lo hi a b. (lo, hi)) (λ r lo hi a b. (lo, hi)) (λ a b. some)
-
 module _ (nr n : ℕ) (q : Place) (e : q ≡ placeOf nr n) where
-  pub round-at : 1 ≤ nr → n < lookups nr → InRounds nr (q .stage)
-  round-at some h = rw e (in-rounds nr n some h)
+  -- What is chosen from all inverses begins with the one that the table is made with.
+  pub inverse-chosen : (l m columns input : List ℕ) → 1 ≤ nr → n < lookups nr → columns ≡ columnInverses nr l → input ≡ inputInverse nr l
+      → m ≡ chosenFrom columns input (q .stage) (q .index) → Begins (inverseFor nr l (q .stage) (q .index)) m
+  inverse-chosen l m columns input some h c i w =
+      subst (Begins (inverseFor nr l (q .stage) (q .index)))
+      (sym (w ∙ ap₂ (λ (x y : List ℕ). chosenFrom x y (q .stage) (q .index)) c i))
+      (chosen-begins nr l (q .stage) (q .index) (round-at nr n q e some h))
 
-  -- The words m begin with the inverse that the table is made with: by the place and by the number.
-  module _ (l m : List ℕ) where
-    pub inverse-by-place : Begins (inverseFor nr l (stageOf nr n) (indexOf nr n)) m → Begins (inverseFor nr l (q .stage) (q .index)) m
-    inverse-by-place i = rw e i
-
-    pub inverse-by-number : Begins (inverseFor nr l (q .stage) (q .index)) m → Begins (inverseFor nr l (stageOf nr n) (indexOf nr n)) m
-    inverse-by-number i = rw e at i
-
-    -- Worked out for this table alone, and chosen from all.
-    pub inverse-worked : (r : List ℕ) → m ≡ inverseFor nr l (q .stage) (q .index) ++ r → Begins (inverseFor nr l (stageOf nr n) (indexOf nr n)) m
-    inverse-worked r w = inverse-by-number (written-begins _ r m w)
-
-    pub inverse-chosen : (columns input : List ℕ) → 1 ≤ nr → n < lookups nr → columns ≡ columnInverses nr l → input ≡ inputInverse nr l
-        → m ≡ chosenFrom columns input (q .stage) (q .index) → Begins (inverseFor nr l (stageOf nr n) (indexOf nr n)) m
-    inverse-chosen columns input some h c i w =
-        inverse-by-number
-        (subst (Begins (inverseFor nr l (q .stage) (q .index)))
-        (sym (w ∙ ap₂ (λ (x y : List ℕ). chosenFrom x y (q .stage) (q .index)) c i))
-        (chosen-begins nr l (q .stage) (q .index) (round-at some h)))
-
+  -- The table that is made there is table n.
   pub table-made : (P : Parts) (C : Codings) (dst : List ℕ) → n < lookups nr
       → dst ≡ tableIn (C .encoding) (layerOf P C nr (q .stage)) (numbersOf nr (q .stage)) (q .index)
       → dst ≡ tableOf P C nr n
@@ -59,6 +42,10 @@ module _ (nr n : ℕ) (q : Place) (e : q ≡ placeOf nr n) where
   table-made P C dst h d = (rw e at d) ∙ sym (by-stage nr .table-is (C .encoding) (layerOf P C nr) (λ s. refl) n h)
 
 -- ---- the inverses of all column matrices, whose number is `count`
+pub column-count : (nr : ℕ) → columnMatrices nr ≡ 4 * (nr - 1)
+unfolding columnMatrices
+column-count nr = refl
+
 pub columns-lent : (nr count : ℕ) (l columns : List ℕ) → columnMatrices nr ≡ count → columns ≡ columnInverses nr l
     → length columns ≡ count * columnWords
 columns-lent nr count l columns n c = ap length c ∙ columns-long nr l ∙ ap (λ (k : ℕ). k * columnWords) n
@@ -87,3 +74,16 @@ module _ (nr : ℕ) {count bytes : ℕ} (number : lookups nr ≡ count) (size : 
   -- Behind the last turn the memory is all tables.
   pub tables-all : count ≤ n → memory ≡ concat count t
   tables-all h = parts-at-all g h (long ∙ sym size ∙ sym (by-stage nr .offset-none count (omega (arith, number))))
+
+-- ---- the tables' part of the memory of a set, of `size` bytes: its length, and the memory when it is back with the tables in it
+module _ (nr size : ℕ) (memory : List ℕ) (is : size ≡ tablesBytes nr) (long : length memory ≡ setBytes nr) where
+  pub front-long : length (cut memory 0 size) ≡ tablesBytes nr
+  front-long =
+      let within = tables-in-set nr in
+      simp (length-take, length-drop) (omega arith)
+
+  pub front-back : {tables due : List ℕ} → tables ≡ due → length tables ≡ length (cut memory 0 size)
+      → (length (putMid 0 (size - 0) memory tables) ≡ setBytes nr) × (take (tablesBytes nr) (putMid 0 (size - 0) memory tables) ≡ due)
+  front-back {tables} made kept =
+      let front = take-put 0 (size - 0) (tablesBytes nr) memory tables (omega arith) (omega (arith, front-long)) in
+      (same-len-mid 0 (size - 0) memory tables kept ∙ long, front ∙ made)

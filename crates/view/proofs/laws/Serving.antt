@@ -12,10 +12,11 @@ use Rattle.answers.specs.declared.Answer.the-variants.{Accepted, Refused}
 use Rattle.answers.specs.declared.Refusal.{Refusal}
 use Rattle.bundle.proofs.laws.Frame.{framed, section-is, section-none, section-fits, apart}
 use Rattle.bundle.proofs.laws.Parts.{part-refused}
-use Rattle.view.specs.Views.{startOf, startsOf, sectionFrom, numberedFrom, viewOf, partIn}
+use Rattle.view.specs.Views.{startOf, startsOf, sectionFrom, numberedFrom, partFrom, viewOf, partIn}
 use Rattle.view.specs.Serving.{Serves, EmptyOver}
 use Rattle.view.specs.declared.part.Part.{Part}
 use Rattle.view.specs.declared.part.Part.the-variants.{Encoding, ByteMatrix, ColumnMatrix, InputMatrix, OutputMatrix}
+use Rattle.view.specs.declared.starts.Starts.{Starts}
 use Rattle.view.proofs.laws.Code.{start-is, start-none, starts-none, from-nowhere, from-here}
 
 -- A section from its start is the section.
@@ -31,13 +32,34 @@ module _ (nr : ℕ) (l : List ℕ) (s : ℕ) (h : s < 5) where
   unfolding numberedFrom partAt
   part-started n = ap (λ (x : List ℕ). partOf (partSize s) x n) (started-by (frame nr l) refl)
 
+  pub section-started : {a : ℕ} → a ≡ startOf nr l s → {r : List ℕ} → r ≡ sectionFrom nr l s a → r ≡ sectionOf nr l s
+  section-started e q = q ∙ ap (sectionFrom nr l s) e ∙ started-by (frame nr l) refl
+
+-- A part from the starts is the bundle's part.
+pub by-starts : (nr : ℕ) (l : List ℕ) (p : Part) → partFrom nr l (startsOf nr l) p ≡ partIn nr l p
+unfolding startsOf
+by-starts nr l (Encoding n) = part-started nr l 0 (omega arith) n
+by-starts nr l (ByteMatrix n) = part-started nr l 1 (omega arith) n
+by-starts nr l (ColumnMatrix n) = part-started nr l 2 (omega arith) n
+by-starts nr l InputMatrix = part-started nr l 3 (omega arith) 0
+by-starts nr l OutputMatrix = part-started nr l 4 (omega arith) 0
+
+-- ---- the starts t that were found for a bundle: its first two sections, and its parts
+module _ (nr : ℕ) (l : List ℕ) {t : Starts} (e : t ≡ startsOf nr l) {r : List ℕ} where
+  pub encodings-found : r ≡ sectionFrom nr l 0 (t .encodings) → r ≡ sectionOf nr l 0
+  unfolding startsOf
+  encodings-found q = section-started nr l 0 (omega arith) (ap (λ (u : Starts). u .encodings) e) q
+
+  pub byte-matrices-found : r ≡ sectionFrom nr l 1 (t .bytes) → r ≡ sectionOf nr l 1
+  unfolding startsOf
+  byte-matrices-found q = section-started nr l 1 (omega arith) (ap (λ (u : Starts). u .bytes) e) q
+
+  pub part-found : (p : Part) → r ≡ partFrom nr l t p → r ≡ partIn nr l p
+  part-found p q = q ∙ ap (λ (u : Starts). partFrom nr l u p) e ∙ by-starts nr l p
+
 pub serves : Serves
 unfolding viewOf startsOf
-serves b (Encoding n) = part-started 10 (now b) 0 (omega arith) n
-serves b (ByteMatrix n) = part-started 10 (now b) 1 (omega arith) n
-serves b (ColumnMatrix n) = part-started 10 (now b) 2 (omega arith) n
-serves b InputMatrix = part-started 10 (now b) 3 (omega arith) 0
-serves b OutputMatrix = part-started 10 (now b) 4 (omega arith) 0
+serves b p = by-starts 10 (now b) p
 
 none-in : (l : List ℕ) (r : Refusal) → frame 10 l ≡ Refused r → (p : Part) → partIn 10 l p ≡ []
 none-in l r e (Encoding n) = part-refused 10 l 0 n r e

@@ -1,34 +1,19 @@
--- `walk_cases::looked_up` ensures nothing: what is left is that the table lies within the memory, and what `lookup_in` asks. `place_of` ensures the place of
--- lookup n, which is one of the set's; so its table ends within the set (`within`), which the memory is at least as long as, and the part cut out
--- has the table's length (`table-fits`). The laws are over the sizes of a set, and `ten` are those of the code.
+-- `walk_cases::looked_up` ensures nothing: what is left is what `look_up_at` asks. `place_of` ensures the place of lookup n, which is one of the set's; so its
+-- table lies within the set, which the memory is at least as long as (`stands-in` of passes). The sizes of a set are those of the code, `ten`.
 -- Assumes nothing.
-use Prim.Native.Nat.{_+_, _≤_}
-use Rattle.bits.proofs.laws.Lists.{length-cut}
-use Rattle.layout.specs.Stages.{tenSetBytes}
-use Rattle.layout.proofs.laws.Ten.{ten}
-use Rattle.evaluate.proofs.laws.Calls.{table-fits, part-within}
+use Rattle.rounds.proofs.laws.Known.{ten-rounds}
+use Rattle.layout.proofs.laws.Ten.{ten, in-set}
+use Rattle.passes.proofs.laws.Places.{stands-in}
 use native.Mathlib.Omega.{arith}
 use borrow.Author.Needs.{needs}
 use Rattle.walk_cases.proofs.looked_up.Statement.{statement}
 use Rattle.walk_cases.proofs.looked_up.Tie as tie
 
--- the table of lookup n lies within the set
-within : (c : tie.After-place-of) → c .place-of .result .offset + c .place-of .result .size ≤ tenSetBytes
-within c = part-within ten _ _ (omega arith) (c .place-of .ensures)
-
-add-to : tie.Need-add-to
-add-to c = omega (arith, within (search))
-
-part-lookup-in-end : tie.Need-part-lookup-in-end
-part-lookup-in-end c = omega (arith, within (search))
-
-lookup-in-requires : tie.Need-lookup-in-requires
-lookup-in-requires c κs =
+look-up-at-requires : tie.Need-look-up-at-requires
+look-up-at-requires c κs =
     let place : tie.After-place-of = search in (
-      table-fits ten _ _ (omega arith) (place .place-of .ensures) _ (length-cut _ _ _ (omega (arith, within (search)))),
-      omega (arith, within (search)),
-      search needs,
-      search needs,
+      stands-in _ _ (in-set _ (omega arith)) (place .place-of .ensures) ten-rounds (omega (arith, ten .all-bytes)),
+      record { standing = search needs; area = search needs },
     )
 
 -- ---- the needs that the search closes
@@ -40,12 +25,6 @@ returns-2 c = search needs
 
 place-of-requires : tie.Need-place-of-requires
 place-of-requires c κs = search needs
-
-sub-lookup-in : tie.Need-sub-lookup-in
-sub-lookup-in c = search needs
-
-part-lookup-in-start : tie.Need-part-lookup-in-start
-part-lookup-in-start c = search needs
 
 report-place-requires : tie.Need-report-place-requires
 report-place-requires c κs = search needs
@@ -63,11 +42,7 @@ looked-up-spec =
     returns
     returns-2
     place-of-requires
-    add-to
-    sub-lookup-in
-    part-lookup-in-start
-    part-lookup-in-end
-    lookup-in-requires
+    look-up-at-requires
     report-place-requires
     add-count
     returns-3)

@@ -6,11 +6,11 @@ use Prim.Native.Nat.{ℕ, _+_}
 use native.Mathlib.Omega.{arith}
 use lib.ListN.{length, take, drop, length-append}
 use lib.Seq.{take-at, drop-at}
-use Rattle.layout.specs.Ciphers.{kept, readsOf}
+use Rattle.layout.specs.Ciphers.{readsOf}
 use Rattle.layout.specs.Stages.{tableSize, tableOffset}
 use Rattle.layout.proofs.laws.Instance.{next-offset}
-use Rattle.whitebox.specs.Calls.{Held, holding, step, advance, oneLookup, handed, lastWalk}
-use Rattle.whitebox.proofs.laws.Calls.{one-handed}
+use Rattle.calls.specs.Calls.{Mark, keptMark, Held, holding, step, advance, oneLookup, handed, lastWalk}
+use Rattle.calls.proofs.laws.Calls.{one-handed}
 use Rattle.streams.specs.Received.{joined}
 use Rattle.walker.specs.Tables.{AllAccepted}
 use Rattle.walker.proofs.laws.Tables.{made}
@@ -43,18 +43,18 @@ module _ (nr : ℕ) where
       omega (arith, ap (tableOffset nr) (m .count), on, rest, length-append t (joined ts))
 
   -- The memory has the tables behind a part of as many bytes as stand before them, and any bytes behind. The walk holds 0 or 1, and keeps it.
-  pub joined-walk : (w : Held) (ts : List (List ℕ)) → kept (w .cipher) ≡ w .cipher → AllAccepted nr w ts → (before behind : List ℕ)
+  pub joined-walk : (w : Held) (ts : List (List ℕ)) → keptMark (w .mark) ≡ w .mark → AllAccepted nr w ts → (before behind : List ℕ)
       → length before ≡ tableOffset nr (w .state .count)
-      → last w ts ≡ holding (w .cipher) (advance (readsOf (w .cipher)) nr (before ++ joined ts ++ behind) (length ts) (w .state))
+      → last w ts ≡ holding (w .mark) (advance (readsOf (w .mark .cipher)) nr (before ++ joined ts ++ behind) (length ts) (w .state))
   unfolding lastWalk joined advance
   joined-walk w [] keeps a before behind e = refl
   joined-walk w (t ∷ ts) keeps a before behind e =
       let m = made nr t w (a .0) in
       let k = w .state .count in
-      let reads = readsOf (w .cipher) in
+      let reads = readsOf (w .mark .cipher) in
       let next = handed nr (oneLookup t) w in
-      let gone : next ≡ holding (w .cipher) (step reads nr t (w .state)) = one-handed nr t w (a .0) ∙ ap (λ (c : ℕ). holding c (step reads nr t (w .state))) keeps in
-      let same : next .cipher ≡ w .cipher = ap (λ (v : Held). v .cipher) gone in
+      let gone : next ≡ holding (w .mark) (step reads nr t (w .state)) = one-handed nr t w (a .0) ∙ ap (λ (m : Mark). holding m (step reads nr t (w .state))) keeps in
+      let same : next .mark ≡ w .mark = ap (λ (v : Held). v .mark) gone in
       let mem : List ℕ = before ++ (t ++ joined ts) ++ behind in
       let apart : mem ≡ before ++ (t ++ (joined ts ++ behind)) = simp append-assoc in
       let here : take (tableSize nr k) (drop (tableOffset nr k) mem) ≡ t =
@@ -65,7 +65,7 @@ module _ (nr : ℕ) where
       let upto : length (before ++ t) ≡ tableOffset nr (next .state .count) =
       omega (arith, length-append before t, m .long, next-offset nr k (m .inside), ap (tableOffset nr) (m .count))
       in
-      joined-walk next ts (ap kept same ∙ keeps ∙ sym same) (a .1) (before ++ t) behind upto
-      ∙ ap (λ (l : List ℕ). holding (next .cipher) (advance (readsOf (next .cipher)) nr (l ++ behind) (length ts) (next .state))) (append-assoc before t (joined ts))
-      ∙ ap (λ (v : Held). holding (v .cipher) (advance (readsOf (v .cipher)) nr mem (length ts) (v .state))) gone
-      ∙ ap (λ (u : List ℕ). holding (w .cipher) (advance reads nr mem (length ts) (step reads nr u (w .state)))) (sym here)
+      joined-walk next ts (ap keptMark same ∙ keeps ∙ sym same) (a .1) (before ++ t) behind upto
+      ∙ ap (λ (l : List ℕ). holding (next .mark) (advance (readsOf (next .mark .cipher)) nr (l ++ behind) (length ts) (next .state))) (append-assoc before t (joined ts))
+      ∙ ap (λ (v : Held). holding (v .mark) (advance (readsOf (v .mark .cipher)) nr mem (length ts) (v .state))) gone
+      ∙ ap (λ (u : List ℕ). holding (w .mark) (advance reads nr mem (length ts) (step reads nr u (w .state)))) (sym here)

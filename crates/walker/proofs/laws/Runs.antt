@@ -1,14 +1,11 @@
 -- Laws, not definitions: a run writes what document 01 says for the block and the set that it has read, for any number nr of rounds, and no byte
 -- that it does not read would change it.
 -- Assumes nothing.
-use mathlib.Core.Bool.{false}
 use mathlib.Core.List.{List, [], _∷_, _++_, map}
 use mathlib.Core.Path.{_≡_, refl, sym, ap, _∙_}
 use Prim.Native.Nat.{ℕ, suc, _+_, _-_, _≤_, _<_}
-use native.Mathlib.Decide.{decLt}
+use native.Mathlib.Decide.{ℕ-discrete, decLt}
 use native.Mathlib.Omega.{arith}
-use lib.Dec.{ltb}
-use borrow.Author.Tests.{lt-ltb, le-ltb}
 use lib.ListN.{length, take, length-append, length-take}
 use lib.Seq.{length-take-le, take-all}
 use Rattle.answers.specs.declared.Answer.{Answer}
@@ -16,14 +13,15 @@ use Rattle.answers.specs.declared.Answer.the-variants.{Accepted, Refused}
 use Rattle.answers.specs.declared.Refusal.{Refusal}
 use Rattle.answers.specs.declared.Refusal.the-variants.{SetLength}
 use Rattle.answers.proofs.laws.Tests.{length-wrong, length-right, left-new}
-use Rattle.layout.specs.Ciphers.{kept, readsOf}
+use Rattle.layout.specs.Ciphers.{readsOf}
 use Rattle.layout.specs.Stages.{lookups, setBytes, tablesBytes, tableOffset}
 use Rattle.layout.proofs.laws.Instance.{first-offset, ends-in-tables}
+use Rattle.layout.proofs.laws.Lookup.{tables-in-set}
 use Rattle.layout.proofs.laws.Ranges.{by-stage}
-use Rattle.whitebox.specs.Calls.{Held, holding, changed, judgeStart, judgeStop, judgeFetch, started, advance, toStop, oneLookup, fetch, answer, handed, blockLeft, lastWalk}
-use Rattle.whitebox.specs.Demand2.{walkedOver}
-use Rattle.whitebox.proofs.laws.Calls.{start-keeps, start-count}
-use Rattle.whitebox.proofs.laws.Judged.{stop-right, count-right}
+use Rattle.calls.specs.Calls.{Mark, keptMark, Held, holding, changed, judgeStart, judgeStop, judgeFetch, started, advance}
+use Rattle.calls.specs.Calls.{toStop, oneLookup, fetch, answer, handed, blockLeft, lastWalk, walkedOver}
+use Rattle.calls.proofs.laws.Calls.{start-keeps, start-count}
+use Rattle.calls.proofs.laws.Judged.{stop-right, count-right}
 use Rattle.evaluate.specs.Held.{held}
 use Rattle.evaluate.specs.Contracts.{Opens}
 use Rattle.evaluate.specs.declared.walk.Opening.{Opening}
@@ -31,14 +29,11 @@ use Rattle.streams.specs.Lines.{causeLine, answerLine}
 use Rattle.streams.specs.Written.{Written}
 use Rattle.streams.specs.Received.{Received, joined, Front}
 use Rattle.walker.specs.Tables.{OverTables, Short, OverInput}
-use Rattle.walker.specs.Writes.{blank, walkerWrites, lineOf, Runs, ReadsEnough}
+use Rattle.walker.specs.Writes.{blank, walkerWrites, behindTables, lineOf, Runs, ReadsEnough}
 use Rattle.walker.specs.declared.Walked.{Walked}
 use Rattle.walker.proofs.laws.Tables.{received-more}
+use Rattle.walker.proofs.laws.Writes.{none-behind}
 use Rattle.walker.proofs.laws.Joined.{joined-more, joined-count, joined-bytes, joined-walk}
-
-same-bytes : (nr : ℕ) → tablesBytes nr ≡ setBytes nr
-unfolding setBytes
-same-bytes nr = refl
 
 module _ (nr : ℕ) (block : List ℕ) where
   -- ---- what is written, by the judgements of block and set
@@ -72,17 +67,20 @@ module _ (nr : ℕ) (block : List ℕ) where
       where
         go : Dec (v .state .count < lookups nr) → length (joined (o .tables) ++ h .table) < setBytes nr
         go (yes l) =
-            omega (arith, h .less, bytes-read, ends-in-tables nr (v .state .count) l, same-bytes nr, length-append (joined (o .tables)) (h .table))
+            omega (arith, h .less, bytes-read, ends-in-tables nr (v .state .count) l, tables-in-set nr, length-append (joined (o .tables)) (h .table))
         go (no l) = omega (arith, h .less, by-stage nr .size-none (v .state .count) (omega arith))
 
-    -- All tables.
+    -- All tables, and what was read behind them.
     module _ (c : v .state .count ≡ lookups nr) (extra : List ℕ) where
-      set-length : length (joined (o .tables) ++ extra) ≡ setBytes nr + length extra
-      set-length =
+      read-length : length (joined (o .tables) ++ extra) ≡ tablesBytes nr + length extra
+      read-length =
           let all : tableOffset nr (lookups nr) ≡ tablesBytes nr = by-stage nr .offset-none (lookups nr) (omega arith) in
-          omega (arith, bytes-read, ap (tableOffset nr) c, same-bytes nr, length-append (joined (o .tables)) extra)
+          omega (arith, bytes-read, ap (tableOffset nr) c, length-append (joined (o .tables)) extra)
 
-      whole-walk : length extra ≡ 0 → handed nr (toStop (joined (o .tables) ++ extra) (lookups nr)) (started 0 block) ≡ v
+      set-length : length extra ≡ behindTables nr → length (joined (o .tables) ++ extra) ≡ setBytes nr
+      set-length z = omega (arith, read-length, tables-in-set nr)
+
+      whole-walk : length extra ≡ behindTables nr → handed nr (toStop (joined (o .tables) ++ extra) (lookups nr)) (started 0 block) ≡ v
       unfolding handed
       whole-walk z =
           let set : List ℕ = joined (o .tables) ++ extra in
@@ -92,37 +90,36 @@ module _ (nr : ℕ) (block : List ℕ) where
           omega (arith, start-count 0 block, same-count, joined-count nr w (o .tables) (o .accepted))
           in
           let accepted : judgeStop nr (length set) (lookups nr) (w .state .count) ≡ Accepted =
-          sym (stop-right nr (length set) (lookups nr) (w .state .count) (omega (arith, set-length)) (omega arith) (omega (arith, start-count 0 block)))
+          sym (stop-right nr (length set) (lookups nr) (w .state .count) (set-length z) (omega arith) (omega (arith, start-count 0 block)))
           in
-          let keeps : kept (w .cipher) ≡ w .cipher = start-keeps 0 block in
-          let after : ℕ → ℕ → Held = λ c n. holding c (advance (readsOf (w .cipher)) nr set n (w .state)) in
-          let reached : v ≡ after (w .cipher) all =
-          o .walk ∙ joined-walk nr w (o .tables) keeps (o .accepted) [] extra (sym none-before) ∙ ap (after (w .cipher)) tables
+          let keeps : keptMark (w .mark) ≡ w .mark = start-keeps 0 block in
+          let after : Mark → ℕ → Held = λ m n. holding m (advance (readsOf (w .mark .cipher)) nr set n (w .state)) in
+          let reached : v ≡ after (w .mark) all =
+          o .walk ∙ joined-walk nr w (o .tables) keeps (o .accepted) [] extra (sym none-before) ∙ ap (after (w .mark)) tables
           in
-          sym (left-new _ (changed (advance (readsOf (w .cipher)) nr set all) w) w accepted) ∙ ap (λ (c : ℕ). after c all) keeps ∙ sym reached
+          sym (left-new _ (changed (advance (readsOf (w .mark .cipher)) nr set all) w) w accepted) ∙ ap (λ (m : Mark). after m all) keeps ∙ sym reached
 
       module _ (s : judgeStart (length block) ≡ Accepted) where
-        line-right : length extra ≡ 0 → lineOf nr v (length extra) ≡ walkerWrites nr block (joined (o .tables) ++ extra)
+        line-right : length extra ≡ behindTables nr → lineOf nr v (length extra) ≡ walkerWrites nr block (joined (o .tables) ++ extra)
         unfolding lineOf answer
         line-right z =
             let accepted : judgeFetch nr (length blank) (v .state .count) ≡ Accepted = sym (count-right nr (length blank) (v .state .count) refl c) in
-            let none : ltb 0 (length extra) ≡ false = le-ltb 0 (length extra) (omega arith) in
-            let line : lineOf nr v (length extra) ≡ answerLine (blockLeft nr (fetch blank) v) = rw (none, accepted) in
+            let line : lineOf nr v (length extra) ≡ answerLine (blockLeft nr (fetch blank) v) = rw (← length-right (behindTables nr) (length extra) SetLength z, accepted) in
             line ∙ ap (λ (w : Held). answerLine (blockLeft nr (fetch blank) w)) (sym (whole-walk z))
-            ∙ sym (set-right s (joined (o .tables) ++ extra) (omega (arith, set-length)))
+            ∙ sym (set-right s (joined (o .tables) ++ extra) (set-length z))
 
-        line-long : 0 < length extra → lineOf nr v (length extra) ≡ walkerWrites nr block (joined (o .tables) ++ extra)
+        line-wrong : (length extra ≡ behindTables nr → ⊥) → lineOf nr v (length extra) ≡ walkerWrites nr block (joined (o .tables) ++ extra)
         unfolding lineOf
-        line-long h =
-            let line : lineOf nr v (length extra) ≡ causeLine SetLength = rw (lt-ltb 0 (length extra) h) in
-            line ∙ sym (set-refused s (joined (o .tables) ++ extra) (λ e. omega (arith, set-length)))
+        line-wrong h =
+            let line : lineOf nr v (length extra) ≡ causeLine SetLength = rw (← length-wrong (behindTables nr) (length extra) SetLength h) in
+            line ∙ sym (set-refused s (joined (o .tables) ++ extra) (λ e. h (omega (arith, read-length, tables-in-set nr))))
 
         line-is : lineOf nr v (length extra) ≡ walkerWrites nr block (joined (o .tables) ++ extra)
-        line-is = go (decLt 0 (length extra))
+        line-is = go (ℕ-discrete (length extra) (behindTables nr))
           where
-            go : Dec (0 < length extra) → lineOf nr v (length extra) ≡ walkerWrites nr block (joined (o .tables) ++ extra)
-            go (yes h) = line-long h
-            go (no h) = line-right (omega arith)
+            go : Dec (length extra ≡ behindTables nr) → lineOf nr v (length extra) ≡ walkerWrites nr block (joined (o .tables) ++ extra)
+            go (yes h) = line-right h
+            go (no h) = line-wrong h
 
 -- ---- the ways out of a run, with what the calls ensure
 none-joined : length (joined []) ≡ 0
@@ -184,7 +181,7 @@ module _ (nr got : ℕ) (array : List ℕ) (f : Front got array) (l : length arr
         let extra : List ℕ = take rest more in
         let all = over .whole a (omega (arith, start-count 0 block)) in
         let most : length (joined (over .over .tables) ++ extra) ≤ suc (setBytes nr) =
-        omega (arith, set-length nr block (over .over) all extra, c .counts) in
+        omega (arith, read-length nr block (over .over) all extra, c .counts, none-behind nr, tables-in-set nr) in
         with-last extra (c .received) most (rw (← line-is nr block (over .over) all extra started-right, ← c .counts .1) w)
 
 -- ---- a set that is too long is refused for its length, whatever stands in it

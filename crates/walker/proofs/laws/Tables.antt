@@ -5,7 +5,7 @@ use mathlib.Core.Path.{_≡_, refl, sym, ap, _∙_}
 use Prim.Native.Nat.{ℕ, suc, _≤_, _<_}
 use native.Mathlib.Decide.{decLt}
 use native.Mathlib.Omega.{arith}
-use lib.ListN.{length, take, length-take}
+use lib.ListN.{length, take, length-take, length-append}
 use lib.Seq.{take-append-le}
 use Rattle.answers.specs.declared.Answer.the-variants.{Accepted, Refused}
 use Rattle.answers.specs.declared.Refusal.{Refusal}
@@ -15,9 +15,9 @@ use Rattle.layout.specs.Stages.{lookups, tableSize, placeOf}
 use Rattle.layout.specs.declared.stage.Place.{Place}
 use Rattle.layout.proofs.laws.Lookup.{stands}
 use Rattle.layout.proofs.laws.Ranges.{by-stage}
-use Rattle.whitebox.specs.Calls.{Held, judgeOne, oneLookup, answer, handed, lastWalk}
-use Rattle.whitebox.proofs.laws.Calls.{one-handed, step-count}
-use Rattle.whitebox.proofs.laws.Judged.{accepted-was, refused-was}
+use Rattle.calls.specs.Calls.{Held, judgeOne, oneLookup, answer, handed, lastWalk}
+use Rattle.calls.proofs.laws.Calls.{one-handed, step-count}
+use Rattle.calls.proofs.laws.Judged.{accepted-was, refused-was}
 use Rattle.evaluate.specs.Held.{held}
 use Rattle.evaluate.specs.Contracts.{Moves}
 use Rattle.evaluate.specs.declared.walk.Move.{Move}
@@ -35,10 +35,20 @@ size-most nr n {p} e = go (decLt n (lookups nr))
 
 -- The table of the walk's count: `got` bytes at the front of x were read, and y stands behind x in the memory.
 pub next-read : (nr : ℕ) {w : Walk} {r : Move} (size got : ℕ) (x y : List ℕ)
-    → size ≡ tableSize nr (w .count) → Front got x → length x ≤ size → Moves nr (oneLookup (take got (x ++ y))) w r → Next nr w r
+    → size ≡ tableSize nr (w .count) → Front got x → length x ≤ size → Moves nr (oneLookup (take got (x ++ y))) w r → Next nr w r (x ++ y)
 next-read nr size got x y e f h m =
     let part : take got (x ++ y) ≡ take got x = take-append-le got x y (f .counts .0) in
-    record { table = take got x; read = f .received; most = omega (arith, f .counts, length-take got x); moves = rw part at m }
+    record {
+      got = got;
+      read = rw part (f .received);
+      most = omega (arith, f .counts);
+      within = omega (arith, f .counts, length-append x y);
+      moves = m;
+    }
+
+-- What was read for a table has that many bytes.
+pub table-long : (nr : ℕ) {w : Walk} {r : Move} {left : List ℕ} (n : Next nr w r left) → length (take (n .got) left) ≤ tableSize nr (w .count)
+table-long nr {left = left} n = omega (arith, n .most, length-take (n .got) left)
 
 -- ---- one part more
 pub received-more : (parts : List (List ℕ)) (last : List ℕ) → AllReceived parts → Received last → AllReceived (parts ++ (last ∷ []))
@@ -59,7 +69,7 @@ module _ (nr : ℕ) where
       record {
         inside = right .inside;
         long = right .long;
-        count = ap (λ (v : Held). v .state .count) (one-handed nr t w e) ∙ step-count (readsOf (w .cipher)) nr t (w .state) (right .inside);
+        count = ap (λ (v : Held). v .state .count) (one-handed nr t w e) ∙ step-count (readsOf (w .mark .cipher)) nr t (w .state) (right .inside);
       }
 
   -- ---- one table more
@@ -100,18 +110,22 @@ module _ (nr : ℕ) where
   pub going-none : {room : ℕ} {w₀ : Walk} {memory : List ℕ} → length memory ≡ room → Going room w₀ w₀ memory
   going-none {w₀ = w₀} l = record { over = over-none (held w₀); most = λ h. h; long = l }
 
-  module _ {room : ℕ} {w₀ w : Walk} {memory : List ℕ} {r : Move} (I : Going room w₀ w memory) (n : Next nr w r) where
-    accepted-here : r .answer ≡ Accepted → answer nr (oneLookup (n .table)) (held w) ≡ Accepted
+  module _ {room : ℕ} {w₀ w : Walk} {memory after : List ℕ} {r : Move} (I : Going room w₀ w memory) (n : Next nr w r after) where
+    -- What was read for the table.
+    abbrev table : List ℕ
+    table = take (n .got) after
+
+    accepted-here : r .answer ≡ Accepted → answer nr (oneLookup table) (held w) ≡ Accepted
     accepted-here e = sym (n .moves .answer) ∙ e
 
     next-count : r .answer ≡ Accepted → r .walk .count ≡ suc (w .count)
-    next-count e = ap (λ (v : Held). v .state .count) (n .moves .walk) ∙ made (n .table) (held w) (accepted-here e) .count
+    next-count e = ap (λ (v : Held). v .state .count) (n .moves .walk) ∙ made table (held w) (accepted-here e) .count
 
     -- A turn whose move is accepted.
     pub going-more : {left : List ℕ} → w .count < lookups nr → r .answer ≡ Accepted → length left ≡ room → Going room w₀ (r .walk) left
     going-more h e kept =
         record {
-          over = rw (n .moves .walk) (over-more (held w₀) (held w) (n .table) (I .over) (n .read) (accepted-here e));
+          over = rw (n .moves .walk) (over-more (held w₀) (held w) table (I .over) (n .read) (accepted-here e));
           most = λ b. omega (arith, next-count e);
           long = kept;
         }
@@ -119,17 +133,17 @@ module _ (nr : ℕ) where
     pub going-on : r .answer ≡ Accepted → w .count < r .walk .count
     going-on e = omega (arith, next-count e)
 
-    too-short : {q : Refusal} → w .count < lookups nr → answer nr (oneLookup (n .table)) (held w) ≡ Refused q → Short nr (held w) q
+    too-short : {q : Refusal} → w .count < lookups nr → answer nr (oneLookup table) (held w) ≡ Refused q → Short nr (held w) q
     unfolding answer
     too-short h e =
-        let wrong = refused-was nr (length (n .table)) (w .count) h e in
-        record { table = n .table; read = n .read; less = omega (arith, n .most, wrong .long); answer = e; cause = wrong .cause }
+        let wrong = refused-was nr (length table) (w .count) h e in
+        record { table = table; read = n .read; less = omega (arith, table-long nr n, wrong .long); answer = e; cause = wrong .cause }
 
     -- A turn whose move is refused: it has left the walk.
     pub gone-short : {q : Refusal} → w .count < lookups nr → r .answer ≡ Refused q → OverInput nr (held w₀) (r .answer) (held (r .walk))
     unfolding answer handed
     gone-short {q} h e =
-        let refused : judgeOne nr (length (n .table)) (w .count) ≡ Refused q = sym (n .moves .answer) ∙ e in
+        let refused : judgeOne nr (length table) (w .count) ≡ Refused q = sym (n .moves .answer) ∙ e in
         let stays : held (r .walk) ≡ held w = n .moves .walk ∙ sym (left-old _ q _ (held w) refused) in
         rw stays (record {
           over = I .over;

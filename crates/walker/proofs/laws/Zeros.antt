@@ -6,8 +6,8 @@ use lib.ListN.{replicate, length-replicate}
 use Rattle.bits.specs.Lists.{tabulate}
 use Rattle.bits.specs.Nibbles.{nibble}
 use Rattle.layout.specs.Stages.{setBytes}
-use Rattle.whitebox.proofs.laws.Judged.{presented-right}
-use Rattle.whitebox.proofs.laws.Zeros.{zeros-walked}
+use Rattle.calls.proofs.laws.Judged.{presented-right}
+use Rattle.calls.proofs.laws.Zeros.{zeros-walked}
 use Rattle.streams.specs.Lines.{newline, hexDigits, answerLine}
 use Rattle.walker.specs.Writes.{blank}
 use Rattle.walker.specs.Zeros.{PrintsZeros}

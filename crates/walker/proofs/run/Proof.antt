@@ -9,29 +9,29 @@ use Rattle.walker.proofs.run.Tie as tie
 returns : tie.Need-returns
 returns c =
     let line : tie.After-cause-line = search in
-    let opening : tie.After-start = search in
+    let opening : tie.After-opened = search in
     let read : tie.After-receive = search in
     runs-refused 10 (read .receive .result) (read .receive .last .0) (read .receive .ensures) (read .receive .kept .0)
-    (opening .start .ensures) (search) (line .cause-line .ensures)
+    (opening .opened .ensures) (search) (line .cause-line .ensures)
 
 returns-2 : tie.Need-returns-2
 returns-2 c =
     let line : tie.After-cause-line2 = search in
     let moved : tie.After-over-input = search in
-    let opening : tie.After-start = search in
+    let opening : tie.After-opened = search in
     let read : tie.After-receive = search in
     runs-short 10 (read .receive .result) (read .receive .last .0) (read .receive .ensures) (read .receive .kept .0)
-    (opening .start .ensures) (search) (moved .over-input .ensures) (search) (line .cause-line2 .ensures)
+    (opening .opened .ensures) (search) (moved .over-input .ensures) (search) (line .cause-line2 .ensures)
 
 returns-3 : tie.Need-returns-3
 returns-3 c =
     let line : tie.After-line-of = search in
     let rest : tie.After-receive2 = search in
     let moved : tie.After-over-input = search in
-    let opening : tie.After-start = search in
+    let opening : tie.After-opened = search in
     let read : tie.After-receive = search in
     runs-whole 10 (read .receive .result) (read .receive .last .0) (read .receive .ensures) (read .receive .kept .0)
-    (opening .start .ensures) (search) (moved .over-input .ensures)
+    (opening .opened .ensures) (search) (moved .over-input .ensures)
     (rest .receive2 .result) (rest .receive2 .last .0) (search) (rest .receive2 .ensures) (rest .receive2 .kept .0) (line .line-of .ensures)
 
 -- ---- the needs that the search closes
@@ -44,14 +44,14 @@ receive-requires c κs = search needs
 array-share-prefix-block : tie.Need-array-share-prefix-block
 array-share-prefix-block c = search needs
 
-slice-aggregate-start : tie.Need-slice-aggregate-start
-slice-aggregate-start c = search needs
+slice-aggregate-opened : tie.Need-slice-aggregate-opened
+slice-aggregate-opened c = search needs
 
-start-requires : tie.Need-start-requires
-start-requires c κs = search needs
+opened-requires : tie.Need-opened-requires
+opened-requires c κs = search needs
 
-enum-known-opened : tie.Need-enum-known-opened
-enum-known-opened c = search needs
+enum-known-judged : tie.Need-enum-known-judged
+enum-known-judged c = search needs
 
 cause-line-requires : tie.Need-cause-line-requires
 cause-line-requires c κs = search needs
@@ -99,9 +99,9 @@ run-spec =
     slice-aggregate-receive
     receive-requires
     array-share-prefix-block
-    slice-aggregate-start
-    start-requires
-    enum-known-opened
+    slice-aggregate-opened
+    opened-requires
+    enum-known-judged
     cause-line-requires
     same-length
     returns

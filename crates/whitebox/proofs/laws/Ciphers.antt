@@ -1,25 +1,26 @@
 -- Laws, not definitions: what holds of the parts of both ciphers, from the laws of each (Forward.antt, Inverse.antt).
 -- Assumes nothing.
 use mathlib.Core.List.{List}
-use mathlib.Core.Path.{_≡_, refl, ap, _∙_}
-use Prim.Native.Nat.{ℕ, zero, suc, _-_, _≤_}
+use mathlib.Core.Path.{_≡_, refl, ap, _∙_, subst}
+use Prim.Native.Nat.{ℕ, zero, suc, _-_, _≤_, _<_}
 use native.Mathlib.Omega.{arith}
 use Rattle.bits.specs.Bytes.{Bytes, Block}
 use Rattle.bits.specs.Lists.{at}
-use Rattle.round.specs.Key.{keyOf, KeyExpansion, roundsOf}
 use Rattle.field.specs.Sbox.{sboxOf, invSboxOf}
-use Rattle.round.specs.State.{entry, mixRows, invMixRows, SubBytes, ShiftRows, AddRoundKey, InvSubBytes, InvShiftRows}
-use Rattle.aes.specs.Cipher.{rounds, encipherOf, decipherOf}
+use Rattle.round.specs.Key.{keyOf, KeyExpansion, roundsOf}
+use Rattle.round.specs.State.{entry, mixRows, invMixRows, SubBytes, ShiftRows, MixColumns, AddRoundKey, InvSubBytes, InvShiftRows}
+use Rattle.aes.specs.Cipher.{rounds, invRounds, encipherOf, decipherOf}
 use Rattle.aes.proofs.laws.Cipher.{encipher-block, decipher-block, decipher-encipher, encipher-decipher}
+use Rattle.external.specs.Coding.{multiply}
 use Rattle.layout.specs.Ciphers.{forCipher, other, readsOf}
 use Rattle.whitebox.specs.Bundles.{partsOf, cipherBlock}
-use Rattle.whitebox.specs.Ciphers.{betweenRounds, beforeMixing, mixing, InRound, InsideRounds, PartsFine}
+use Rattle.whitebox.specs.Ciphers.{beforeMixing, behindMixing, blockOf, StatesByFips, DueByFips, PartsFine}
 use Rattle.whitebox.specs.Parts.{forward, inverse, partsFor}
-use Rattle.whitebox.specs.States.{keyed, mixed, stateAfter, result}
-use Rattle.whitebox.specs.Values.{underColumns}
-use Rattle.whitebox.specs.Words.{mixedWord}
+use Rattle.whitebox.specs.States.{keyed, stateAfter, result}
+use Rattle.whitebox.specs.Values.{underBytes, underColumns, ended}
+use Rattle.whitebox.specs.Words.{mixedWord, secondWord, placedWord}
 use Rattle.whitebox.proofs.laws.Forward.{forward-fine, forward-cipher, mixed-forward, front-forward}
-use Rattle.whitebox.proofs.laws.Inverse.{inverse-fine, inverse-cipher, front-inverse, mixed-inverse}
+use Rattle.whitebox.proofs.laws.Inverse.{inverse-fine, inverse-cipher, front-inverse, state-inverse}
 
 pub parts-fine : PartsFine
 parts-fine zero = forward-fine
@@ -56,33 +57,50 @@ pub other-undoes : (c nk : ℕ) (key b : List ℕ) → Bytes key → Block b →
 other-undoes zero = decipher-encipher
 other-undoes (suc c) = encipher-decipher
 
--- ---- inside round r = k + 1
--- All that `InRound` says, from the state in front of the mixing and from the mixing.
-in-round : (c nr : ℕ) (w b : List ℕ) (k : ℕ)
-    → keyed (partsFor c nr w) (suc k) (stateAfter (partsFor c nr w) b k) ≡ beforeMixing c nr w b (suc k)
-    → ((s : List ℕ) → mixed (partsFor c nr w) s ≡ mixing c s) → InRound c nr w b (suc k)
-unfolding stateAfter
-in-round c nr w b k at-front mixes =
-    let P = partsFor c nr w in
-    let before : ℕ → List ℕ = λ j. keyed P (suc k) (stateAfter P b j) in
-    let front : before (suc k - 1) ≡ beforeMixing c nr w b (suc k) = ap before (let e : suc k - 1 ≡ k = omega arith in e) ∙ at-front in
-    let behind : stateAfter P b (suc k) ≡ mixing c (beforeMixing c nr w b (suc k)) = mixes (before k) ∙ ap (mixing c) at-front in
-    record {
-      front = front;
-      behind = behind;
-      first-words = λ C p. ap (λ (s : List ℕ). mixedWord P C (suc k) p (at s p)) front;
-      second-standing = λ C. ap (underColumns C (suc k)) behind;
-    }
+-- ---- the states are FIPS 197's: in front of the column mixing of round r, behind it, and at the end
+front-is : (c nr : ℕ) (w b : List ℕ) (r : ℕ) → 1 ≤ r → r < nr → keyed (partsFor c nr w) r (stateAfter (partsFor c nr w) b (r - 1)) ≡ beforeMixing c nr w b r
+front-is c nr w b zero low high = absurd (omega arith)
+front-is zero nr w b (suc k) low high =
+    subst (λ (j : ℕ). keyed (forward nr w) (suc k) (stateAfter (forward nr w) b j) ≡ ShiftRows (SubBytes (rounds w j (AddRoundKey b (keyOf w 0)))))
+    (let e : k ≡ suc k - 1 = omega arith in e) (front-forward nr w b k high)
+front-is (suc c) nr w b (suc k) low high =
+    subst (λ (j : ℕ). keyed (inverse nr w) (suc k) (stateAfter (inverse nr w) b j)
+    ≡ AddRoundKey (InvSubBytes (InvShiftRows (invRounds nr w j (AddRoundKey b (keyOf w nr))))) (keyOf w (nr - suc k)))
+    (let e : k ≡ suc k - 1 = omega arith in e) (front-inverse nr w b k)
 
-pub inside-rounds : InsideRounds
-inside-rounds c nr w b zero low high = absurd (omega arith)
-inside-rounds zero nr w b (suc k) low high =
-    in-round 0 nr w b k
-    (front-forward nr w b k high
-    ∙ ap (λ (j : ℕ). ShiftRows (SubBytes (rounds w j (AddRoundKey b (keyOf w 0))))) (let e : k ≡ suc k - 1 = omega arith in e))
-    (mixed-forward nr w)
-inside-rounds (suc c) nr w b (suc k) low high =
-    in-round (suc c) nr w b k
-    (front-inverse nr w b k
-    ∙ ap (λ (j : ℕ). AddRoundKey (InvSubBytes (InvShiftRows (betweenRounds nr w b j))) (keyOf w (nr - suc k))) (let e : k ≡ suc k - 1 = omega arith in e))
-    (mixed-inverse nr w)
+state-is : (c nr : ℕ) (w b : List ℕ) (r : ℕ) → r < nr → stateAfter (partsFor c nr w) b r ≡ behindMixing c nr w b r
+unfolding stateAfter behindMixing
+state-is c nr w b zero high = refl
+state-is zero nr w b (suc k) high = mixed-forward nr w _ ∙ ap MixColumns (front-forward nr w b k high)
+state-is (suc c) nr w b (suc k) high = state-inverse nr w b k
+
+pub states-by-fips : StatesByFips
+states-by-fips c nr w b = record { before-mixing = front-is c nr w b; behind-mixing = state-is c nr w b }
+
+block-is : (c nr : ℕ) (w b : List ℕ) → 1 ≤ nr → result (partsFor c nr w) nr b ≡ blockOf c nr w b
+block-is zero = forward-cipher
+block-is (suc c) = inverse-cipher
+
+pub due-by-fips : DueByFips
+unfolding ended
+due-by-fips c nr w b C some =
+    let P = partsFor c nr w in
+    record {
+      entry = record { standing = refl; word = λ p. refl };
+      first = λ r low high.
+          record {
+            standing = ap (underBytes C r) (state-is c nr w b (r - 1) (omega arith));
+            word = λ p. ap (λ (s : List ℕ). mixedWord P C r p (at s p)) (front-is c nr w b r low high);
+          };
+      second = λ r low high.
+          record {
+            standing = ap (underColumns C r) (state-is c nr w b r high);
+            word = λ p. ap (λ (s : List ℕ). secondWord P C r p (at (underColumns C r s) p)) (state-is c nr w b r high);
+          };
+      exit =
+          record {
+            standing = ap (underBytes C nr) (state-is c nr w b (nr - 1) (omega arith));
+            word = λ p. ap (λ (s : List ℕ). placedWord P C p (at s p)) (block-is c nr w b some);
+            end = ap (multiply (C .outputMatrix)) (block-is c nr w b some);
+          };
+    }

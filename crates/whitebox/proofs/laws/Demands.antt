@@ -6,7 +6,7 @@ use Prim.Native.Nat.{ℕ, suc, _+_, _-_, _≤_, _<_}
 use native.Mathlib.Nat.{le-refl}
 use native.Mathlib.Omega.{arith}
 use borrow.Author.Tests.{eq-eqb}
-use lib.ListN.{length, replicate}
+use lib.ListN.{length}
 use Rattle.answers.proofs.laws.Tests.{left-new}
 use Rattle.bits.specs.Bytes.{Block}
 use Rattle.bits.specs.Encodings.{encode, decode}
@@ -33,24 +33,24 @@ use Rattle.network.proofs.laws.Values.{follows-standing, follows-area}
 use Rattle.layout.specs.Stages as stages
 use Rattle.layout.specs.Ciphers.{kept, other, readsOf}
 use Rattle.layout.specs.Stages.{widths, lookups}
-use Rattle.layout.proofs.laws.Ciphers.{kept-names, kept-kept}
+use Rattle.layout.proofs.laws.Ciphers.{kept-names}
+use Rattle.calls.specs.Calls.{marked, Held, holding, zeroHeld, started, Call, toStop, fetch, step, reply, handed, blockLeft, serve, lastWalk, walkedOver}
+use Rattle.calls.specs.PlainCount.{argsOf, plain, plainCount, Lent, dueServed, seen}
+use Rattle.calls.proofs.laws.Calls.{count-le, mark-kept}
+use Rattle.calls.proofs.laws.Judged.{presented-right, presented-was}
+use Rattle.calls.proofs.laws.Served.{Known, block-is, serve-is, last-is, straight-reply, straight, alike-seen}
 use Rattle.whitebox.specs.Bundles.{codingsOf, partsOf, cipherBlock, madeSet, madeTable, dueAt, dueHeld}
-use Rattle.whitebox.specs.Calls.{Held, holding, started, Call, toStop, fetch, step, reply, handed, blockLeft, serve, lastWalk}
 use Rattle.whitebox.specs.Codings.{Codings, Sound}
-use Rattle.whitebox.specs.Demand2.{walkedOver, Demand2For, Demand2}
+use Rattle.whitebox.specs.Demand2.{Demand2For, Demand2}
 use Rattle.whitebox.specs.Joined.{InSet}
 use Rattle.whitebox.specs.Demand3.{Given, Presented, Answered, Places, TwoSets, Demand3For, Demand3}
 use Rattle.whitebox.specs.Parts.{Parts, Fine}
-use Rattle.whitebox.specs.PlainCount.{argsOf, plain, plainCount, Lent, dueServed, seen}
 use Rattle.whitebox.specs.Values.{valuesAt, values, ended, dueStanding, dueArea, stateDue}
+use Rattle.whitebox.specs.Tables.{layers}
 use Rattle.whitebox.proofs.laws.Bundles.{codings-sound, encodings-agree, encoding-is}
-use Rattle.whitebox.proofs.laws.Calls.{count-le}
 use Rattle.whitebox.proofs.laws.Joined.{made-in-set}
-use Rattle.whitebox.proofs.laws.Judged.{presented-right, presented-was}
-use Rattle.whitebox.proofs.laws.Served.{Known, block-is, serve-is, last-is, straight-reply, straight, alike-seen}
 use Rattle.whitebox.proofs.laws.Set.{widths-are, due-count, due-step, due-end}
 use Rattle.whitebox.proofs.laws.Ciphers.{parts-fine, parts-read, result-is, cipher-block, other-undoes}
-use Rattle.whitebox.specs.Tables.{layers}
 use Rattle.whitebox.proofs.laws.Values.{layers-good, follows, closed-is-due}
 
 -- ---- a presented block that the start accepts has 16 bytes
@@ -130,8 +130,8 @@ module _ (c nk : ℕ) (key l : List ℕ) (given : Given nk key l) where
     begins : started c x ≡ dueHeld c nk key l b 0
     unfolding started dueAt numbersAfter startNumbers lookupsIn stateDue walked
     begins =
-        sym (left-new _ (holding (kept c) (stateAt 0 x zeroArea)) (holding 0 (stateAt 0 (replicate 16 0) zeroArea)) (presented .started))
-        ∙ ap (holding (kept c))
+        sym (left-new _ (holding (marked c) (stateAt 0 x zeroArea)) zeroHeld (presented .started))
+        ∙ ap (holding (marked c))
         (from-any-layer (C .encoding) (sound .encodings) [] (layers P C nr) (layers-good P fine C nr) x block-x 0 (omega arith)
         ∙ ap (λ (y : List ℕ). closed (C .encoding) (layers P C nr) startNumbers y 0 0) (sym plain-x)
         ∙ closed-is-due P fine C sound nr b block-b (some nk) 0)
@@ -146,9 +146,9 @@ module _ (c nk : ℕ) (key l : List ℕ) (given : Given nk key l) where
     W = dueHeld c nk key l b
 
     -- The walk at every count is the one due.
-    known : Known (kept c) nr (madeTable c nk key l) (madeSet c nk key l) S A
+    known : Known (marked c) nr (madeTable c nk key l) (madeSet c nk key l) S A
     known =
-        record { keeps = kept-kept c; counts = counts b block-b; steps = steps b block-b; ends = ends b block-b; parts = made .part; long = made .long }
+        record { keeps = mark-kept c; counts = counts b block-b; steps = steps b block-b; ends = ends b block-b; parts = made .part; long = made .long }
       where
         made : InSet nr (madeSet c nk key l) (madeTable c nk key l)
         made = made-in-set nk c key l
@@ -157,25 +157,6 @@ module _ (c nk : ℕ) (key l : List ℕ) (given : Given nk key l) where
     served cs lent =
         ap (λ (w : Held). serve nr w cs) begins
         ∙ serve-is known cs 0 (omega arith) lent
-
-    answered : (cs : List Call) → Lent nr (madeTable c nk key l) (madeSet c nk key l) 0 cs → Answered c nk key l x cs (plainCount nr 0 (map argsOf cs))
-    answered cs lent =
-        let n = plainCount nr 0 (map argsOf cs) in
-        let most : n ≤ lookups nr = count-le nr (map argsOf cs) 0 (omega arith) in
-        let at-end : lastWalk nr (started c x) cs ≡ W n =
-        ap (λ (w : Held). lastWalk nr w cs) begins
-        ∙ last-is known cs 0 (omega arith) lent in
-        record {
-          calls = served cs lent;
-          last = at-end;
-          straight-reply =
-              ap (reply nr (toStop (madeSet c nk key l) n)) begins
-              ∙ straight-reply known n most;
-          straight =
-              ap (handed nr (toStop (madeSet c nk key l) n)) begins
-              ∙ straight known n most
-              ∙ sym at-end;
-        }
 
     -- One move to the end, and a fetch into 16 bytes.
     pub fetched : (lent : List ℕ) → length lent ≡ 16 → walkedOver c nr (madeSet c nk key l) x lent ≡ A
@@ -226,7 +207,7 @@ module _ (c nk : ℕ) (key l : List ℕ) (given : Given nk key l) where
           λ q c. R .1 q c ∙ ap (λ (ms : List ℕ). labels ms k .area q) value-widths,
         )
 
-    places : (k : ℕ) → k ≤ lookups nr → Places c nk key l b k
+    places : (k : ℕ) → k ≤ lookups nr → Places c nk key l b k (S k)
     places k h =
         let R = place-by-place (C .encoding) (sound .encodings) Ls (layers-good P fine C nr) startNumbers plainBytes (multiply-block (C .inputMatrix) b .bytes) 0 k in
         record {
@@ -241,9 +222,31 @@ module _ (c nk : ℕ) (key l : List ℕ) (given : Given nk key l) where
           area-label = λ q c. by-rule k h .1 q c;
         }
 
+    -- ---- a list of calls, with the places of the walk that it left
+    answered : (cs : List Call) → Lent nr (madeTable c nk key l) (madeSet c nk key l) 0 cs → Answered c nk key l x cs (plainCount nr 0 (map argsOf cs))
+    answered cs lent =
+        let n = plainCount nr 0 (map argsOf cs) in
+        let most : n ≤ lookups nr = count-le nr (map argsOf cs) 0 (omega arith) in
+        let at-end : lastWalk nr (started c x) cs ≡ W n =
+        ap (λ (w : Held). lastWalk nr w cs) begins
+        ∙ last-is known cs 0 (omega arith) lent in
+        record {
+          calls = served cs lent;
+          within = most;
+          places = subst (λ (w : Held). Places c nk key l b n (w .state)) (sym at-end) (places n most);
+          last = at-end;
+          straight-reply =
+              ap (reply nr (toStop (madeSet c nk key l) n)) begins
+              ∙ straight-reply known n most;
+          straight =
+              ap (handed nr (toStop (madeSet c nk key l) n)) begins
+              ∙ straight known n most
+              ∙ sym at-end;
+        }
+
 pub demand3-for : (nk : ℕ) → Demand3For nk
 demand3-for nk =
-    record { calls = λ c key l x g p cs lent. answered c nk key l g x p cs lent; places = λ c key l x g p k h. places c nk key l g x p k h; two = two }
+    record { calls = λ c key l x g p cs lent. answered c nk key l g x p cs lent; two = two }
   where
     two : TwoSets nk
     two c key l l′ x g g′ outer p cs cs′ alike lent lent′ =

@@ -20,7 +20,7 @@ use Rattle.round.proofs.laws.State.{sub-at, add-at, shifted-is, added-is}
 use Rattle.aes.specs.Cipher.{rounds, Cipher}
 use Rattle.layout.specs.Stages.{shifted}
 use Rattle.layout.proofs.laws.Place.{shifted-lt}
-use Rattle.whitebox.specs.Ciphers.{ForwardCipher, ForwardRounds}
+use Rattle.whitebox.specs.Ciphers.{ForwardCipher}
 use Rattle.whitebox.specs.Parts.{Fine, forward}
 use Rattle.whitebox.specs.States.{keyed, mixed, stateAfter, result}
 use Rattle.whitebox.proofs.laws.Bytewise.{shift-at, mixed-by}
@@ -88,6 +88,3 @@ forward-cipher nr w b h =
     ap (λ (n : ℕ). keyed (forward nr w) n (stateAfter (forward nr w) b r)) (sym last)
     ∙ keyed-last nr w r (stateAfter (forward nr w) b r) last
     ∙ ap (λ (s : List ℕ). AddRoundKey (ShiftRows (SubBytes s)) (keyOf w nr)) (sym (rounds-are nr w b r (omega arith)))
-
-pub forward-rounds : ForwardRounds
-forward-rounds nr w b r h = sym (rounds-are nr w b r h)

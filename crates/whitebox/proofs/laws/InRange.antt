@@ -28,10 +28,10 @@ use Rattle.layout.specs.declared.stage.Stage.the-variants.{Entry, First, Second
 use Rattle.whitebox.specs.Codings.{Codings, byteMatrixAt, columnMatrixAt}
 use Rattle.whitebox.specs.InRange.{AgreeInRange, OnlyInRange}
 use Rattle.whitebox.specs.Parts.{Parts, Fine}
-use Rattle.whitebox.specs.Tables.{wordOf, layerOf, layers, tableOf, setOf}
+use Rattle.whitebox.specs.Tables.{wordOf, layerOf, layers, tableOf, tablesOf}
 use Rattle.whitebox.specs.Words.{substituted, entryWord, mixedWord, secondWord, placedWord}
 use Rattle.whitebox.proofs.laws.Bundles.{encodings-agree}
-use Rattle.whitebox.proofs.laws.Set.{widths-are}
+use Rattle.whitebox.proofs.laws.Set.{widths-are, set-same}
 use Rattle.whitebox.proofs.laws.Values.{layers-good}
 
 -- ---- layers that make the same words at the 16 positions have the same tables
@@ -135,5 +135,5 @@ module _ (P : Parts) (fine : Fine P) (nr : ℕ) (some : 1 ≤ nr) (C C′ : Codi
       ∙ layers-same (C′ .encoding) k
 
 pub only-in-range : OnlyInRange
-unfolding setOf
-only-in-range P fine nr some C C′ agree = concat-same (lookups nr) _ _ (λ k h. tables-same P fine nr some C C′ agree k)
+unfolding tablesOf
+only-in-range P fine nr some C C′ agree = set-same P C nr C′ (concat-same (lookups nr) _ _ (λ k h. tables-same P fine nr some C C′ agree k))

@@ -4,7 +4,7 @@
 use mathlib.Core.Bool.{cond}
 use mathlib.Core.List.{List}
 use mathlib.Core.Path.{_≡_, refl, sym, ap, _∙_}
-use Prim.Native.Nat.{ℕ, zero, suc, _-_, _≤_, _<_}
+use Prim.Native.Nat.{ℕ, zero, suc, _-_, _<_}
 use native.Mathlib.Omega.{arith}
 use borrow.Author.Tests.{ne-eqb}
 use lib.Bits.{bitXor, xor-zero-r}
@@ -22,7 +22,7 @@ use Rattle.round.proofs.laws.State.{inv-sub-at, add-at, added-is}
 use Rattle.aes.specs.Cipher.{invRounds, InvCipher}
 use Rattle.layout.specs.Ciphers.{invShifted}
 use Rattle.layout.proofs.laws.Ciphers.{inv-shifted-lt}
-use Rattle.whitebox.specs.Ciphers.{InverseCipher, betweenRounds, InverseRounds}
+use Rattle.whitebox.specs.Ciphers.{InverseCipher}
 use Rattle.whitebox.specs.Parts.{Fine, inverse}
 use Rattle.whitebox.specs.States.{keyed, mixed, stateAfter, result}
 use Rattle.whitebox.proofs.laws.Bytewise.{inv-shift-at, mixed-by}
@@ -62,43 +62,27 @@ module _ (nr : ℕ) (w : List ℕ) where
   mixed-inverse s = mixed-by (inverse nr w) invMixRows s (λ t q. refl)
 
   module _ (b : List ℕ) where
+    -- InvCipher's state behind k of its rounds.
+    abbrev behind : ℕ → List ℕ
+    behind k = invRounds nr w k (AddRoundKey b (keyOf w nr))
+
     -- Round r = k + 1: in front of its column mixing, and in the exit the result.
-    pub front-inverse : (k : ℕ) → keyed (inverse nr w) (suc k) (stateAfter (inverse nr w) b k) ≡ front (suc k) (betweenRounds nr w b k)
-    unfolding stateAfter betweenRounds
+    pub front-inverse : (k : ℕ) → keyed (inverse nr w) (suc k) (stateAfter (inverse nr w) b k) ≡ front (suc k) (behind k)
+    unfolding stateAfter invRounds
     front-inverse zero = keyed-first b
     front-inverse (suc k) =
         keyed-later (suc (suc k)) (stateAfter (inverse nr w) b (suc k)) (λ e. omega arith)
         ∙ ap (front (suc (suc k))) (mixed-inverse _ ∙ ap InvMixColumns (front-inverse k))
 
-    state-inverse : (k : ℕ) → stateAfter (inverse nr w) b (suc k) ≡ betweenRounds nr w b (suc k)
-    unfolding stateAfter betweenRounds
+    pub state-inverse : (k : ℕ) → stateAfter (inverse nr w) b (suc k) ≡ behind (suc k)
+    unfolding stateAfter invRounds
     state-inverse k = mixed-inverse _ ∙ ap InvMixColumns (front-inverse k)
 
-    -- InvCipher's rounds that are left behind r of them.
-    left-rounds : (r : ℕ) → r < nr → invRounds w (nr - 1 - r) (betweenRounds nr w b r) ≡ invRounds w (nr - 1) (AddRoundKey b (keyOf w nr))
-    unfolding betweenRounds invRounds
-    left-rounds zero h = ap (λ (n : ℕ). invRounds w n (AddRoundKey b (keyOf w nr))) (let e : nr - 1 - 0 ≡ nr - 1 = omega arith in e)
-    left-rounds (suc r) h =
-        let n = nr - 1 - suc r in
-        ap (λ (k : ℕ). invRounds w n (InvMixColumns (AddRoundKey (InvSubBytes (InvShiftRows (betweenRounds nr w b r))) (keyOf w k))))
-        (let e : nr - suc r ≡ suc n = omega arith in e)
-        ∙ ap (λ (k : ℕ). invRounds w k (betweenRounds nr w b r)) (let e : suc n ≡ nr - 1 - r = omega arith in e)
-        ∙ left-rounds r (omega arith)
-
-pub inverse-rounds : InverseRounds
-inverse-rounds nr w b r h = record { state = state r; left = left-rounds nr w b r h }
-  where
-    state : (r : ℕ) → 1 ≤ r → stateAfter (inverse nr w) b r ≡ betweenRounds nr w b r
-    state zero low = absurd (omega arith)
-    state (suc k) low = state-inverse nr w b k
-
 pub inverse-cipher : InverseCipher
-unfolding result InvCipher invRounds
+unfolding result InvCipher
 inverse-cipher nr w b h =
     let k = nr - 1 in
     let last : nr ≡ suc k = omega arith in
     ap (λ (r : ℕ). keyed (inverse nr w) r (stateAfter (inverse nr w) b k)) last
     ∙ front-inverse nr w b k
-    ∙ ap (λ (r : ℕ). AddRoundKey (InvSubBytes (InvShiftRows (betweenRounds nr w b k))) (keyOf w r)) (let e : nr - suc k ≡ 0 = omega arith in e)
-    ∙ ap (λ (s : List ℕ). AddRoundKey (InvSubBytes (InvShiftRows s)) (keyOf w 0))
-    (ap (λ (n : ℕ). invRounds w n (betweenRounds nr w b k)) (let e : 0 ≡ nr - 1 - k = omega arith in e) ∙ left-rounds nr w b k (omega arith))
+    ∙ ap (λ (r : ℕ). AddRoundKey (InvSubBytes (InvShiftRows (behind nr w b k))) (keyOf w r)) (let e : nr - suc k ≡ 0 = omega arith in e)

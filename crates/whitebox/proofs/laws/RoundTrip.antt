@@ -3,20 +3,21 @@
 -- coding, which is the first input coding.
 -- Assumes nothing.
 use mathlib.Core.List.{List}
+use mathlib.Core.Logic.{_≢_}
 use mathlib.Core.Path.{_≡_, refl, sym, ap, ap₂, _∙_}
-use Prim.Native.Nat.{ℕ, suc}
+use Prim.Native.Nat.{ℕ, zero, suc}
 use lib.ListN.{length}
 use Rattle.bits.specs.Bytes.{Block}
 use Rattle.round.specs.Key.{roundsOf}
 use Rattle.external.specs.Coding.{encodeInput, decodeInput, encodeOutput}
 use Rattle.external.proofs.laws.Coding.{undoing}
-use Rattle.layout.specs.Ciphers.{other}
+use Rattle.layout.specs.Ciphers.{other, kept}
 use Rattle.layout.specs.Stages.{lookups}
+use Rattle.calls.specs.Calls.{Held, toStop, fetch, handed, blockLeft, walkedOver}
 use Rattle.whitebox.specs.Bundles.{cipherBlock, madeSet}
-use Rattle.whitebox.specs.Calls.{Held, toStop, fetch, handed, blockLeft}
-use Rattle.whitebox.specs.Demand2.{walkedOver}
 use Rattle.whitebox.specs.Demand3.{Given, Presented}
-use Rattle.whitebox.specs.RoundTrip.{Crossed, RoundTripFor, RoundTrip}
+use Rattle.external.specs.Coding.{Crossed}
+use Rattle.whitebox.specs.RoundTrip.{RoundTripFor, RoundTrip}
 use Rattle.whitebox.proofs.laws.Ciphers.{cipher-block, other-undoes}
 use Rattle.whitebox.proofs.laws.Demands.{block-x, block-b, fetched, demand2-for}
 use Rattle.whitebox.proofs.laws.Named.{same-cipher}
@@ -61,20 +62,24 @@ crossed-back : {nr : ℕ} {l l′ : List ℕ} → Crossed nr l l′ → Crossed 
 crossed-back X = record { input = λ b h. sym (X .output b h); output = λ b h. sym (X .input b h) }
 
 -- Any number but 0 names the inverse cipher as 1 does, in a making and in a walk.
-as-one : (nk i i′ : ℕ) (key l x lent : List ℕ)
-    → walkedOver (suc i) (roundsOf nk) (madeSet (suc i′) nk key l) x lent ≡ walkedOver 1 (roundsOf nk) (madeSet 1 nk key l) x lent
-as-one nk i i′ key l x lent =
+kept-one : (i : ℕ) → i ≢ 0 → kept i ≡ 1
+kept-one zero away = absurd (away refl)
+kept-one (suc i) away = refl
+
+as-one : (nk i i′ : ℕ) (key l x lent : List ℕ) → i ≢ 0 → i′ ≢ 0
+    → walkedOver i (roundsOf nk) (madeSet i′ nk key l) x lent ≡ walkedOver 1 (roundsOf nk) (madeSet 1 nk key l) x lent
+as-one nk i i′ key l x lent away away′ =
     let nr = roundsOf nk in
     ap₂ (λ (set : List ℕ) (w : Held). blockLeft nr (fetch lent) (handed nr (toStop set (lookups nr)) w))
-    (same-cipher nk (suc i′) 1 refl .set key l) (same-cipher nk (suc i) 1 refl .start x)
+    (same-cipher nk i′ 1 (kept-one i′ away′) .set key l) (same-cipher nk i 1 (kept-one i away) .start x)
 
 pub round-trip-for : (nk : ℕ) → RoundTripFor nk
-round-trip-for nk i i′ key l l′ x lent lent′ g g′ X p room room′ =
+round-trip-for nk i i′ key l l′ x lent lent′ away away′ g g′ X p room room′ =
     let over : List ℕ → List ℕ → List ℕ = walkedOver 0 (roundsOf nk) (madeSet 0 nk key l) in
     record {
-      forward-first = as-one nk i i′ key l′ (over x lent) lent′ ∙ there-and-back 0 nk key l l′ g g′ X x p lent lent′ room room′;
+      forward-first = as-one nk i i′ key l′ (over x lent) lent′ away away′ ∙ there-and-back 0 nk key l l′ g g′ X x p lent lent′ room room′;
       inverse-first =
-          ap (λ (y : List ℕ). over y lent′) (as-one nk i i′ key l′ x lent)
+          ap (λ (y : List ℕ). over y lent′) (as-one nk i i′ key l′ x lent away away′)
           ∙ there-and-back 1 nk key l′ l g′ g (crossed-back X) x p lent lent′ room room′;
     }
 

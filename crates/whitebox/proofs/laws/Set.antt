@@ -6,10 +6,12 @@ use mathlib.Core.Path.{_≡_, refl, sym, ap, ap₂, _∙_, subst}
 use Prim.Native.Nat.{ℕ, suc, _+_, _-_, _≤_, _<_}
 use native.Mathlib.Omega.{arith}
 use lib.ListN.{length, take, drop}
-use Rattle.bits.specs.Bytes.{Block}
+use lib.Seq.{take-all}
+use Rattle.bits.specs.Bytes.{Bytes, Block}
 use Rattle.bits.specs.Encodings.{encode}
 use Rattle.bits.specs.Nibbles.{nibble}
 use Rattle.bits.proofs.laws.Bytes.{bytesOf-bytes}
+use Rattle.bits.proofs.laws.Cuts.{take-inside}
 use Rattle.bits.proofs.laws.Nibbles.{packed-ext}
 use Rattle.external.specs.Coding.{multiply}
 use Rattle.network.specs.Due.{closed, encoded, dueState}
@@ -19,13 +21,14 @@ use Rattle.network.specs.Sizes.{lookupsIn}
 use Rattle.network.specs.Tables.{Layer, shapesOf, widthsOf, tableAt}
 use Rattle.network.proofs.laws.Network.{one-lookup, closed-end}
 use Rattle.network.proofs.laws.Values.{follows-left}
-use Rattle.layout.specs.Stages.{shapes, widths, lookups, setBytes, encodings, tableSize, tableOffset}
-use Rattle.layout.proofs.laws.Instance.{stage-shapes, stage-widths, stage-table-length, tables-length, set-table}
+use Rattle.layout.specs.Stages.{shapes, widths, lookups, tablesBytes, setBytes, encodings, tableSize, tableOffset}
+use Rattle.layout.proofs.laws.Instance.{ends-in-tables, stage-shapes, stage-widths, stage-table-length, tables-length, set-table}
+use Rattle.layout.proofs.laws.Lookup.{tables-in-set}
 use Rattle.layout.proofs.laws.Ranges.{by-stage}
-use Rattle.whitebox.specs.Calls.{step}
+use Rattle.calls.specs.Calls.{step}
 use Rattle.whitebox.specs.Codings.{Codings, Sound}
 use Rattle.whitebox.specs.Parts.{Parts, Fine}
-use Rattle.whitebox.specs.Tables.{layerOf, layers, tableOf, setOf}
+use Rattle.whitebox.specs.Tables.{layerOf, layers, tableOf, tablesOf, setOf}
 use Rattle.whitebox.specs.Values.{values, ended, stateDue}
 use Rattle.whitebox.proofs.laws.Values.{layers-good, follows, closed-is-due}
 
@@ -47,13 +50,38 @@ module _ (P : Parts) (C : Codings) (nr : ℕ) where
   unfolding tableOf layers
   table-length k = stage-table-length (layerOf P C nr) (λ s. refl) (C .encoding) nr k
 
+  -- The tables one after the other.
+  tables-long : length (tablesOf P C nr) ≡ tablesBytes nr
+  unfolding tablesOf
+  tables-long = tables-length nr (tableOf P C nr) (λ k h. table-length k)
+
+  tables-part : (k : ℕ) → k < lookups nr → take (tableSize nr k) (drop (tableOffset nr k) (tablesOf P C nr)) ≡ tableOf P C nr k
+  unfolding tablesOf
+  tables-part k h = set-table nr (tableOf P C nr) (λ j l. table-length j) k h
+
+  -- ---- the set, whose tables are all of it: that nothing stands behind them is used in these four laws alone
   pub set-length : length (setOf P C nr) ≡ setBytes nr
   unfolding setOf setBytes
-  set-length = tables-length nr (tableOf P C nr) (λ k h. table-length k)
+  set-length = tables-long
 
-  pub set-part : (k : ℕ) → k < lookups nr → take (tableSize nr k) (drop (tableOffset nr k) (setOf P C nr)) ≡ tableOf P C nr k
+  set-front : take (tablesBytes nr) (setOf P C nr) ≡ tablesOf P C nr
   unfolding setOf
-  set-part k h = set-table nr (tableOf P C nr) (λ j l. table-length j) k h
+  set-front = take-all (tablesBytes nr) (tablesOf P C nr) (omega (arith, tables-long))
+
+  pub set-bytes : Bytes (tablesOf P C nr) → Bytes (setOf P C nr)
+  unfolding setOf
+  set-bytes bytes = bytes
+
+  pub set-same : (C′ : Codings) → tablesOf P C nr ≡ tablesOf P C′ nr → setOf P C nr ≡ setOf P C′ nr
+  unfolding setOf
+  set-same C′ e = e
+
+  -- ---- a table is the set's part at its offset
+  pub set-part : (k : ℕ) → k < lookups nr → take (tableSize nr k) (drop (tableOffset nr k) (setOf P C nr)) ≡ tableOf P C nr k
+  set-part k h =
+      sym (take-inside (tableSize nr k) (tableOffset nr k) (tablesBytes nr) (setOf P C nr) (ends-in-tables nr k h) (omega (arith, set-length, tables-in-set nr)))
+      ∙ ap (λ (t : List ℕ). take (tableSize nr k) (drop (tableOffset nr k) t)) set-front
+      ∙ tables-part k h
 
 -- ---- the state due, from count to count
 module _ (P : Parts) (fine : Fine P) (C : Codings) (sound : Sound C) (nr : ℕ) (some : 1 ≤ nr) (b : List ℕ) (block : Block b) where

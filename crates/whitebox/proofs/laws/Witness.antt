@@ -5,8 +5,8 @@ use mathlib.Core.Path.{sym, ap, _∙_}
 use Prim.Native.Nat.{ℕ}
 use Rattle.judgement.proofs.laws.Witness.{ten-accepted, ten-built}
 use Rattle.external.proofs.laws.Coding.{plain-coding}
+use Rattle.calls.specs.Calls.{walkedOver}
 use Rattle.whitebox.specs.Bundles.{cipherBlock, madeSet}
-use Rattle.whitebox.specs.Demand2.{walkedOver}
 use Rattle.whitebox.specs.Witness.{Witness, PlainWalkIsCipher, PlainCrossed}
 use Rattle.whitebox.proofs.laws.Ciphers.{cipher-block}
 use Rattle.whitebox.proofs.laws.Demands.{demand2}

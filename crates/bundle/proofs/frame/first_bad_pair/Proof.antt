@@ -6,14 +6,15 @@ use Prim.Native.Nat.{_-_}
 use Rattle.bundle.specs.Format.{pairBad}
 use Rattle.answers.proofs.laws.Search.{Searched, searched-none, searched-here, searched-next, searched-all}
 use native.Mathlib.Omega.{arith}
+use borrow.Author.Needs.{needs}
 use Rattle.bundle.proofs.frame.first_bad_pair.Statement.{statement}
 use Rattle.bundle.proofs.frame.first_bad_pair.Tie as tie
 
 abbrev Inv-loop : tie.InvT-loop
-Inv-loop bundle i₀ i = Searched 5 (pairBad 10 bundle) i
+Inv-loop rounds bundle i₀ i = Searched 5 (pairBad rounds bundle) i
 
 abbrev μ-loop : tie.MeasureT-loop
-μ-loop bundle i₀ i = 5 - i
+μ-loop rounds bundle i₀ i = 5 - i
 
 loop-holds : tie.Need-loop-holds Inv-loop μ-loop
 loop-holds c = search searched-none
@@ -29,10 +30,10 @@ returns-2 c = search searched-all
 
 -- ---- the needs that the search closes
 pair-bad-requires : tie.Need-pair-bad-requires Inv-loop μ-loop
-pair-bad-requires c κs = omega arith
+pair-bad-requires c κs = search needs
 
-cast-t5 : tie.Need-cast-t5 Inv-loop μ-loop
-cast-t5 c = omega arith
+cast-t6 : tie.Need-cast-t6 Inv-loop μ-loop
+cast-t6 c = omega arith
 
 add-i : tie.Need-add-i Inv-loop μ-loop
 add-i c = omega arith
@@ -48,7 +49,7 @@ first-bad-pair-spec =
     μ-loop
     loop-holds
     pair-bad-requires
-    cast-t5
+    cast-t6
     returns
     add-i
     loop-less

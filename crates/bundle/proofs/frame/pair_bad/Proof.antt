@@ -9,24 +9,24 @@ use Rattle.bundle.proofs.frame.pair_bad.Statement.{statement}
 use Rattle.bundle.proofs.frame.pair_bad.Tie as tie
 
 returns : tie.Need-returns
-returns c = pair-length 10 _ _ (search) (search) (c .if1 .taken)
+returns c = pair-length _ _ _ (search) (search) (c .if1 .taken)
 
 returns-2 : tie.Need-returns-2
 returns-2 c =
     let long : tie.Else1 = search in
-    pair-order 10 _ _ (search) (search) (long .if1 .left) (search) (search) (c .if2 .taken)
+    pair-order _ _ _ (search) (search) (long .if1 .left) (search) (search) (c .if2 .taken)
 
 returns-3 : tie.Need-returns-3
 returns-3 c =
     let behind : tie.Else2 = search in
     let long : tie.Else1 = search in
-    pair-end 10 _ _ (search) (search) (long .if1 .left) (search) (search) (behind .if2 .left) (c .if3 .taken)
+    pair-end _ _ _ (search) (search) (long .if1 .left) (search) (search) (behind .if2 .left) (c .if3 .taken)
 
 returns-4 : tie.Need-returns-4
 returns-4 c =
     let behind : tie.Else2 = search in
     let long : tie.Else1 = search in
-    pair-right 10 _ _ (search) (search) (long .if1 .left) (search) (search) (behind .if2 .left) (c .if3 .left)
+    pair-right _ _ _ (search) (search) (long .if1 .left) (search) (search) (behind .if2 .left) (c .if3 .left)
 
 -- ---- the needs that the search closes
 mul-at : tie.Need-mul-at

@@ -1,5 +1,5 @@
 -- `bundle::layout::section_length` meets its contract. The length is the count of parts times their size (`section-counted` of `laws.Code`); at
--- most 6,048 parts of at most 2,048 bytes do not wrap.
+-- most 7,840 parts of at most 2,048 bytes do not wrap.
 -- Assumes nothing.
 use Rattle.bundle.proofs.laws.Code.{section-counted}
 use native.Mathlib.Omega.{arith}
@@ -8,10 +8,10 @@ use Rattle.bundle.proofs.layout.section_length.Statement.{statement}
 use Rattle.bundle.proofs.layout.section_length.Tie as tie
 
 mul-result : tie.Need-mul-result
-mul-result c = omega (arith, section-counted _ (c .before .part-count .ensures) (c .part-size .ensures))
+mul-result c = omega (arith, section-counted _ _ (c .before .part-count .ensures) (c .part-size .ensures))
 
 returns : tie.Need-returns
-returns c = section-counted _ (c .before .part-count .ensures) (c .part-size .ensures)
+returns c = section-counted _ _ (c .before .part-count .ensures) (c .part-size .ensures)
 
 -- ---- the needs that the search closes
 part-count-requires : tie.Need-part-count-requires

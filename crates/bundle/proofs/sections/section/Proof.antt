@@ -2,27 +2,34 @@
 -- judgement accepts, the pairs are there to be read (`pairs-there`), section s ends within the bundle (`section-end`), and the part from the pair's
 -- offset on is the section (`section-cut`). In one that it refuses, the section is empty (`section-empty`). No sum wraps: an offset is below 2^32.
 -- Assumes nothing.
-use Rattle.bundle.proofs.laws.Code.{section-behind, pairs-there, section-cut, section-end, section-empty}
+use mathlib.Core.Path.{sym, _∙_}
+use Rattle.bundle.proofs.laws.Code.{framed-rounds, section-behind, pairs-there, section-cut, section-end, section-empty}
 use native.Mathlib.Omega.{arith}
 use borrow.Author.Needs.{needs}
 use Rattle.bundle.proofs.sections.section.Statement.{statement}
 use Rattle.bundle.proofs.sections.section.Tie as tie
 
 returns : tie.Need-returns
-returns c = section-behind 10 _ _ (search)
+returns c = section-behind _ _ _ (search)
 
 number-at-requires : tie.Need-number-at-requires
 number-at-requires c κs =
     let accepted : tie.After-enum-told = search in
     let judged : tie.After-judge-frame = search in
-    omega (arith, pairs-there 10 _ (judged .judge-frame .ensures) (accepted .enum-told .given .1))
+    omega (arith, pairs-there _ _ (judged .judge-frame .ensures) (accepted .enum-told .given .1))
+
+section-length-requires : tie.Need-section-length-requires
+section-length-requires c κs =
+    let accepted : tie.After-enum-told = search in
+    let judged : tie.After-judge-frame = search in
+    framed-rounds _ _ (sym (judged .judge-frame .ensures) ∙ accepted .enum-told .given .1)
 
 part-result-end-2 : tie.Need-part-result-end-2
 part-result-end-2 c =
     let long : tie.After-section-length = search in
     let offset : tie.After-number-at = search in
     let accepted : tie.After-enum-told = search in
-    section-end 10 _ _ (search) (accepted .enum-told .given .1) (offset .number-at .ensures .0)
+    section-end _ _ _ (search) (accepted .enum-told .given .1) (offset .number-at .ensures .0)
     (long .section-length .ensures .0) (search)
 
 returns-2 : tie.Need-returns-2
@@ -30,12 +37,12 @@ returns-2 c =
     let long : tie.After-section-length = search in
     let offset : tie.After-number-at = search in
     let accepted : tie.After-enum-told = search in
-    section-cut 10 _ _ (search) (accepted .enum-told .given .1) (offset .number-at .ensures .0) (long .section-length .ensures .0)
+    section-cut _ _ _ (search) (accepted .enum-told .given .1) (offset .number-at .ensures .0) (long .section-length .ensures .0)
 
 returns-3 : tie.Need-returns-3
 returns-3 c =
     let refused : tie.After-enum-told2 = search in
-    section-empty 10 _ _ (search) (refused .enum-told2 .given .1)
+    section-empty _ _ _ (search) (refused .enum-told2 .given .1)
 
 -- ---- the needs that the search closes
 sub-result : tie.Need-sub-result
@@ -55,9 +62,6 @@ enum-told c = search needs
 
 mul-at : tie.Need-mul-at
 mul-at c = search needs
-
-section-length-requires : tie.Need-section-length-requires
-section-length-requires c κs = search needs
 
 add-e : tie.Need-add-e
 add-e c = search needs

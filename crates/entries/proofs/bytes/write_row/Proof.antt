@@ -23,7 +23,7 @@ add-dst : tie.Need-add-dst Inv-loop μ-loop
 add-dst c =
     let turn : tie.In-loop Inv-loop μ-loop = search in
     let entry : tie.Start Inv-loop μ-loop = search in
-    omega (arith, entry .pre .2 _ (turn .loop-test .taken))
+    omega (arith, entry .pre .1 .small _ (turn .loop-test .taken))
 
 loop-again : tie.Need-loop-again Inv-loop μ-loop
 loop-again c =

@@ -1,7 +1,8 @@
--- `entries::lists::decoded_bytes` has the lists made that undo the two encodings, and all bytes with their nibbles replaced by these: `bytes-decoded` of
--- `laws.Entries` says that they are the bytes decoded. The lists have nibbles only, as the encodings are permutations (`places-lt`).
+-- `entries::lists::decoded_bytes` has the lists made that undo the two encodings, and all bytes with their nibbles
+-- replaced by these: `bytes-decoded` of `laws.Entries` says that they are the bytes decoded. The lists have nibbles
+-- only, as the encodings are permutations (`places-nibbles`).
 -- Assumes nothing.
-use Rattle.entries.proofs.laws.Entries.{places-lt, bytes-decoded}
+use Rattle.entries.proofs.laws.Entries.{places-nibbles, bytes-decoded}
 use borrow.Author.Needs.{needs}
 use native.Mathlib.Omega.{arith}
 use Rattle.entries.proofs.lists.decoded_bytes.Statement.{statement}
@@ -26,10 +27,8 @@ by-nibbles-requires c κs =
     let a : tie.After-places = search in
     let a-part : tie.After-part = search in
     let entry : tie.Start = search in (
-      omega (arith, a .places),
-      places-lt _ _ _ _ (entry .pre .1) (a-part .part .ensures) (a .places .ensures),
-      omega (arith, b .places2),
-      places-lt _ _ _ _ (entry .pre .2) (b-part .part2 .ensures) (b .places2 .ensures),
+      places-nibbles _ _ _ _ (entry .pre .1) (a-part .part .ensures) (a .places .ensures),
+      places-nibbles _ _ _ _ (entry .pre .2) (b-part .part2 .ensures) (b .places2 .ensures),
       entry .pre .0,
     )
 

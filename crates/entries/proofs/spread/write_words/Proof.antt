@@ -1,21 +1,22 @@
 -- `entries::spread::write_words` writes the words of 256 bytes, each straight to its place. The loop's invariant, `Written` of `laws.Words`: the words before word
--- x are written. A turn has the writer put word x to its place, and what it says of every other byte of the part, `OthersAlone`, keeps the words before
+-- x are written. A turn has the writer put word x to its place, and what it says of every other byte of the part, `WordPut`, keeps the words before
 -- (`written-more`). Behind the last word the part is all words (`written-all`).
 -- Assumes nothing.
 use mathlib.Core.Path.{ap}
 use Prim.Native.Nat.{_-_}
 use Rattle.bits.specs.Lists.{at}
-use Rattle.entries.specs.Spread.{lookedUp, wordIn}
-use Rattle.entries.proofs.laws.Words.{Written, written-none, word-room, written-more, written-all, length-lookedUp}
+use Rattle.matrices.specs.ByNibbles.{wordIn}
+use Rattle.entries.specs.Spread.{encodedWord}
+use Rattle.entries.proofs.laws.Words.{Written, written-none, word-room, written-more, written-all, length-encoded}
 use native.Mathlib.Omega.{arith}
 use Rattle.entries.proofs.spread.write_words.Statement.{statement}
 use Rattle.entries.proofs.spread.write_words.Tie as tie
 
 abbrev Inv-loop : tie.InvT-loop
-Inv-loop values words encoded m dst₀ x₀ dst x = Written 256 m (λ i. lookedUp (at encoded) m (wordIn words (at values i))) dst x
+Inv-loop values words images m dst₀ x₀ dst x = Written 256 m (λ i. encodedWord (at images) m (wordIn words (at values i))) dst x
 
 abbrev μ-loop : tie.MeasureT-loop
-μ-loop values words encoded m dst₀ x₀ dst x = 256 - x
+μ-loop values words images m dst₀ x₀ dst x = 256 - x
 
 loop-holds : tie.Need-loop-holds Inv-loop μ-loop
 loop-holds c = written-none (omega arith)
@@ -25,13 +26,14 @@ write-word-requires c κs =
     let turn : tie.In-loop Inv-loop μ-loop = search in
     let entry : tie.Start Inv-loop μ-loop = search in
     let room = word-room (turn .before .loop .inv) in
-    (entry .pre .2, entry .pre .3, turn .loop-test .taken, room _ (turn .loop-test .taken))
+    let place = turn .loop-test .taken in
+    record { width = entry .pre .width; encoded = entry .pre .encoded; word = place; room = room _ place }
 
 same-length : tie.Need-same-length Inv-loop μ-loop
 same-length c =
     let done : tie.After-loop Inv-loop μ-loop = search in
     let entry : tie.Start Inv-loop μ-loop = search in
-    omega (arith, done .before .loop .inv .long, entry .pre .4)
+    omega (arith, done .before .loop .inv .long, entry .pre .room)
 
 loop-again : tie.Need-loop-again Inv-loop μ-loop
 loop-again c =
@@ -40,13 +42,13 @@ loop-again c =
     let turn : tie.In-loop Inv-loop μ-loop = search in
     let entry : tie.Start Inv-loop μ-loop = search in
     let a = entry .args in
-    written-more (λ i h. length-lookedUp _ _ _) (turn .before .loop .inv) (turn .loop-test .taken) (omega arith)
-    (written .write-word .ensures .0) (ap (lookedUp (at (a .encoded .now)) (a .m)) (word .word-of .ensures)) (written .write-word .ensures .1)
+    written-more (λ i h. length-encoded _ _ _) (turn .before .loop .inv) (turn .loop-test .taken) (omega arith)
+    (ap (encodedWord (at (a .images .now)) (a .m)) (word .word-of .ensures)) (written .write-word .ensures .1)
 
 returns : tie.Need-returns Inv-loop μ-loop
 returns c =
     let done : tie.After-loop Inv-loop μ-loop = search in
-    written-all (λ i h. length-lookedUp _ _ _) (done .before .loop .inv) (done .loop-test .left)
+    written-all (λ i h. length-encoded _ _ _) (done .before .loop .inv) (done .loop-test .left)
 
 -- ---- the needs that the search closes
 shared-slice-read-word-of : tie.Need-shared-slice-read-word-of Inv-loop μ-loop

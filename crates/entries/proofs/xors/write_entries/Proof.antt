@@ -26,8 +26,7 @@ write-row-requires : tie.Need-write-row-requires Inv-loop μ-loop
 write-row-requires c κs =
     let turn : tie.In-loop Inv-loop μ-loop = search in
     let entry : tie.Start Inv-loop μ-loop = search in
-    let p = entry .pre in
-    (p .1 _ (turn .loop-test .taken), p .2, p .3, p .4, p .5, part-lent (turn .before .loop .inv) (turn .loop-test .taken) .long)
+    (entry .pre .0 .small _ (turn .loop-test .taken), entry .pre .1, part-lent (turn .before .loop .inv) (turn .loop-test .taken) .long)
 
 loop-again : tie.Need-loop-again Inv-loop μ-loop
 loop-again c =

@@ -26,13 +26,13 @@ image-of-sum-requires : tie.Need-image-of-sum-requires Inv-loop μ-loop
 image-of-sum-requires c κs =
     let turn : tie.In-loop Inv-loop μ-loop = search in
     let entry : tie.Start Inv-loop μ-loop = search in
-    (omega arith, omega arith, entry .pre .2 _ (omega arith))
+    (omega arith, entry .pre .0, entry .pre .1 .undone .small _ (omega arith))
 
 image-of-sum-requires-2 : tie.Need-image-of-sum-requires-2 Inv-loop μ-loop
 image-of-sum-requires-2 c κs =
     let turn : tie.In-loop Inv-loop μ-loop = search in
     let entry : tie.Start Inv-loop μ-loop = search in
-    (omega arith, omega arith, entry .pre .2 _ (omega arith))
+    (omega arith, entry .pre .0, entry .pre .1 .undone .small _ (omega arith))
 
 -- the entries are nibbles
 high-lt : (high : tie.After-image-of-sum Inv-loop μ-loop) → high .image-of-sum .result < 16
@@ -40,14 +40,14 @@ high-lt high =
     let turn : tie.In-loop Inv-loop μ-loop = search in
     let entry : tie.Start Inv-loop μ-loop = search in
     let a = entry .args in
-    sum-image (a .added .now) (a .result .now) _ (2 * turn .before .loop .k) _ (entry .pre .0) (entry .pre .2) (omega arith) (entry .pre .4) (high .image-of-sum .ensures)
+    sum-image (a .added .now) (a .result .now) _ (2 * turn .before .loop .k) _ (entry .pre .0) (entry .pre .1) (omega arith) (high .image-of-sum .ensures)
 
 low-lt : (low : tie.After-image-of-sum2 Inv-loop μ-loop) → low .image-of-sum2 .result < 16
 low-lt low =
     let turn : tie.In-loop Inv-loop μ-loop = search in
     let entry : tie.Start Inv-loop μ-loop = search in
     let a = entry .args in
-    sum-image (a .added .now) (a .result .now) _ (2 * turn .before .loop .k + 1) _ (entry .pre .0) (entry .pre .2) (omega arith) (entry .pre .4) (low .image-of-sum2 .ensures)
+    sum-image (a .added .now) (a .result .now) _ (2 * turn .before .loop .k + 1) _ (entry .pre .0) (entry .pre .1) (omega arith) (low .image-of-sum2 .ensures)
 
 mul-dst : tie.Need-mul-dst Inv-loop μ-loop
 mul-dst c = omega (arith, high-lt (search), low-lt (search))

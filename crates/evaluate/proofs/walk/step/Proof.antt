@@ -1,53 +1,47 @@
--- `evaluate::walk::step` meets its contract. `place_of` ensures the stage or half and the table of lookup n. Where n is the first lookup and the last
--- is not behind the stop, `layer_in` makes them all (`all-advanced` of `laws.Calls`); else `lookup_in` makes one over its table, a part of the
--- set (`one-advanced`). What the two ask is laws of the place: its width, and that its tables lie within the set, which is no longer than `offsetLimit`.
--- They are over the sizes of a set, `ten` are those of the code, and over the byte that the row shift reads, which is the cipher's.
+-- `evaluate::walk::step` meets its contract. `place_of` ensures the place of lookup n. Where n is the first lookup of a stage or half and the last is not
+-- behind the stop, `layer_in` makes them all (`all-advanced` of `laws.Calls`); else `look_up_at` makes one there, which is lookup n (`lookup-made` of
+-- passes), and so a part of the move (`one-advanced`). What the two ask is laws of the place (`laws.Places` of passes): its width, and that its tables lie
+-- within the set.
 -- Assumes nothing.
-use Prim.Native.Nat.{_+_, _≤_}
-use Rattle.layout.specs.Stages.{tenSetBytes}
-use Rattle.layout.proofs.laws.Ten.{ten}
-use Rattle.evaluate.proofs.laws.Calls.{place-width, place-holds, part-within, part-fits, one-advanced, all-advanced}
+use Prim.Native.Nat.{_<_}
+use Rattle.layout.specs.Stages.{lookups}
+use Rattle.passes.proofs.laws.Places.{place-width, place-holds, stands-in, lookup-made}
+use Rattle.evaluate.proofs.laws.Calls.{one-advanced, all-advanced}
 use native.Mathlib.Omega.{arith}
 use borrow.Author.Needs.{needs}
 use Rattle.evaluate.proofs.walk.step.Statement.{statement}
 use Rattle.evaluate.proofs.walk.step.Tie as tie
 
--- the table of lookup n lies within the set
-within : (c : tie.After-place-of) → c .place-of .result .offset + c .place-of .result .size ≤ tenSetBytes
-within c = part-within ten _ _ (omega arith) (c .place-of .ensures)
+-- n is a lookup of the set
+within : (s : tie.Start) → s .args .n < lookups (s .args .rounds)
+within s = omega (arith, s .pre)
 
 lookups-of-requires : tie.Need-lookups-of-requires
 lookups-of-requires c κs =
     let place : tie.After-place-of = search in
-    place-width ten _ _ (omega arith) (place .place-of .ensures) _ (search)
+    place-width _ _ (within (search)) (place .place-of .ensures) (search)
 
 layer-in-requires : tie.Need-layer-in-requires
 layer-in-requires c κs =
     let first : tie.Then1 = search in
     let place : tie.After-place-of = search in
-    let entry : tie.Start = search in (
-      place-holds ten _ _ (omega arith) (place .place-of .ensures) _ (entry .pre .0) (omega arith) (first .if1 .taken),
-      entry .pre .4,
-      entry .pre .3,
-    )
+    let entry : tie.Start = search in
+    (place-holds _ _ (within entry) (place .place-of .ensures) (entry .pre .rounds) (entry .pre .sized) (first .if1 .taken), entry .pre .lent)
 
 returns : tie.Need-returns
-returns c = search (all-advanced, ten)
+returns c = search all-advanced
 
-add-to : tie.Need-add-to
-add-to c = omega (arith, within (search))
-
-part-lookup-in-end : tie.Need-part-lookup-in-end
-part-lookup-in-end c = omega (arith, within (search))
-
-lookup-in-requires : tie.Need-lookup-in-requires
-lookup-in-requires c κs =
+look-up-at-requires : tie.Need-look-up-at-requires
+look-up-at-requires c κs =
     let place : tie.After-place-of = search in
     let entry : tie.Start = search in
-    (part-fits ten _ _ (omega arith) (place .place-of .ensures) _ (entry .pre .0), omega (arith, within (search)), entry .pre .4, entry .pre .3)
+    (stands-in _ _ (within entry) (place .place-of .ensures) (entry .pre .rounds) (omega (arith, entry .pre .sized)), entry .pre .lent)
 
 returns-2 : tie.Need-returns-2
-returns-2 c = search (one-advanced, ten)
+returns-2 c =
+    let looked : tie.After-look-up-at = search in
+    let place : tie.After-place-of = search in
+    one-advanced (search) (lookup-made (within (search)) (place .place-of .ensures) (looked .look-up-at .ensures))
 
 -- ---- the needs that the search closes
 place-of-requires : tie.Need-place-of-requires
@@ -57,19 +51,13 @@ width-of-requires : tie.Need-width-of-requires
 width-of-requires c κs = search needs
 
 sub-if2 : tie.Need-sub-if2
-sub-if2 c = search needs
+sub-if2 c = omega arith
 
 add-end : tie.Need-add-end
-add-end c = search needs
-
-sub-lookup-in : tie.Need-sub-lookup-in
-sub-lookup-in c = search needs
-
-part-lookup-in-start : tie.Need-part-lookup-in-start
-part-lookup-in-start c = search needs
+add-end c = omega arith
 
 add-next : tie.Need-add-next
-add-next c = search needs
+add-next c = omega arith
 
 pub step-spec : {M : Type 1} → statement M
 step-spec =
@@ -82,10 +70,6 @@ step-spec =
     layer-in-requires
     add-end
     returns
-    add-to
-    sub-lookup-in
-    part-lookup-in-start
-    part-lookup-in-end
-    lookup-in-requires
+    look-up-at-requires
     add-next
     returns-2)

@@ -12,10 +12,10 @@ use Rattle.external.proofs.block.decode_nibbles.Statement.{statement}
 use Rattle.external.proofs.block.decode_nibbles.Tie as tie
 
 abbrev Inv-loop : tie.InvT-loop
-Inv-loop bundle first src dst₀ i₀ dst i = Filled 16 (byteBy decode (encodingOf 10 bundle) first src) dst i
+Inv-loop rounds bundle first src dst₀ i₀ dst i = Filled 16 (byteBy decode (encodingOf rounds bundle) first src) dst i
 
 abbrev μ-loop : tie.MeasureT-loop
-μ-loop bundle first src dst₀ i₀ dst i = 16 - i
+μ-loop rounds bundle first src dst₀ i₀ dst i = 16 - i
 
 loop-holds : tie.Need-loop-holds Inv-loop μ-loop
 loop-holds c = filled-none _ _ _ (search)
@@ -24,7 +24,7 @@ decoded-requires : tie.Need-decoded-requires Inv-loop μ-loop
 decoded-requires c κs =
     let turn : tie.In-loop Inv-loop μ-loop = search in
     let entry : tie.Start Inv-loop μ-loop = search in
-    let both = byte-permutations (encodingOf 10 _) (entry .args .first) (entry .pre .1) _ (turn .loop-test .taken) in
+    let both = byte-permutations (encodingOf _ _) (entry .args .first) (entry .pre .permutations) _ (turn .loop-test .taken) in
     (omega arith, both .0, both .1)
 
 loop-again : tie.Need-loop-again Inv-loop μ-loop

@@ -11,10 +11,10 @@ use Rattle.external.proofs.block.encode_nibbles.Statement.{statement}
 use Rattle.external.proofs.block.encode_nibbles.Tie as tie
 
 abbrev Inv-loop : tie.InvT-loop
-Inv-loop bundle first src dst₀ i₀ dst i = Filled 16 (byteBy encode (encodingOf 10 bundle) first src) dst i
+Inv-loop rounds bundle first src dst₀ i₀ dst i = Filled 16 (byteBy encode (encodingOf rounds bundle) first src) dst i
 
 abbrev μ-loop : tie.MeasureT-loop
-μ-loop bundle first src dst₀ i₀ dst i = 16 - i
+μ-loop rounds bundle first src dst₀ i₀ dst i = 16 - i
 
 loop-holds : tie.Need-loop-holds Inv-loop μ-loop
 loop-holds c = filled-none _ _ _ (search)

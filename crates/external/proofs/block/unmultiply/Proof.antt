@@ -13,14 +13,14 @@ returns c =
     let inverted : tie.After-invert-bytes = search in
     let bytes : tie.After-shared-slice-known = search in
     let entry : tie.Start = search in
-    multiplied-back _ (entry .pre .1) (λ i. bytes .shared-slice-known .given i .fits) _ _ _ _ (omega arith)
+    multiplied-back _ (entry .pre .inverse) (λ i. bytes .shared-slice-known .given i .fits) _ _ _ _ (omega arith)
     (inverted .invert-bytes .ensures .1) (times .times .ensures)
 
 returns-2 : tie.Need-returns-2
 returns-2 c =
     let inverted : tie.After-invert-bytes = search in
     let entry : tie.Start = search in
-    absurd (never-singular _ (entry .pre .1) _ (inverted .invert-bytes .ensures .0) (c .if1 .left))
+    absurd (never-singular _ (entry .pre .inverse) _ (inverted .invert-bytes .ensures .0) (c .if1 .left))
 
 -- ---- the needs that the search closes
 slice-aggregate-invert-bytes : tie.Need-slice-aggregate-invert-bytes

@@ -5,7 +5,6 @@
 -- Assumes nothing.
 use mathlib.Core.Path.{refl}
 use Rattle.external.proofs.laws.Code.{accepted-ready, called-encodings, nibbles-long, decoded-by, refused}
-use Rattle.external.proofs.laws.Coding.{output-first}
 use borrow.Author.Needs.{needs}
 use Rattle.external.proofs.coding.decode_by.Statement.{statement}
 use Rattle.external.proofs.coding.decode_by.Tie as tie
@@ -16,8 +15,8 @@ decode-nibbles-requires c κs =
     let bytes : tie.After-shared-slice-known = search in
     let entry : tie.Start = search in
     let ready = accepted-ready (answer .ready .ensures) (search) in
-    let permutations = called-encodings 10 _ (λ i. bytes .shared-slice-known .given i .fits) (ready .judged) output-first _ (entry .pre .0) in
-    ((entry .pre .0, ready .long, refl), permutations)
+    let permutations = called-encodings _ _ (λ i. bytes .shared-slice-known .given i .fits) (ready .judged) refl _ (entry .pre .codes .inside) in
+    record { small = entry .pre .codes .small; read = ready .long; written = refl; permutations = permutations }
 
 unmultiply-requires : tie.Need-unmultiply-requires
 unmultiply-requires c κs =
@@ -25,8 +24,12 @@ unmultiply-requires c κs =
     let answer : tie.After-ready = search in
     let entry : tie.Start = search in
     let ready = accepted-ready (answer .ready .ensures) (search) in
-    let matrix = entry .pre .1 (ready .judged) in
-    ((matrix .0, nibbles-long _ _ _ _ (decoded .decode-nibbles .ensures), ready .room), matrix .1)
+    record {
+      matrix = entry .pre .codes .matrix (ready .judged);
+      read = nibbles-long _ _ _ _ (decoded .decode-nibbles .ensures);
+      written = ready .room;
+      inverse = entry .pre .inverse (ready .judged);
+    }
 
 returns : tie.Need-returns
 returns c =

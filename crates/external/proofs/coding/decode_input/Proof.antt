@@ -1,7 +1,8 @@
 -- `external::coding::decode_input`: `decode_by` with the bundle's input matrix and the encodings from 0 on, which is the input coding taken off
--- (`input-decoded` of `laws.Code`). The matrix of an accepted bundle has its 2,048 bytes and an inverse (`input-has`).
+-- (`input-decoded` of `laws.Code`). The matrix of an accepted bundle has its 2,048 bytes (`input-long`) and an inverse
+-- (`input-has`).
 -- Assumes nothing.
-use Rattle.external.proofs.laws.Code.{input-has, input-decoded}
+use Rattle.external.proofs.laws.Code.{input-long, input-has, input-decoded}
 use native.Mathlib.Omega.{arith}
 use borrow.Author.Needs.{needs}
 use Rattle.external.proofs.coding.decode_input.Statement.{statement}
@@ -11,7 +12,10 @@ decode-by-requires : tie.Need-decode-by-requires
 decode-by-requires c κs =
     let part : tie.After-input-matrix-part = search in
     let bytes : tie.After-shared-slice-known = search in
-    (omega arith, input-has _ _ (part .input-matrix-part .ensures) (λ i. bytes .shared-slice-known .given i .fits))
+    record {
+      codes = record { inside = omega arith; small = omega arith; matrix = input-long _ _ (part .input-matrix-part .ensures) };
+      inverse = input-has _ _ (part .input-matrix-part .ensures) (λ i. bytes .shared-slice-known .given i .fits);
+    }
 
 returns : tie.Need-returns
 returns c =

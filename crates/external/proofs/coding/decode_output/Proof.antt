@@ -1,7 +1,8 @@
 -- `external::coding::decode_output`: `decode_by` with the bundle's output matrix and the encodings from 6,016 on, which is the output coding taken off
--- (`output-decoded` of `laws.Code`). The matrix of an accepted bundle has its 2,048 bytes and an inverse (`output-has`).
+-- (`output-decoded` of `laws.Code`). The matrix of an accepted bundle has its 2,048 bytes (`output-long`) and an inverse
+-- (`output-has`).
 -- Assumes nothing.
-use Rattle.external.proofs.laws.Code.{output-has, output-decoded}
+use Rattle.external.proofs.laws.Code.{output-long, output-has, output-decoded}
 use Rattle.external.proofs.laws.Coding.{output-first}
 use native.Mathlib.Omega.{arith}
 use borrow.Author.Needs.{needs}
@@ -12,7 +13,10 @@ decode-by-requires : tie.Need-decode-by-requires
 decode-by-requires c κs =
     let part : tie.After-output-matrix-part = search in
     let bytes : tie.After-shared-slice-known = search in
-    (omega arith, output-has _ _ (part .output-matrix-part .ensures) (λ i. bytes .shared-slice-known .given i .fits))
+    record {
+      codes = record { inside = omega (arith, output-first); small = omega arith; matrix = output-long _ _ (part .output-matrix-part .ensures) };
+      inverse = output-has _ _ (part .output-matrix-part .ensures) (λ i. bytes .shared-slice-known .given i .fits);
+    }
 
 returns : tie.Need-returns
 returns c =

@@ -13,7 +13,7 @@ multiply-requires c κs =
     let answer : tie.After-ready = search in
     let entry : tie.Start = search in
     let ready = accepted-ready (answer .ready .ensures) (search) in
-    (entry .pre .1 (ready .judged), ready .long, refl)
+    (entry .pre .matrix (ready .judged), ready .long, refl)
 
 encode-nibbles-requires : tie.Need-encode-nibbles-requires
 encode-nibbles-requires c κs =
@@ -21,7 +21,7 @@ encode-nibbles-requires c κs =
     let answer : tie.After-ready = search in
     let entry : tie.Start = search in
     let ready = accepted-ready (answer .ready .ensures) (search) in
-    (entry .pre .0, multiply-long _ _ _ (product .multiply .ensures), ready .room)
+    (entry .pre .small, multiply-long _ _ _ (product .multiply .ensures), ready .room)
 
 returns : tie.Need-returns
 returns c =

@@ -10,7 +10,7 @@ use Rattle.external.proofs.coding.encode_input.Tie as tie
 encode-by-requires : tie.Need-encode-by-requires
 encode-by-requires c κs =
     let part : tie.After-input-matrix-part = search in
-    (omega arith, input-long _ _ (part .input-matrix-part .ensures))
+    record { inside = omega arith; small = omega arith; matrix = input-long _ _ (part .input-matrix-part .ensures) }
 
 returns : tie.Need-returns
 returns c =

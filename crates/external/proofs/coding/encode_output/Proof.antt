@@ -11,7 +11,7 @@ use Rattle.external.proofs.coding.encode_output.Tie as tie
 encode-by-requires : tie.Need-encode-by-requires
 encode-by-requires c κs =
     let part : tie.After-output-matrix-part = search in
-    (omega arith, output-long _ _ (part .output-matrix-part .ensures))
+    record { inside = omega (arith, output-first); small = omega arith; matrix = output-long _ _ (part .output-matrix-part .ensures) }
 
 returns : tie.Need-returns
 returns c =

@@ -9,13 +9,13 @@ use Rattle.host.proofs.entry.tazhikko_catalogue_entry.Tie as tie
 returns : tie.Need-returns
 returns c =
     let given : tie.After-entry-at = search in
-    entry-told _ (given .entry-at .ensures) _ (search) (c .number .ensures)
+    entry-told _ (given .entry-at .ensures .result) _ (search) (c .number .ensures)
 
 returns-2 : tie.Need-returns-2
 returns-2 c =
     let given : tie.After-entry-at = search in
     let known : tie.After-r = search in
-    entry-kept _ (given .entry-at .ensures) _ {why = known .r .given .0 .0} (search) (c .number2 .ensures)
+    entry-kept _ (given .entry-at .ensures .result) _ {why = known .r .given .0 .0} (search) (c .number2 .ensures)
 
 -- ---- the needs that the search closes
 entry-at-requires : tie.Need-entry-at-requires

@@ -36,7 +36,7 @@ returns c =
 
 -- ---- the needs that the search closes
 coefficient-requires : tie.Need-coefficient-requires Inv-loop μ-loop
-coefficient-requires c κs = omega arith
+coefficient-requires c κs = record { within = omega arith; room = omega arith; column = omega arith; row = omega arith }
 
 add-i : tie.Need-add-i Inv-loop μ-loop
 add-i c = omega arith

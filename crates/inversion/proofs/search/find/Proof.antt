@@ -32,13 +32,13 @@ mul-row : tie.Need-mul-row Inv-loop μ-loop
 mul-row c =
     let turn : tie.In-loop Inv-loop μ-loop = search in
     let entry : tie.Start Inv-loop μ-loop = search in
-    omega (arith, row-small (entry .pre .2) (turn .loop-test .taken) (entry .pre .0))
+    omega (arith, row-small (entry .pre .step-most) (turn .loop-test .taken) (entry .pre .within))
 
 row-requires : tie.Need-row-requires Inv-loop μ-loop
 row-requires c κs =
     let turn : tie.In-loop Inv-loop μ-loop = search in
     let entry : tie.Start Inv-loop μ-loop = search in
-    row-fits (entry .pre .2) (turn .loop-test .taken) (entry .pre .3) (entry .pre .1)
+    row-fits (entry .pre .step-most) (turn .loop-test .taken) (entry .pre .step-some) (entry .pre .room)
 
 -- ---- the needs that the search closes
 sub-digit : tie.Need-sub-digit Inv-loop μ-loop

@@ -19,29 +19,29 @@ Output = tie.After-no-inverse2
 no-inverse-requires : tie.Need-no-inverse-requires
 no-inverse-requires c κs =
     let entry : tie.Start = search in
-    (omega arith, block-room 10 _ 3 (entry .pre) (omega arith) (omega arith) _ (c .input-matrix-part .ensures))
+    (omega arith, block-room _ _ 3 (entry .pre) (omega arith) (omega arith) _ (c .input-matrix-part .ensures))
 
 returns : tie.Need-returns
 returns c =
     let input : Input = search in
-    blocks-input 10 _ (search) (input .no-inverse .ensures) (c .if1 .taken)
+    blocks-input _ _ (search) (input .no-inverse .ensures) (c .if1 .taken)
 
 no-inverse-requires-2 : tie.Need-no-inverse-requires-2
 no-inverse-requires-2 c κs =
     let entry : tie.Start = search in
-    (omega arith, block-room 10 _ 4 (entry .pre) (omega arith) (omega arith) _ (c .output-matrix-part .ensures))
+    (omega arith, block-room _ _ 4 (entry .pre) (omega arith) (omega arith) _ (c .output-matrix-part .ensures))
 
 returns-2 : tie.Need-returns-2
 returns-2 c =
     let output : Output = search in
     let input : Input = search in
-    blocks-output 10 _ (search) (input .no-inverse .ensures) (search) (search) (output .no-inverse2 .ensures) (c .if2 .taken)
+    blocks-output _ _ (search) (input .no-inverse .ensures) (search) (search) (output .no-inverse2 .ensures) (c .if2 .taken)
 
 returns-3 : tie.Need-returns-3
 returns-3 c =
     let output : Output = search in
     let input : Input = search in
-    blocks-good 10 _ (search) (input .no-inverse .ensures) (search) (search) (output .no-inverse2 .ensures) (c .if2 .left)
+    blocks-good _ _ (search) (input .no-inverse .ensures) (search) (search) (output .no-inverse2 .ensures) (c .if2 .left)
 
 -- ---- the needs that the search closes
 input-matrix-part-requires : tie.Need-input-matrix-part-requires

@@ -11,35 +11,35 @@ use Rattle.judgement.proofs.judge.judge_bundle.Tie as tie
 returns : tie.Need-returns
 returns c =
     let refused : tie.After-r = search in
-    judge-frame 10 _ (search) (refused .r .given .1)
+    judge-frame _ _ (search) (refused .r .given .1)
 
 judge-encodings-requires : tie.Need-judge-encodings-requires
 judge-encodings-requires c κs =
     let framed : tie.After-enum-told = search in
-    frame-accepted 10 _ (search) (framed .enum-told .given .1)
+    frame-accepted _ _ (search) (framed .enum-told .given .1)
 
 returns-2 : tie.Need-returns-2
 returns-2 c =
     let refused : tie.After-r2 = search in
     let frame : tie.After-enum-told = search in
-    judge-encodings 10 _ (search) (frame .enum-told .given .1) (search) (refused .r2 .given .1)
+    judge-encodings _ _ (search) (frame .enum-told .given .1) (search) (refused .r2 .given .1)
 
 judge-byte-matrices-requires : tie.Need-judge-byte-matrices-requires
 judge-byte-matrices-requires c κs =
     let framed : tie.After-enum-told = search in
-    frame-accepted 10 _ (search) (framed .enum-told .given .1)
+    frame-accepted _ _ (search) (framed .enum-told .given .1)
 
 returns-3 : tie.Need-returns-3
 returns-3 c =
     let refused : tie.After-r3 = search in
     let encodings : tie.After-enum-told2 = search in
     let frame : tie.After-enum-told = search in
-    judge-bytes 10 _ (search) (frame .enum-told .given .1) (search) (encodings .enum-told2 .given .1) (search) (refused .r3 .given .1)
+    judge-bytes _ _ (search) (frame .enum-told .given .1) (search) (encodings .enum-told2 .given .1) (search) (refused .r3 .given .1)
 
 judge-column-matrices-requires : tie.Need-judge-column-matrices-requires
 judge-column-matrices-requires c κs =
     let framed : tie.After-enum-told = search in
-    frame-accepted 10 _ (search) (framed .enum-told .given .1)
+    frame-accepted _ _ (search) (framed .enum-told .given .1)
 
 returns-4 : tie.Need-returns-4
 returns-4 c =
@@ -47,13 +47,13 @@ returns-4 c =
     let bytes : tie.After-enum-told3 = search in
     let encodings : tie.After-enum-told2 = search in
     let frame : tie.After-enum-told = search in
-    judge-columns 10 _ (search) (frame .enum-told .given .1) (search) (encodings .enum-told2 .given .1) (search) (bytes .enum-told3 .given .1)
+    judge-columns _ _ (search) (frame .enum-told .given .1) (search) (encodings .enum-told2 .given .1) (search) (bytes .enum-told3 .given .1)
     (search) (refused .r4 .given .1)
 
 judge-block-matrices-requires : tie.Need-judge-block-matrices-requires
 judge-block-matrices-requires c κs =
     let framed : tie.After-enum-told = search in
-    frame-accepted 10 _ (search) (framed .enum-told .given .1)
+    frame-accepted _ _ (search) (framed .enum-told .given .1)
 
 returns-5 : tie.Need-returns-5
 returns-5 c =
@@ -61,7 +61,7 @@ returns-5 c =
     let bytes : tie.After-enum-told3 = search in
     let encodings : tie.After-enum-told2 = search in
     let frame : tie.After-enum-told = search in
-    judge-blocks 10 _ (search) (frame .enum-told .given .1) (search) (encodings .enum-told2 .given .1) (search) (bytes .enum-told3 .given .1)
+    judge-blocks _ _ (search) (frame .enum-told .given .1) (search) (encodings .enum-told2 .given .1) (search) (bytes .enum-told3 .given .1)
     (search) (columns .enum-told4 .given .1) (c .judge-block-matrices .ensures)
 
 -- ---- the needs that the search closes

@@ -16,19 +16,19 @@ first-bad-matrix-requires : tie.Need-first-bad-matrix-requires
 unfolding partSize
 first-bad-matrix-requires c κs =
     let entry : tie.Start = search in
-    (entry .pre, omega arith, omega arith, refl)
+    record { framed = entry .pre; there = omega arith; narrow = omega arith; square = refl }
 
 returns : tie.Need-returns
 returns c =
     let bad : tie.After-n = search in
     let found : tie.After-first-bad-matrix = search in
-    found-refuses _ ColumnMatrix _ (bad .n .given .1) ∙ columns-judged 10 _ (found .first-bad-matrix .ensures)
+    found-refuses _ ColumnMatrix _ (bad .n .given .1) ∙ columns-judged _ _ (found .first-bad-matrix .ensures)
 
 returns-2 : tie.Need-returns-2
 returns-2 c =
     let none : tie.After-enum-told = search in
     let found : tie.After-first-bad-matrix = search in
-    found-passes _ ColumnMatrix (none .enum-told .given .1) ∙ columns-judged 10 _ (found .first-bad-matrix .ensures)
+    found-passes _ ColumnMatrix (none .enum-told .given .1) ∙ columns-judged _ _ (found .first-bad-matrix .ensures)
 
 -- ---- the needs that the search closes
 enum-known-n : tie.Need-enum-known-n

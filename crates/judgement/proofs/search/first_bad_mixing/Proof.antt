@@ -20,7 +20,7 @@ abbrev μ-loop : tie.MeasureT-loop
 
 -- matrix k ends within the section
 fits : (entry : tie.Start Inv-loop μ-loop) {k : ℕ} → k < entry .args .count → k * entry .args .size + entry .args .size ≤ length (entry .args .s .now)
-fits entry h = parts-within _ _ _ _ h (entry .pre .3)
+fits entry h = parts-within _ _ _ _ h (entry .pre .room)
 
 loop-holds : tie.Need-loop-holds Inv-loop μ-loop
 loop-holds c = search searched-none
@@ -38,7 +38,7 @@ mixing-bad-requires : tie.Need-mixing-bad-requires Inv-loop μ-loop
 mixing-bad-requires c κs =
     let entry : tie.Start Inv-loop μ-loop = search in
     let inside = fits entry (c .before .loop-test .taken) in
-    (entry .pre .0, rw (← entry .pre .1) (simp (length-take, length-drop) (omega arith)))
+    (entry .pre .narrow, rw (← entry .pre .square) (simp (length-take, length-drop) (omega arith)))
 
 returns : tie.Need-returns Inv-loop μ-loop
 returns c =

@@ -11,14 +11,14 @@ returns c =
     let inverted : tie.After-invert-bytes = search in
     let known : tie.After-shared-slice-known = search in
     let entry : tie.Start = search in
-    inverse-words _ (entry .args .p .now) (λ i. known .shared-slice-known .given i .fits) _ _ (entry .pre .3) (entry .pre .2) (inverted .invert-bytes .ensures .1)
+    inverse-words _ (entry .args .p .now) (λ i. known .shared-slice-known .given i .fits) _ _ (entry .pre .invertible) (entry .pre .room) (inverted .invert-bytes .ensures .1)
 
 returns-2 : tie.Need-returns-2
 returns-2 c =
     let inverted : tie.After-invert-bytes2 = search in
     let known : tie.After-shared-slice-known = search in
     let entry : tie.Start = search in
-    inverse-words _ (entry .args .p .now) (λ i. known .shared-slice-known .given i .fits) _ _ (entry .pre .3) (entry .pre .2) (inverted .invert-bytes2 .ensures .1)
+    inverse-words _ (entry .args .p .now) (λ i. known .shared-slice-known .given i .fits) _ _ (entry .pre .invertible) (entry .pre .room) (inverted .invert-bytes2 .ensures .1)
 
 -- ---- the needs that the search closes
 invert-bytes-requires : tie.Need-invert-bytes-requires

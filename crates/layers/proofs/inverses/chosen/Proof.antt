@@ -3,8 +3,9 @@
 -- round is in range by the `requires` (`round-second`), so the number of its column matrix is too and its words are among those of `columns`.
 -- Assumes nothing.
 use mathlib.Core.Path.{refl}
+use Prim.Native.Nat.{_-_, _*_, _<_}
 use Rattle.layers.proofs.laws.Inverses.{chosen-xor, chosen-spread, chosen-second}
-use Rattle.layers.proofs.laws.Numbers.{round-second}
+use Rattle.layout.proofs.laws.Numbers.{round-second}
 use native.Mathlib.Omega.{arith}
 use borrow.Author.Needs.{needs}
 use Rattle.layers.proofs.inverses.chosen.Statement.{statement}
@@ -27,12 +28,19 @@ column-number-requires : tie.Need-column-number-requires
 column-number-requires c κs =
     let half : tie.After-s = search in
     let entry : tie.Start = search in
-    omega (arith, round-second 10 (half .s .given .1) (entry .pre .1))
+    omega (arith, entry .pre .0, round-second _ (half .s .given .1) (entry .pre .2))
+
+-- the number of a column matrix
+below : (c : tie.After-column-number) → let entry : tie.Start = search in c .column-number .result < 4 * (entry .args .rounds - 1)
+below c =
+    let half : tie.After-s = search in
+    let entry : tie.Start = search in
+    omega (arith, c .column-number .ensures .1, round-second _ (half .s .given .1) (entry .pre .2))
 
 part-result-end : tie.Need-part-result-end
 part-result-end c =
     let entry : tie.Start = search in
-    omega (arith, entry .pre .0)
+    omega (arith, entry .pre, below (search))
 
 returns-4 : tie.Need-returns-4
 returns-4 c =
@@ -62,13 +70,13 @@ enum-known-s : tie.Need-enum-known-s
 enum-known-s c = search needs
 
 mul-a : tie.Need-mul-a
-mul-a c = omega arith
+mul-a c = omega (arith, below (search))
 
 add-e : tie.Need-add-e
-add-e c = omega arith
+add-e c = omega (arith, below (search))
 
 mul-result : tie.Need-mul-result
-mul-result c = omega arith
+mul-result c = omega (arith, below (search))
 
 sub-result : tie.Need-sub-result
 sub-result c = search needs

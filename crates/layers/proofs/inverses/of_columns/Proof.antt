@@ -2,21 +2,20 @@
 -- 64 words each. A turn lends the next 64 words and `of_column` fills them (`columns-more` of `laws.Inverses`); behind the last these
 -- are the inverses of all (`parts-all`). The measure is the number of matrices left.
 -- Assumes nothing.
-use Prim.Native.Nat.{_-_}
+use Prim.Native.Nat.{_-_, _*_}
 use Rattle.bits.proofs.laws.Parts.{Parts, parts-none, part-lent, parts-all}
 use Rattle.bundle.specs.Format.{columnMatrices}
-use Rattle.bundle.specs.Format.{tenColumnMatrices}
 use Rattle.layers.specs.Layers.{columnWords, columnInverse, columnInverses}
-use Rattle.layers.proofs.laws.Inverses.{columns-more}
+use Rattle.layers.proofs.laws.Inverses.{column-below, columns-more}
 use native.Mathlib.Omega.{arith}
 use Rattle.layers.proofs.inverses.of_columns.Statement.{statement}
 use Rattle.layers.proofs.inverses.of_columns.Tie as tie
 
 abbrev Inv-loop : tie.InvT-loop
-Inv-loop bundle dst₀ n₀ dst n = Parts tenColumnMatrices columnWords (columnInverse 10 bundle) dst₀ dst n
+Inv-loop rounds bundle starts dst₀ count n₀ dst n = Parts (4 * (rounds - 1)) columnWords (columnInverse rounds bundle) dst₀ dst n
 
 abbrev μ-loop : tie.MeasureT-loop
-μ-loop bundle dst₀ n₀ dst n = tenColumnMatrices - n
+μ-loop rounds bundle starts dst₀ count n₀ dst n = 4 * (rounds - 1) - n
 
 loop-holds : tie.Need-loop-holds Inv-loop μ-loop
 loop-holds c = parts-none (omega arith)
@@ -25,13 +24,13 @@ of-column-requires : tie.Need-of-column-requires Inv-loop μ-loop
 of-column-requires c κs =
     let turn : tie.In-loop Inv-loop μ-loop = search in
     let entry : tie.Start Inv-loop μ-loop = search in
-    (entry .pre .0, turn .loop-test .taken, omega (arith, part-lent (turn .before .loop .inv) (turn .loop-test .taken)))
+    (entry .pre .0, column-below _ (turn .loop-test .taken), omega (arith, part-lent (turn .before .loop .inv) (turn .loop-test .taken)))
 
 loop-again : tie.Need-loop-again Inv-loop μ-loop
 loop-again c =
     let call : tie.After-of-column Inv-loop μ-loop = search in
     let turn : tie.In-loop Inv-loop μ-loop = search in
-    columns-more 10 _ _ _ _ _ _ (turn .before .loop .inv) (turn .loop-test .taken) (call .of-column .kept .1 .1 .0) (call .of-column .ensures)
+    columns-more _ _ _ _ _ _ _ (turn .before .loop .inv) (turn .loop-test .taken) (call .of-column .kept .1 .1 .1 .1 .0) (call .of-column .ensures)
 
 returns : tie.Need-returns Inv-loop μ-loop
 unfolding columnInverses columnMatrices
@@ -42,6 +41,12 @@ returns c =
     parts-all (inverted .loop .inv) (all .loop-test .left) (entry .pre .1)
 
 -- ---- the needs that the search closes
+sub-count : tie.Need-sub-count Inv-loop μ-loop
+sub-count c = omega arith
+
+mul-count : tie.Need-mul-count Inv-loop μ-loop
+mul-count c = omega arith
+
 mul-a : tie.Need-mul-a Inv-loop μ-loop
 mul-a c = omega arith
 
@@ -75,6 +80,8 @@ of-columns-spec =
     (tie.spec
     Inv-loop
     μ-loop
+    sub-count
+    mul-count
     loop-holds
     mul-a
     add-e

@@ -8,26 +8,26 @@ use Rattle.layers.proofs.inverses.of_input.Tie as tie
 
 read-requires : tie.Need-read-requires
 read-requires c κs =
-    let part : tie.After-input-matrix-part = search in
+    let part : tie.After-part = search in
     let bytes : tie.After-shared-slice-known = search in
     let entry : tie.Start = search in
-    let known = input-part 10 _ _ (λ i. bytes .shared-slice-known .given i .fits) (entry .pre .0) (part .input-matrix-part .ensures) in
+    let known = input-part _ _ _ (λ i. bytes .shared-slice-known .given i .fits) (entry .pre .0 .accepted) (part .part .ensures) in
     search needs
 
 returns : tie.Need-returns
 returns c =
     let call : tie.After-read = search in
-    let part : tie.After-input-matrix-part = search in
+    let part : tie.After-part = search in
     let entry : tie.Start = search in
-    input-inverse 10 _ _ (entry .args .dst .now) _ (part .input-matrix-part .ensures) (entry .pre .1) (call .read .ensures)
+    input-inverse _ _ _ (entry .args .dst .now) _ (part .part .ensures) (entry .pre .1) (call .read .ensures)
 
 -- ---- the needs that the search closes
-input-matrix-part-requires : tie.Need-input-matrix-part-requires
-input-matrix-part-requires c κs = search needs
+part-requires : tie.Need-part-requires
+part-requires c κs = search needs
 
 same-length : tie.Need-same-length
 same-length c = search needs
 
 pub of-input-spec : {M : Type 1} → statement M
 of-input-spec =
-    tie.close (tie.spec input-matrix-part-requires read-requires same-length returns)
+    tie.close (tie.spec part-requires read-requires same-length returns)

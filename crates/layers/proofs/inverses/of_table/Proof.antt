@@ -3,15 +3,15 @@
 -- (`made-none`), and from table 16 on with none (`made-xor`). A second half's round is in range by the `requires` (`round-second`).
 -- Assumes nothing.
 use mathlib.Core.Path.{refl}
-use Rattle.layers.proofs.laws.Inverses.{made-entry, made-second, made-xor, made-none}
-use Rattle.layers.proofs.laws.Numbers.{round-second}
+use Rattle.layers.proofs.laws.Inverses.{column-below, made-entry, made-second, made-xor, made-none}
+use Rattle.layout.proofs.laws.Numbers.{round-second}
 use native.Mathlib.Omega.{arith}
 use borrow.Author.Needs.{needs}
 use Rattle.layers.proofs.inverses.of_table.Statement.{statement}
 use Rattle.layers.proofs.inverses.of_table.Tie as tie
 
 returns : tie.Need-returns
-returns c = made-xor 10 _ _ _ _ _ (c .if1 .taken) refl
+returns c = made-xor _ _ _ _ _ _ (c .if1 .taken) refl
 
 returns-2 : tie.Need-returns-2
 returns-2 c =
@@ -19,24 +19,25 @@ returns-2 c =
     let told : tie.After-enum-told = search in
     let spread : tie.Else1 = search in
     let entry : tie.Start = search in
-    made-entry 10 _ _ _ _ _ (spread .if1 .left) (told .enum-told .given .1) (entry .pre .2) (call .of-input .ensures)
+    made-entry _ _ _ _ _ _ (spread .if1 .left) (told .enum-told .given .1) (entry .pre .2) (call .of-input .ensures)
 
 returns-3 : tie.Need-returns-3
 returns-3 c =
     let spread : tie.Else1 = search in
-    made-none 10 _ _ _ _ _ _ (spread .if1 .left) (c .enum-told2 .given .1) refl refl
+    made-none _ _ _ _ _ _ _ (spread .if1 .left) (c .enum-told2 .given .1) refl refl
 
 column-number-requires : tie.Need-column-number-requires
 column-number-requires c κs =
     let half : tie.After-s = search in
     let entry : tie.Start = search in
-    omega (arith, round-second 10 (half .s .given .1) (entry .pre .1))
+    omega (arith, entry .pre .0, round-second _ (half .s .given .1) (entry .pre .1))
 
 of-column-requires : tie.Need-of-column-requires
 of-column-requires c κs =
+    let half : tie.After-s = search in
     let number : tie.After-column-number = search in
     let entry : tie.Start = search in
-    (entry .pre .0, number .column-number .ensures .1, omega (arith, entry .pre))
+    (entry .pre .0, column-below _ (omega (arith, number .column-number .ensures .1, round-second _ (half .s .given .1) (entry .pre .1))), omega (arith, entry .pre))
 
 returns-4 : tie.Need-returns-4
 returns-4 c =
@@ -44,17 +45,17 @@ returns-4 c =
     let number : tie.After-column-number = search in
     let half : tie.After-s = search in
     let spread : tie.Else1 = search in
-    made-second 10 _ _ _ _ _ _ _ (spread .if1 .left) (half .s .given .1) (number .column-number .ensures .0) (call .of-column .ensures)
+    made-second _ _ _ _ _ _ _ _ (spread .if1 .left) (half .s .given .1) (number .column-number .ensures .0) (call .of-column .ensures)
 
 returns-5 : tie.Need-returns-5
 returns-5 c =
     let spread : tie.Else1 = search in
-    made-none 10 _ _ _ _ _ _ (spread .if1 .left) (c .enum-told3 .given .1) refl refl
+    made-none _ _ _ _ _ _ _ (spread .if1 .left) (c .enum-told3 .given .1) refl refl
 
 returns-6 : tie.Need-returns-6
 returns-6 c =
     let spread : tie.Else1 = search in
-    made-none 10 _ _ _ _ _ _ (spread .if1 .left) (c .enum-told4 .given .1) refl refl
+    made-none _ _ _ _ _ _ _ (spread .if1 .left) (c .enum-told4 .given .1) refl refl
 
 -- ---- the needs that the search closes
 enum-told : tie.Need-enum-told

@@ -26,31 +26,33 @@ returns c =
     let behind : tie.After-key-behind = search in
     let before : tie.After-key-before = search in
     let inverse : tie.After-read = search in
-    let part : tie.After-byte-matrix-part = search in
+    let part : tie.After-part = search in
     let position : tie.After-reads-of = search in
     let entry : tie.Start = search in
     let keys = entry .args .keys .now in
     let cipher = entry .args .cipher in
-    behind-is 10 _ _ _ _ (entry .pre .2) (entry .pre .3) (position .reads-of .ensures .1) (part .byte-matrix-part .ensures)
-    (partsFor cipher 10 keys) _ (entry .args .read .now) _ _ _ _ _ _ (parts-substitute 10 keys cipher)
-    (position .reads-of .ensures .0 ∙ ap (λ (reads : ℕ → ℕ). reads (entry .args .p)) (sym (parts-read 10 keys cipher)))
+    let nr = entry .args .rounds in
+    let at = entry .pre .place in
+    behind-is nr _ _ _ _ (at .least) (at .most) (position .reads-of .ensures .1) (part .part .ensures)
+    (partsFor cipher nr keys) _ (entry .args .read .now) _ _ _ _ _ _ (parts-substitute nr keys cipher)
+    (position .reads-of .ensures .0 ∙ ap (λ (reads : ℕ → ℕ). reads (entry .args .p)) (sym (parts-read nr keys cipher)))
     (inverse .read .ensures) (before .key-before .ensures) (behind .key-behind .ensures) (filled .substitute .ensures)
 
 -- ---- the needs that the search closes
 reads-of-requires : tie.Need-reads-of-requires
 reads-of-requires c κs = search needs
 
-sub-byte-matrix-part : tie.Need-sub-byte-matrix-part
-sub-byte-matrix-part c = search needs
+sub-number : tie.Need-sub-number
+sub-number c = search needs
 
-mul-byte-matrix-part : tie.Need-mul-byte-matrix-part
-mul-byte-matrix-part c = search needs
+mul-number : tie.Need-mul-number
+mul-number c = search needs
 
-add-byte-matrix-part : tie.Need-add-byte-matrix-part
-add-byte-matrix-part c = search needs
+add-number : tie.Need-add-number
+add-number c = search needs
 
-byte-matrix-part-requires : tie.Need-byte-matrix-part-requires
-byte-matrix-part-requires c κs = search needs
+part-requires : tie.Need-part-requires
+part-requires c κs = search needs
 
 slice-aggregate-read : tie.Need-slice-aggregate-read
 slice-aggregate-read c = search needs
@@ -75,10 +77,10 @@ behind-sbox-spec =
     tie.close
     (tie.spec
     reads-of-requires
-    sub-byte-matrix-part
-    mul-byte-matrix-part
-    add-byte-matrix-part
-    byte-matrix-part-requires
+    sub-number
+    mul-number
+    add-number
+    part-requires
     slice-aggregate-read
     read-requires
     key-before-requires

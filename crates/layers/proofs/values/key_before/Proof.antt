@@ -1,4 +1,4 @@
--- `layers::values::key_before` has three ways out: round key r−1 for the forward cipher (`before-forward` of `laws.Keys`); for the inverse cipher round key 10 in
+-- `layers::values::key_before` has three ways out: round key r−1 for the forward cipher (`before-forward` of `laws.Keys`); for the inverse cipher the last round key in
 -- round 1 (`before-first`), and nothing in the others (`before-none`).
 -- Assumes nothing.
 use Rattle.layers.proofs.laws.Keys.{before-forward, before-first, before-none}
@@ -7,13 +7,13 @@ use Rattle.layers.proofs.values.key_before.Statement.{statement}
 use Rattle.layers.proofs.values.key_before.Tie as tie
 
 returns : tie.Need-returns
-returns c = search (before-forward 10)
+returns c = search before-forward
 
 returns-2 : tie.Need-returns-2
-returns-2 c = search (before-first 10)
+returns-2 c = search before-first
 
 returns-3 : tie.Need-returns-3
-returns-3 c = search (before-none 10)
+returns-3 c = search before-none
 
 -- ---- the needs that the search closes
 sub-key-byte : tie.Need-sub-key-byte

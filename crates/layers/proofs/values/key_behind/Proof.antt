@@ -1,5 +1,5 @@
--- `layers::values::key_behind` has three ways out: for the inverse cipher round key 10−r (`behind-inverse` of `laws.Keys`); for the forward cipher round key 10 in
--- round 10 (`behind-last`), and nothing in the others (`behind-none`).
+-- `layers::values::key_behind` has three ways out: for the inverse cipher round key nr−r (`behind-inverse` of `laws.Keys`); for the forward cipher the last round
+-- key in the last round (`behind-last`), and nothing in the others (`behind-none`).
 -- Assumes nothing.
 use Rattle.layers.proofs.laws.Keys.{behind-inverse, behind-last, behind-none}
 use borrow.Author.Needs.{needs}
@@ -7,13 +7,13 @@ use Rattle.layers.proofs.values.key_behind.Statement.{statement}
 use Rattle.layers.proofs.values.key_behind.Tie as tie
 
 returns : tie.Need-returns
-returns c = search (behind-inverse 10)
+returns c = search behind-inverse
 
 returns-2 : tie.Need-returns-2
-returns-2 c = search (behind-last 10)
+returns-2 c = search behind-last
 
 returns-3 : tie.Need-returns-3
-returns-3 c = search (behind-none 10)
+returns-3 c = search behind-none
 
 -- ---- the needs that the search closes
 sub-key-byte : tie.Need-sub-key-byte

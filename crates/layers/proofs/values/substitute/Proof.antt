@@ -1,5 +1,5 @@
 -- `layers::values::substitute` fills the 256 places. The loop's invariant is `Filled` of `bits`: place k has byte k of `read` behind the cipher's S-box
--- (`behindAt` of `laws.Values`). A turn puts one more byte through the products of its nibbles and the S-box as a table, which
+-- (`behindAt`). A turn puts one more byte through the products of its nibbles and the S-box as a table, which
 -- `columns`, `nibble_words` and `sbox_of` have made (`prepared`, `substituted-more`); behind the last the list is whole (`filled-all`). The sum that is looked up
 -- is a byte since `before` is one.
 -- Assumes nothing.
@@ -7,7 +7,8 @@ use Prim.Native.Nat.{_-_}
 use Rattle.bits.proofs.laws.Filled.{Filled, filled-none, filled-all}
 use Rattle.field.specs.Sbox.{sboxOf, invSboxOf}
 use Rattle.layout.specs.Ciphers.{forCipher}
-use Rattle.layers.proofs.laws.Values.{behindAt, prepared, substituted-more}
+use Rattle.layers.specs.Layers.{behindAt}
+use Rattle.layers.proofs.laws.Values.{prepared, substituted-more}
 use native.Mathlib.Omega.{arith}
 use Rattle.layers.proofs.values.substitute.Statement.{statement}
 use Rattle.layers.proofs.values.substitute.Tie as tie

@@ -7,7 +7,6 @@ use Prim.Native.Nat.{_-_}
 use Rattle.bits.specs.Words.{value}
 use Rattle.bits.proofs.laws.Bytes.{filled-number}
 use Rattle.bits.proofs.laws.Filled.{Filled, filled-none}
-use Rattle.bundle.specs.Format.{tenByteMatrices}
 use Rattle.layers.proofs.laws.Words.{byteTimes, times-more, part-room}
 use native.Mathlib.Omega.{arith}
 use Rattle.layers.proofs.words.by_bytes.Statement.{statement}
@@ -23,7 +22,7 @@ loop-holds : tie.Need-loop-holds Inv-loop μ-loop
 loop-holds c = search filled-none
 
 byte-by-part-requires : tie.Need-byte-by-part-requires Inv-loop μ-loop
-byte-by-part-requires c κs = search (part-room tenByteMatrices)
+byte-by-part-requires c κs = search part-room
 
 loop-again : tie.Need-loop-again Inv-loop μ-loop
 loop-again c = search times-more

@@ -1,24 +1,23 @@
 -- `layers::words::spread_basis` writes eight rows, for the bytes 2^0 to 2^7. The loop's invariant, `Stored` of matrices: the rows below k
 -- are the words of their bytes (`spreadWord`). A turn takes the column of m at digit k of byte i, which is the product with 2^k at i of n bytes, and
 -- multiplies each byte by its byte matrix, which makes the word (`spread-row`), and stores it as row k (`stored-more`); behind row 7 the basis is whole
--- (`stored-all`). The section that `by_bytes` asks for has 160 byte matrices, since the bundle's frame is right (`byte-section-long`).
+-- (`stored-all`). The section that `by_bytes` asks for has all byte matrices, since the bundle's frame is right (`frame-of`, `byte-section-long`).
 -- Assumes nothing.
 use Prim.Native.Nat.{_-_, _*_, _^_}
 use Rattle.matrices.specs.Rows.{rowsOf}
 use Rattle.matrices.proofs.laws.Rows.{Stored, stored-none, stored-more, stored-all}
-use Rattle.bundle.proofs.laws.Frame.{sizes}
-use Rattle.layers.proofs.laws.Bases.{byte-section-long, spread-row}
+use Rattle.layers.proofs.laws.Code.{frame-of}
+use Rattle.layers.proofs.laws.Bases.{byte-count, byte-section-long, spread-row}
 use Rattle.layers.specs.Layers.{spreadWord}
 use native.Mathlib.Omega.{arith}
-use borrow.Author.Needs.{needs}
 use Rattle.layers.proofs.words.spread_basis.Statement.{statement}
 use Rattle.layers.proofs.words.spread_basis.Tie as tie
 
 abbrev Inv-loop : tie.InvT-loop
-Inv-loop bundle m n i first basis₀ section k₀ basis k = Stored 8 (λ j. spreadWord 10 bundle (rowsOf (8 * n) m) n i first (2 ^ j)) basis₀ basis k
+Inv-loop rounds bundle m n i first basis₀ section k₀ basis k = Stored 8 (λ j. spreadWord rounds bundle (rowsOf (8 * n) m) n i first (2 ^ j)) basis₀ basis k
 
 abbrev μ-loop : tie.MeasureT-loop
-μ-loop bundle m n i first basis₀ section k₀ basis k = 8 - k
+μ-loop rounds bundle m n i first basis₀ section k₀ basis k = 8 - k
 
 loop-holds : tie.Need-loop-holds Inv-loop μ-loop
 loop-holds c = stored-none
@@ -26,9 +25,10 @@ loop-holds c = stored-none
 by-bytes-requires : tie.Need-by-bytes-requires Inv-loop μ-loop
 by-bytes-requires c κs =
     let entry : tie.Start Inv-loop μ-loop = search in
-    let section : tie.After-section Inv-loop μ-loop = search in
-    let long = byte-section-long 10 _ _ _ (sizes .bytes) (section .section .ensures) (entry .pre .0) in
-    search needs
+    let section : tie.After-byte-matrices Inv-loop μ-loop = search in
+    let framed = frame-of _ _ (entry .pre .bundle .accepted) in
+    let long = byte-section-long _ _ _ _ (byte-count _) (section .byte-matrices .ensures) framed in
+    (omega (arith, long, entry .pre), omega (arith, entry .pre), omega (arith, entry .pre))
 
 loop-again : tie.Need-loop-again Inv-loop μ-loop
 loop-again c = search (stored-more, spread-row)
@@ -40,8 +40,11 @@ returns c =
     stored-all (rows .loop .inv) (all .loop-test .left)
 
 -- ---- the needs that the search closes
-section-requires : tie.Need-section-requires Inv-loop μ-loop
-section-requires c κs = omega arith
+byte-matrices-requires : tie.Need-byte-matrices-requires Inv-loop μ-loop
+byte-matrices-requires c κs =
+    let entry : tie.Start Inv-loop μ-loop = search in
+    let opened = entry .pre .bundle in
+    (opened .starts, opened .rounds)
 
 mul-column : tie.Need-mul-column Inv-loop μ-loop
 mul-column c = omega arith
@@ -79,7 +82,7 @@ spread-basis-spec =
     (tie.spec
     Inv-loop
     μ-loop
-    section-requires
+    byte-matrices-requires
     loop-holds
     mul-column
     sub-column

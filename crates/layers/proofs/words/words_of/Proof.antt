@@ -7,7 +7,7 @@ use Rattle.bits.specs.Bytes.{number}
 use Rattle.bits.specs.Lists.{at}
 use Rattle.bits.proofs.laws.Filled.{Filled, filled-none, filled-more, filled-all}
 use Rattle.matrices.specs.Matrices.{matrixOf}
-use Rattle.bundle.specs.Format.{numberAt}
+use Rattle.bits.specs.Bytes.{numberAt}
 use native.Mathlib.Omega.{arith}
 use Rattle.layers.proofs.words.words_of.Statement.{statement}
 use Rattle.layers.proofs.words.words_of.Tie as tie

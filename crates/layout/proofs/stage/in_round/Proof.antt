@@ -1,5 +1,5 @@
 -- `layout::stage::in_round` meets its contract. A round has two halves of 112 lookups: below 112 it is the first (`first-half` of `laws.Place`), else
--- the second (`second-half`). The products are small: at most eight rounds of 57,344 bytes are before.
+-- the second (`second-half`). The products are small: at most twelve rounds of 57,344 bytes are before.
 -- Assumes nothing.
 use Rattle.layout.proofs.laws.Place.{first-half, second-half}
 use native.Mathlib.Omega.{arith}
@@ -8,10 +8,10 @@ use Rattle.layout.proofs.stage.in_round.Statement.{statement}
 use Rattle.layout.proofs.stage.in_round.Tie as tie
 
 returns : tie.Need-returns
-returns c = first-half 10 _ _ (omega arith) (search)
+returns c = first-half _ _ (omega arith) (search)
 
 returns-2 : tie.Need-returns-2
-returns-2 c = second-half 10 _ _ (omega arith) (search)
+returns-2 c = second-half _ _ (omega arith) (search)
 
 -- ---- the needs that the search closes
 sub-before : tie.Need-sub-before

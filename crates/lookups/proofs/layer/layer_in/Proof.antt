@@ -25,7 +25,7 @@ all c = counted _ _ (width (search)) (c .lookups-of .ensures)
 -- the last table ends within the set
 ends : (c : tie.After-lookups-of) → let w : tie.After-width-of = search in
     let entry : tie.Start = search in
-    entry .args .from + 4096 * w .width-of .result + (c .lookups-of .result - 17) * 128 + 128 ≤ length (entry .args .set .now)
+    entry .args .from + 4096 * w .width-of .result + (c .lookups-of .result - 1 - 16) * 128 + 128 ≤ length (entry .args .set .now)
 ends c =
     let w : tie.After-width-of = search in
     let entry : tie.Start = search in
@@ -33,6 +33,9 @@ ends c =
 
 lookups-of-requires : tie.Need-lookups-of-requires
 lookups-of-requires c κs = width (search)
+
+sub-last : tie.Need-sub-last
+sub-last c = omega (arith, all (search))
 
 sub-table : tie.Need-sub-table
 sub-table c = omega (arith, all (search))
@@ -53,7 +56,7 @@ xor-all-requires c κs =
 take-sums-requires : tie.Need-take-sums-requires
 take-sums-requires c κs =
     let entry : tie.Start = search in
-    (entry .pre .2, width (search))
+    (entry .pre .1 .standing, width (search))
 
 xor-place-requires : tie.Need-xor-place-requires
 xor-place-requires c κs =
@@ -93,9 +96,10 @@ layer-in-spec =
     tie.close
     (tie.spec
     width-of-requires
+    lookups-of-requires
+    sub-last
     mul-table
     add-table
-    lookups-of-requires
     sub-table
     mul-table-2
     add-table-2

@@ -4,7 +4,7 @@
 -- are the tests on the way and what the calls ensure; the place is where `spread` or `xor_place` says. What the calls ask is the width and the length of
 -- the table that a lookup of that kind has, by the `requires`. No offset wraps: the table begins at `offsetLimit` at most, and the entry lies within it.
 -- Assumes nothing.
-use Rattle.lookups.proofs.laws.Layers.{spread-sized, xor-sized, xor-within, xor-width, xor-below, length-after-xor}
+use Rattle.lookups.proofs.laws.Layers.{spread-asked, xor-sized, xor-within, xor-width, xor-below, length-after-xor}
 use Rattle.lookups.proofs.laws.Layers.{by-spread, by-xor, by-last}
 use native.Mathlib.Omega.{arith}
 use borrow.Author.Needs.{needs}
@@ -17,7 +17,7 @@ element-copy-out-spread c =
     omega (arith, source .source-of .ensures .1 (search))
 
 spread-requires : tie.Need-spread-requires
-spread-requires c κs = search (needs, spread-sized)
+spread-requires c κs = search (needs, spread-asked)
 
 add-at : tie.Need-add-at
 add-at c =

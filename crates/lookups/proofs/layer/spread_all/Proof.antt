@@ -7,7 +7,7 @@ use Prim.Native.Nat.{_+_, _-_, _*_, _≤_}
 use lib.ListN.{length}
 use Rattle.layout.specs.Ciphers.{readsOf}
 use Rattle.layout.specs.Stages.{shapeAt}
-use Rattle.lookups.proofs.laws.Whole.{Spreads, spreads-none, table-ends, table-long, spreads-more, spreads-all}
+use Rattle.lookups.proofs.laws.Whole.{Spreads, spreads-none, table-ends, table-asked, spreads-more, spreads-all}
 use native.Mathlib.Omega.{arith}
 use borrow.Author.Needs.{needs}
 use Rattle.lookups.proofs.layer.spread_all.Statement.{statement}
@@ -52,7 +52,7 @@ element-copy-out-spread c =
 spread-requires : tie.Need-spread-requires Inv-loop μ-loop
 spread-requires c κs =
     let turn : tie.At-loop Inv-loop μ-loop = search in
-    (turn .loop .inv .long, search needs, search, table-long (turn .loop .inv) (search))
+    (table-asked (turn .loop .inv) (search) (search needs), turn .loop .inv .long)
 
 loop-again : tie.Need-loop-again Inv-loop μ-loop
 loop-again c =

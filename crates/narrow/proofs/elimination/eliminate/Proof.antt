@@ -29,7 +29,12 @@ pivot-requires : tie.Need-pivot-requires Inv-loop μ-loop
 pivot-requires c κs =
     let found : tie.After-find Inv-loop μ-loop = search in
     let turn : tie.In-loop Inv-loop μ-loop = search in
-    omega (arith, found-within _ _ _ _ (turn .loop-test .taken) (found .find .ensures))
+    record {
+      within = omega arith;
+      room = omega arith;
+      column = turn .loop-test .taken;
+      row = omega (arith, found-within _ _ _ _ (turn .loop-test .taken) (found .find .ensures));
+    }
 
 clear-requires : tie.Need-clear-requires Inv-loop μ-loop
 clear-requires c κs =

@@ -1,8 +1,8 @@
 -- `records::entry::look_up` meets its contract. passes' `look_up` makes the lookup and tells a place of the set (`read-in-set` of passes' `laws.Walking`), and `entry_read`
--- what is recorded of it: together they are the walk's lookup and its entry (`entry-made` of `laws.Walking`). The laws are over the sizes of a set, and `ten` are those of
--- the code.
+-- what is recorded of it: together they are the walk's lookup and its entry (`entry-made` of `laws.Walking`).
 -- Assumes nothing.
-use Rattle.layout.proofs.laws.Ten.{ten}
+use Rattle.layout.proofs.laws.Rounds.{most-bytes}
+use native.Mathlib.Omega.{arith}
 use Rattle.passes.proofs.laws.Walking.{read-in-set}
 use Rattle.records.proofs.laws.Walking.{entry-made}
 use borrow.Author.Needs.{needs}
@@ -13,7 +13,7 @@ entry-read-requires : tie.Need-entry-read-requires
 entry-read-requires c κs =
     let looked : tie.After-look-up = search in
     let entry : tie.Start = search in
-    (entry .pre .0, read-in-set ten (looked .look-up .ensures), looked .look-up .ensures .half)
+    (omega (arith, most-bytes _ (entry .pre .rounds)), omega (arith, read-in-set (looked .look-up .ensures)), looked .look-up .ensures .half)
 
 returns : tie.Need-returns
 returns c = search entry-made

@@ -1,45 +1,19 @@
--- `records::record::record_walk` meets its contract. Where `judged` finds something against the lengths, the memory is left as it was (`not-recorded` of `laws.Calls`); else
--- the lengths are right (`lengths-were` of `laws.Judged`), and `write_all` leaves the record (`recorded`).
+-- `records::record::record_walk` meets its contract: it is `write_record` of ten rounds.
 -- Assumes nothing.
-use Rattle.layout.proofs.laws.Ten.{ten}
-use Rattle.records.proofs.laws.Calls.{not-recorded, recorded}
-use Rattle.records.proofs.laws.Judged.{lengths-were}
+use Rattle.rounds.proofs.laws.Known.{ten-rounds}
 use borrow.Author.Needs.{needs}
 use Rattle.records.proofs.record.record_walk.Statement.{statement}
 use Rattle.records.proofs.record.record_walk.Tie as tie
 
+write-record-requires : tie.Need-write-record-requires
+write-record-requires c κs = ten-rounds
+
 returns : tie.Need-returns
-returns c = search not-recorded
-
-write-all-requires : tie.Need-write-all-requires
-write-all-requires c κs =
-    let answer : tie.After-judged = search in
-    lengths-were ten _ _ _ (answer .judged .ensures) (search)
-
-returns-2 : tie.Need-returns-2
-returns-2 c = search recorded
+returns c = search
 
 -- ---- the needs that the search closes
-judged-requires : tie.Need-judged-requires
-judged-requires c κs = search needs
-
-enum-told : tie.Need-enum-told
-enum-told c = search needs
-
-enum-told-2 : tie.Need-enum-told-2
-enum-told-2 c = search needs
-
 same-length : tie.Need-same-length
 same-length c = search needs
 
 pub record-walk-spec : {M : Type 1} → statement M
-record-walk-spec =
-    tie.close
-    (tie.spec
-    judged-requires
-    enum-told
-    enum-told-2
-    returns
-    write-all-requires
-    same-length
-    returns-2)
+record-walk-spec = tie.close (tie.spec write-record-requires same-length returns)

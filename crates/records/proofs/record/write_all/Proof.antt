@@ -3,8 +3,9 @@
 -- the memory is the record (`recording-all`). The measure is the number of lookups left.
 -- Assumes nothing.
 use Prim.Native.Nat.{_-_}
-use Rattle.layout.specs.Stages.{tenLookups}
-use Rattle.layout.proofs.laws.Ten.{ten}
+use Rattle.layout.specs.Stages.{lookups}
+use Rattle.layout.proofs.laws.Rounds.{most-lookups}
+use Rattle.layout.proofs.laws.Lookup.{own-sizes}
 use Rattle.bits.proofs.laws.Parts.{part-lent}
 use Rattle.records.proofs.laws.Loops.{Recording, recording-none, recording-more, recording-all}
 use native.Mathlib.Omega.{arith}
@@ -13,11 +14,11 @@ use Rattle.records.proofs.record.write_all.Statement.{statement}
 use Rattle.records.proofs.record.write_all.Tie as tie
 
 abbrev Inv-loop : tie.InvT-loop
-Inv-loop cipher set block recorded₀ standing₀ area₀ n₀ recorded standing area n =
-    Recording cipher 10 tenLookups set block recorded₀ recorded standing area n
+Inv-loop rounds cipher set block recorded₀ standing₀ area₀ all n₀ recorded standing area n =
+    Recording cipher rounds (lookups rounds) set block recorded₀ recorded standing area n
 
 abbrev μ-loop : tie.MeasureT-loop
-μ-loop cipher set block recorded₀ standing₀ area₀ n₀ recorded standing area n = tenLookups - n
+μ-loop rounds cipher set block recorded₀ standing₀ area₀ all n₀ recorded standing area n = lookups rounds - n
 
 loop-holds : tie.Need-loop-holds Inv-loop μ-loop
 loop-holds c = search recording-none
@@ -43,17 +44,26 @@ loop-again c =
     recording-more (turn .loop .inv) (omega arith) (looked .look-up .ensures) (search) (put .write .ensures)
 
 returns : tie.Need-returns Inv-loop μ-loop
-returns c = search (recording-all, ten)
+returns c =
+    let turn : tie.At-loop Inv-loop μ-loop = search in
+    recording-all (turn .loop .inv) own-sizes (omega arith) (search)
 
 -- ---- the needs that the search closes
+lookups-in-requires : tie.Need-lookups-in-requires Inv-loop μ-loop
+lookups-in-requires c κs = search needs
+
 load-requires : tie.Need-load-requires Inv-loop μ-loop
 load-requires c κs = search needs
 
 mul-from : tie.Need-mul-from Inv-loop μ-loop
-mul-from c = omega arith
+mul-from c =
+    let entry : tie.Start Inv-loop μ-loop = search in
+    omega (arith, most-lookups _ (entry .pre .rounds))
 
 add-to : tie.Need-add-to Inv-loop μ-loop
-add-to c = omega arith
+add-to c =
+    let entry : tie.Start Inv-loop μ-loop = search in
+    omega (arith, most-lookups _ (entry .pre .rounds))
 
 sub-write : tie.Need-sub-write Inv-loop μ-loop
 sub-write c = omega arith
@@ -77,6 +87,7 @@ write-all-spec =
     Inv-loop
     μ-loop
     load-requires
+    lookups-in-requires
     loop-holds
     look-up-requires
     mul-from

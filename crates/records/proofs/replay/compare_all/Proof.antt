@@ -3,7 +3,8 @@
 -- it is passed (`comparing-next`); behind the last lookup the record is the walk's own (`comparing-all`). The measure is the number of lookups left.
 -- Assumes nothing.
 use Prim.Native.Nat.{_-_, _*_}
-use Rattle.layout.specs.Stages.{tenLookups}
+use Rattle.layout.specs.Stages.{lookups}
+use Rattle.layout.proofs.laws.Rounds.{most-lookups}
 use Rattle.bits.proofs.laws.Lists.{length-cut}
 use Rattle.records.specs.Record.{entrySize}
 use Rattle.records.proofs.laws.Loops.{Comparing, comparing-none, comparing-here, comparing-next, comparing-all}
@@ -13,10 +14,10 @@ use Rattle.records.proofs.replay.compare_all.Statement.{statement}
 use Rattle.records.proofs.replay.compare_all.Tie as tie
 
 abbrev Inv-loop : tie.InvT-loop
-Inv-loop cipher set block recorded standing₀ area₀ n₀ standing area n = Comparing cipher 10 tenLookups set block recorded standing area n
+Inv-loop rounds cipher set block recorded standing₀ area₀ all n₀ standing area n = Comparing cipher rounds (lookups rounds) set block recorded standing area n
 
 abbrev μ-loop : tie.MeasureT-loop
-μ-loop cipher set block recorded standing₀ area₀ n₀ standing area n = tenLookups - n
+μ-loop rounds cipher set block recorded standing₀ area₀ all n₀ standing area n = lookups rounds - n
 
 loop-holds : tie.Need-loop-holds Inv-loop μ-loop
 loop-holds c = search comparing-none
@@ -46,17 +47,26 @@ loop-again c =
     comparing-next (turn .loop .inv) (omega arith) (looked .look-up .ensures) (compared .same .ensures) (alike .if1 .left)
 
 returns-2 : tie.Need-returns-2 Inv-loop μ-loop
-returns-2 c = search comparing-all
+returns-2 c =
+    let turn : tie.At-loop Inv-loop μ-loop = search in
+    comparing-all (turn .loop .inv) (omega arith)
 
 -- ---- the needs that the search closes
+lookups-in-requires : tie.Need-lookups-in-requires Inv-loop μ-loop
+lookups-in-requires c κs = search needs
+
 load-requires : tie.Need-load-requires Inv-loop μ-loop
 load-requires c κs = search needs
 
 mul-from : tie.Need-mul-from Inv-loop μ-loop
-mul-from c = omega arith
+mul-from c =
+    let entry : tie.Start Inv-loop μ-loop = search in
+    omega (arith, most-lookups _ (entry .pre .rounds))
 
 add-to : tie.Need-add-to Inv-loop μ-loop
-add-to c = omega arith
+add-to c =
+    let entry : tie.Start Inv-loop μ-loop = search in
+    omega (arith, most-lookups _ (entry .pre .rounds))
 
 sub-same : tie.Need-sub-same Inv-loop μ-loop
 sub-same c = omega arith
@@ -80,6 +90,7 @@ compare-all-spec =
     Inv-loop
     μ-loop
     load-requires
+    lookups-in-requires
     loop-holds
     look-up-requires
     mul-from

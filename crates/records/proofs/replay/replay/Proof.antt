@@ -1,39 +1,14 @@
--- `records::replay::replay` meets its contract. Where `judged` finds something against the lengths, its refusal is the verdict (`not-replayed` of `laws.Calls`); else the lengths
--- are right (`lengths-were` of `laws.Judged`), and what `compare_all` finds is (`replay-done`).
+-- `records::replay::replay` meets its contract: it is `replay_record` of ten rounds.
 -- Assumes nothing.
-use Rattle.layout.proofs.laws.Ten.{ten}
-use Rattle.records.proofs.laws.Calls.{not-replayed, replay-done}
-use Rattle.records.proofs.laws.Judged.{lengths-were}
-use borrow.Author.Needs.{needs}
+use Rattle.rounds.proofs.laws.Known.{ten-rounds}
 use Rattle.records.proofs.replay.replay.Statement.{statement}
 use Rattle.records.proofs.replay.replay.Tie as tie
 
-compare-all-requires : tie.Need-compare-all-requires
-compare-all-requires c κs =
-    let answer : tie.After-judged = search in
-    lengths-were ten _ _ _ (answer .judged .ensures) (search)
+replay-record-requires : tie.Need-replay-record-requires
+replay-record-requires c κs = ten-rounds
 
 returns : tie.Need-returns
-returns c =
-    let answer : tie.After-judged = search in
-    replay-done _ _ _ _ _ (answer .judged .ensures) ten (search) (search)
-
-returns-2 : tie.Need-returns-2
-returns-2 c =
-    let answer : tie.After-judged = search in
-    not-replayed _ _ _ _ _ (answer .judged .ensures) (search)
-
--- ---- the needs that the search closes
-judged-requires : tie.Need-judged-requires
-judged-requires c κs = search needs
-
-enum-told : tie.Need-enum-told
-enum-told c = search needs
-
-enum-known-r : tie.Need-enum-known-r
-enum-known-r c = search needs
+returns c = search
 
 pub replay-spec : {M : Type 1} → statement M
-replay-spec =
-    tie.close
-    (tie.spec judged-requires enum-told compare-all-requires enum-known-r returns returns-2)
+replay-spec = tie.close (tie.spec replay-record-requires returns)

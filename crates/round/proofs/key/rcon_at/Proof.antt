@@ -11,8 +11,8 @@ unfolding rconTable
 returns c = search rcon-at
 
 -- ---- the needs that the search closes
-array-read-result : tie.Need-array-read-result
-array-read-result c = search needs
+array-read-t5 : tie.Need-array-read-t5
+array-read-t5 c = search needs
 
 pub rcon-at-spec : {M : Type 1} → statement M
-rcon-at-spec = tie.close (tie.spec array-read-result returns)
+rcon-at-spec = tie.close (tie.spec array-read-t5 returns)

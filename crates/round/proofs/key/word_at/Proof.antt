@@ -1,4 +1,4 @@
--- `round::key::word_at` meets its contract. The four bytes from 4 j on are word j (`word-is` of `laws.Key`); the last index is below 4 * 43 + 4 = 176.
+-- `round::key::word_at` meets its contract. The four bytes from 4 i on are word i (`word-is` of `laws.Key`).
 -- Assumes nothing.
 use Rattle.round.proofs.laws.Key.{word-is}
 use borrow.Author.Needs.{needs}
@@ -12,37 +12,37 @@ returns c = word-is _ _
 mul-a : tie.Need-mul-a
 mul-a c = search needs
 
-array-read-t7 : tie.Need-array-read-t7
-array-read-t7 c = search needs
+shared-slice-read-t5 : tie.Need-shared-slice-read-t5
+shared-slice-read-t5 c = search needs
 
-add-t8 : tie.Need-add-t8
-add-t8 c = search needs
+add-t6 : tie.Need-add-t6
+add-t6 c = search needs
 
-array-read-t11 : tie.Need-array-read-t11
-array-read-t11 c = search needs
+shared-slice-read-t8 : tie.Need-shared-slice-read-t8
+shared-slice-read-t8 c = search needs
+
+add-t9 : tie.Need-add-t9
+add-t9 c = search needs
+
+shared-slice-read-t11 : tie.Need-shared-slice-read-t11
+shared-slice-read-t11 c = search needs
 
 add-t12 : tie.Need-add-t12
 add-t12 c = search needs
 
-array-read-t15 : tie.Need-array-read-t15
-array-read-t15 c = search needs
-
-add-t16 : tie.Need-add-t16
-add-t16 c = search needs
-
-array-read-t19 : tie.Need-array-read-t19
-array-read-t19 c = search needs
+shared-slice-read-t14 : tie.Need-shared-slice-read-t14
+shared-slice-read-t14 c = search needs
 
 pub word-at-spec : {M : Type 1} → statement M
 word-at-spec =
     tie.close
     (tie.spec
     mul-a
-    array-read-t7
-    add-t8
-    array-read-t11
+    shared-slice-read-t5
+    add-t6
+    shared-slice-read-t8
+    add-t9
+    shared-slice-read-t11
     add-t12
-    array-read-t15
-    add-t16
-    array-read-t19
+    shared-slice-read-t14
     returns)

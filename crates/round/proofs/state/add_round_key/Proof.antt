@@ -1,25 +1,21 @@
--- `round::state::add_round_key` meets its contract. From 11 on w has no round key, and the state stays (`add-none` of `laws.Key`). Below, the
--- invariant, `Filled` of the crate bits: the first i bytes are those of s, each with the byte of the round key added, which begins at byte 16 n of w.
--- A turn writes one byte more (`filled-more`); behind the last they are `AddRoundKey` cell by cell (`add-filled`). Every index into w is below
--- 16 * 10 + 16 = 176.
+-- `round::state::add_round_key` meets its contract. The invariant, `Filled` of the crate bits: the first i bytes are those of s, each with the byte of the
+-- round key added, which begins at byte 16 n of w. A turn writes one byte more (`filled-more`); behind the last they are `AddRoundKey` cell by cell
+-- (`add-filled` of `laws.Key`). Round key n lies in w, so every index does.
 -- Assumes nothing.
 use Prim.Native.Nat.{_+_, _-_, _*_}
 use lib.Bits.{bitXor}
 use Rattle.bits.specs.Lists.{at}
 use Rattle.bits.proofs.laws.Filled.{Filled, filled-none, filled-more}
-use Rattle.round.proofs.laws.Key.{add-none, add-filled}
+use Rattle.round.proofs.laws.Key.{add-filled}
 use native.Mathlib.Omega.{arith}
 use Rattle.round.proofs.state.add_round_key.Statement.{statement}
 use Rattle.round.proofs.state.add_round_key.Tie as tie
 
 abbrev Inv-loop : tie.InvT-loop
-Inv-loop n s w t₀ i₀ t i = Filled 16 (λ k. bitXor (at s k) (at w (16 * n + k))) t i
+Inv-loop w n s t₀ i₀ t i = Filled 16 (λ k. bitXor (at s k) (at w (16 * n + k))) t i
 
 abbrev μ-loop : tie.MeasureT-loop
-μ-loop n s w t₀ i₀ t i = 16 - i
-
-returns : tie.Need-returns Inv-loop μ-loop
-returns c = add-none _ _ _ (search) (omega arith)
+μ-loop w n s t₀ i₀ t i = 16 - i
 
 loop-holds : tie.Need-loop-holds Inv-loop μ-loop
 loop-holds c = search filled-none
@@ -27,8 +23,8 @@ loop-holds c = search filled-none
 loop-again : tie.Need-loop-again Inv-loop μ-loop
 loop-again c = search filled-more
 
-returns-2 : tie.Need-returns-2 Inv-loop μ-loop
-returns-2 c = search add-filled
+returns : tie.Need-returns Inv-loop μ-loop
+returns c = search add-filled
 
 -- ---- the needs that the search closes
 array-read-t : tie.Need-array-read-t Inv-loop μ-loop
@@ -40,8 +36,8 @@ mul-t c = omega arith
 add-t : tie.Need-add-t Inv-loop μ-loop
 add-t c = omega arith
 
-array-read-t-2 : tie.Need-array-read-t-2 Inv-loop μ-loop
-array-read-t-2 c = omega arith
+shared-slice-read-t : tie.Need-shared-slice-read-t Inv-loop μ-loop
+shared-slice-read-t c = omega arith
 
 array-write-t : tie.Need-array-write-t Inv-loop μ-loop
 array-write-t c = omega arith
@@ -58,14 +54,13 @@ add-round-key-spec =
     (tie.spec
     Inv-loop
     μ-loop
-    returns
     loop-holds
     array-read-t
     mul-t
     add-t
-    array-read-t-2
+    shared-slice-read-t
     array-write-t
     add-i
     loop-less
     loop-again
-    returns-2)
+    returns)

@@ -3,9 +3,8 @@
 -- `encodings-permute`.
 -- Assumes nothing.
 use Prim.Native.Nat.{_<_}
-use Rattle.bundle.specs.Format.{encodings}
 use Rattle.layout.specs.Ciphers.{readsOf}
-use Rattle.stages.proofs.laws.Encodings.{encodings-permute, read-made}
+use Rattle.stages.proofs.laws.Encodings.{encodings-permute, in-format, read-made}
 use borrow.Author.Needs.{needs}
 use Rattle.stages.proofs.table.read_bytes.Statement.{statement}
 use Rattle.stages.proofs.table.read_bytes.Tie as tie
@@ -15,28 +14,28 @@ reads : (c : tie.After-source-of) → c .source-of .result < 16
 reads c = c .source-of .ensures .1 (search)
 
 decoded-bytes-requires : tie.Need-decoded-bytes-requires
-unfolding encodings
 decoded-bytes-requires c κs =
-    let section : tie.After-section = search in
+    let section : tie.After-encodings = search in
     let low : tie.After-standing-number2 = search in
     let high : tie.After-standing-number = search in
     let bytes : tie.After-shared-slice-known = search in
     let start : tie.Start = search in
-    let permutes = encodings-permute 10 _ _ (section .section .ensures) (λ i. bytes .shared-slice-known .given i .fits) (start .pre .0) in (
-      start .pre .3,
-      permutes _ (high .standing-number .ensures .1),
-      permutes _ (low .standing-number2 .ensures .1),
+    let opened = start .pre .2 in
+    let permutes = encodings-permute _ _ _ (section .encodings .ensures) (λ i. bytes .shared-slice-known .given i .fits) (opened .accepted) in (
+      start .pre .1,
+      permutes _ (in-format _ (opened .rounds) _ (high .standing-number .ensures .1)),
+      permutes _ (in-format _ (opened .rounds) _ (low .standing-number2 .ensures .1)),
     )
 
 returns : tie.Need-returns
 returns c =
     let decoded : tie.After-decoded-bytes = search in
-    let section : tie.After-section = search in
+    let section : tie.After-encodings = search in
     let low : tie.After-standing-number2 = search in
     let high : tie.After-standing-number = search in
     let source : tie.After-source-of = search in
     let start : tie.Start = search in
-    read-made 10 (readsOf (start .args .cipher)) _ _ _ _ _ _ _ _ (section .section .ensures) (source .source-of .ensures .0)
+    read-made _ (readsOf (start .args .cipher)) _ _ _ _ _ _ _ _ (section .encodings .ensures) (source .source-of .ensures .0)
     (high .standing-number .ensures .0) (low .standing-number2 .ensures .0) (decoded .decoded-bytes .ensures)
 
 -- ---- the needs that the search closes
@@ -58,8 +57,8 @@ add-standing-number c = search (needs, reads (search))
 standing-number-requires-2 : tie.Need-standing-number-requires-2
 standing-number-requires-2 c κs = search (needs, reads (search))
 
-section-requires : tie.Need-section-requires
-section-requires c κs = search needs
+encodings-requires : tie.Need-encodings-requires
+encodings-requires c κs = search needs
 
 same-length : tie.Need-same-length
 same-length c = search needs
@@ -74,7 +73,7 @@ read-bytes-spec =
     mul-standing-number-2
     add-standing-number
     standing-number-requires-2
-    section-requires
+    encodings-requires
     decoded-bytes-requires
     same-length
     returns)

@@ -30,7 +30,7 @@ add-first c = omega (arith, rows-fit (search) (search))
 all-images-requires : tie.Need-all-images-requires
 unfolding encodings
 all-images-requires c κs =
-    let section : tie.After-section = search in
+    let section : tie.After-encodings = search in
     let first : tie.After-first-number = search in
     let values : tie.After-values-of = search in
     let width : tie.After-width-of = search in
@@ -38,32 +38,37 @@ all-images-requires c κs =
     let rows = rows-fit start width in
     let most = width .width-of .ensures .1 in
     let last = first .first-number .ensures .1 in
-    let long = encodings-long 10 _ _ (section .section .ensures) (start .pre .0) in
-    (omega (arith, rows, last), omega (arith, most), omega (arith, rows, most, last, long), omega (arith, most))
+    let long = encodings-long _ _ _ (section .encodings .ensures) (start .pre .sources .bundle .accepted) in
+    record {
+      number = omega (arith, rows, last, start .pre .sources .bundle .rounds);
+      few = omega (arith, most);
+      stored = omega (arith, rows, most, last, long);
+      room = omega (arith, most);
+    }
 
 write-requires : tie.Need-write-requires
 write-requires c κs =
     let images : tie.After-all-images = search in
-    let section : tie.After-section = search in
+    let section : tie.After-encodings = search in
     let basis : tie.After-basis-of = search in
     let values : tie.After-values-of = search in
     let width : tie.After-width-of = search in
     let bytes : tie.After-shared-slice-known = search in
     let start : tie.Start = search in
-    let nibbles = images-lt 10 _ _ _ _ _ _ (λ i. bytes .shared-slice-known .given i .fits) (section .section .ensures) (images .all-images .ensures) in (
-      omega (arith, values .values-of),
-      omega (arith, basis .basis-of),
-      word-width 10 (start .args .s) _ (start .pre .3) (width .width-of .ensures .0),
-      omega (arith, images .all-images),
-      λ i h. nibbles i (omega arith),
-      rw (width .width-of .ensures .0) (start .pre .5),
-    )
+    let nibbles = images-lt _ _ _ _ _ _ _ (λ i. bytes .shared-slice-known .given i .fits) (section .encodings .ensures) (images .all-images .ensures) in
+    record {
+      valued = omega (arith, values .values-of);
+      rows = omega (arith, basis .basis-of);
+      width = word-width _ (start .args .s) _ (start .pre .table .stage) (width .width-of .ensures .0);
+      encoded = record { long = omega (arith, images .all-images); small = λ i h. nibbles i (omega arith) };
+      room = rw (width .width-of .ensures .0) (start .pre .room);
+    }
 
 returns : tie.Need-returns
 returns c =
     let write : tie.After-write = search in
     let images : tie.After-all-images = search in
-    let section : tie.After-section = search in
+    let section : tie.After-encodings = search in
     let first : tie.After-first-number = search in
     let basis : tie.After-basis-of = search in
     let values : tie.After-values-of = search in
@@ -73,10 +78,12 @@ returns c =
     let start : tie.Start = search in
     let p = start .pre in
     let cipher = start .args .cipher in
-    let fine = parts-fine cipher 10 _ (λ i. keys .shared-slice-known2 .given i .fits) in
-    spread-made (partsFor cipher 10 (start .args .keys .now)) fine 10 _ (λ i. bytes .shared-slice-known .given i .fits)
-    (p .0) _ (p .3) _ (p .4) _ _ _ _ _ _ _ _ _ _ (parts-read 10 (start .args .keys .now) cipher) (width .width-of .ensures .0) (first .first-number .ensures .0)
-    (section .section .ensures) (omega arith)
+    let nr = start .args .rounds in
+    let fine = parts-fine cipher nr _ (λ i. keys .shared-slice-known2 .given i .fits) in
+    spread-made (partsFor cipher nr (start .args .keys .now)) fine nr _ (λ i. bytes .shared-slice-known .given i .fits)
+    (p .sources .bundle .accepted) _ (p .table .stage) _ (p .table .position) _ _ _ _ _ _ _ _ _ _
+    (parts-read nr (start .args .keys .now) cipher) (width .width-of .ensures .0) (first .first-number .ensures .0)
+    (section .encodings .ensures) (omega arith)
     (values .values-of .ensures) (basis .basis-of .ensures _) (images .all-images .ensures) (write .write .ensures)
 
 -- ---- the needs that the search closes
@@ -101,8 +108,8 @@ mul-d c = search needs
 first-number-requires : tie.Need-first-number-requires
 first-number-requires c κs = search needs
 
-section-requires : tie.Need-section-requires
-section-requires c κs = search needs
+encodings-requires : tie.Need-encodings-requires
+encodings-requires c κs = search needs
 
 slice-aggregate-all-images : tie.Need-slice-aggregate-all-images
 slice-aggregate-all-images c = search needs
@@ -132,7 +139,7 @@ spread-table-spec =
     first-number-requires
     mul-first
     add-first
-    section-requires
+    encodings-requires
     slice-aggregate-all-images
     all-images-requires
     slice-aggregate-write

@@ -5,9 +5,9 @@
 use mathlib.Core.Path.{subst}
 use Prim.Native.Nat.{ℕ}
 use Rattle.layout.specs.Ciphers.{readsOf}
+use Rattle.layout.specs.Stages.{InRounds}
 use Rattle.layout.specs.declared.stage.Stage.{Stage}
-use Rattle.layers.specs.Layers.{InRounds}
-use Rattle.layers.proofs.laws.Numbers.{round-first, never-beyond}
+use Rattle.layout.proofs.laws.Numbers.{round-first, never-beyond}
 use Rattle.stages.specs.Spread.{readByte}
 use Rattle.stages.proofs.laws.Acted.{acted-first, acted-exit, acted-entry, acted-second}
 use borrow.Author.Needs.{needs}
@@ -16,49 +16,49 @@ use Rattle.stages.proofs.table.values_of.Tie as tie
 
 -- what the bytes that position p reads decode to, by the stage
 abbrev read-at : tie.Start → Stage → ℕ → ℕ
-read-at start t = readByte 10 (readsOf (start .args .cipher)) (start .args .bundle .now) t (start .args .p)
+read-at start t = readByte (start .args .rounds) (readsOf (start .args .cipher)) (start .args .bundle .now) t (start .args .p)
 
 read-bytes-requires : tie.Need-read-bytes-requires
 read-bytes-requires c κs =
     let stage : tie.After-s = search in
     let start : tie.Start = search in
-    let round = subst (InRounds 10) (stage .s .given .1) (start .pre .2) in
+    let round = subst (InRounds (start .args .rounds)) (stage .s .given .1) (start .pre .0 .stage) in
     search needs
 
 behind-sbox-requires : tie.Need-behind-sbox-requires
 behind-sbox-requires c κs =
     let stage : tie.After-s = search in
     let start : tie.Start = search in
-    let round = round-first 10 (stage .s .given .1) (start .pre .2) in
+    let round = round-first _ (stage .s .given .1) (start .pre .0 .stage) in
     search needs
 
 returns : tie.Need-returns
 returns c =
     let stage : tie.After-s = search in
     let read : tie.After-read-bytes = search in
-    acted-first _ _ 10 (read-at (search)) _ _ _ _ _ (stage .s .given .1) (read .read-bytes .ensures) (search)
+    acted-first _ _ _ (read-at (search)) _ _ _ _ _ (stage .s .given .1) (read .read-bytes .ensures) (search)
 
 returns-2 : tie.Need-returns-2
 returns-2 c =
     let stage : tie.After-enum-told = search in
     let read : tie.After-read-bytes2 = search in
-    acted-exit _ _ 10 (read-at (search)) _ _ _ _ (stage .enum-told .given .1) (read .read-bytes2 .ensures) (search)
+    acted-exit _ _ _ (read-at (search)) _ _ _ _ (stage .enum-told .given .1) (read .read-bytes2 .ensures) (search)
 
 returns-3 : tie.Need-returns-3
 returns-3 c =
     let stage : tie.After-enum-told2 = search in
-    acted-entry _ _ 10 (read-at (search)) _ _ _ (stage .enum-told2 .given .1) (search)
+    acted-entry _ _ _ (read-at (search)) _ _ _ (stage .enum-told2 .given .1) (search)
 
 returns-4 : tie.Need-returns-4
 returns-4 c =
     let stage : tie.After-enum-told3 = search in
-    acted-second _ _ 10 (read-at (search)) _ _ _ _ (stage .enum-told3 .given .1) (search)
+    acted-second _ _ _ (read-at (search)) _ _ _ _ (stage .enum-told3 .given .1) (search)
 
 returns-5 : tie.Need-returns-5
 returns-5 c =
     let entry : tie.Start = search in
     let stage : tie.After-enum-told4 = search in
-    absurd (never-beyond 10 (stage .enum-told4 .given .1) (entry .pre .2))
+    absurd (never-beyond _ (stage .enum-told4 .given .1) (entry .pre .0 .stage))
 
 -- ---- the needs that the search closes
 enum-known-s : tie.Need-enum-known-s

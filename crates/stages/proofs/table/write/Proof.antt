@@ -3,7 +3,6 @@
 -- the second asks: this, a width that XORs are made for, and numbers in range.
 -- Assumes nothing.
 use mathlib.Core.Path.{_∙_}
-use Rattle.bundle.specs.Format.{encodings}
 use Rattle.layout.specs.Stages.{numbersOf}
 use Rattle.network.proofs.laws.Sizes.{spread-size, table-spread, table-xor}
 use Rattle.stages.proofs.laws.Tables.{xor-asked}
@@ -17,21 +16,25 @@ spread-table-requires c κs =
     let start : tie.Start = search in
     let p = start .pre in
     let spread = branch .if1 .taken in
-    (p .0, p .1, p .2, p .3, spread, p .5 ∙ spread-size _ _ spread)
+    record {
+      inverse = p .inverse;
+      table = record { stage = p .table .stage; position = spread };
+      room = p .table .size ∙ spread-size _ _ spread;
+      sources = p .sources;
+    }
 
 returns : tie.Need-returns
 returns c = table-spread _ _ _ _ _ (search) (search)
 
 xor-table-requires : tie.Need-xor-table-requires
-unfolding encodings
 xor-table-requires c κs =
     let first : tie.After-first-number = search in
     let width : tie.After-width-of = search in
     let branch : tie.Else1 = search in
     let start : tie.Start = search in
-    let p = start .pre in
-    let asked = xor-asked 10 (start .args .s) _ _ _ _ (width .width-of .ensures .0) (first .first-number .ensures .0) (p .3) (branch .if1 .left) (p .4) (p .5) in
-    (p .0, asked .0, asked .1, asked .2, asked .3)
+    let p = start .pre .table in
+    let asked = xor-asked _ (start .args .s) _ _ _ _ (width .width-of .ensures .0) (first .first-number .ensures .0) (p .stage) (branch .if1 .left) (p .index) (p .size) in
+    record { width = asked .0; results = asked .1; index = asked .2; room = asked .3; bundle = start .pre .sources .bundle }
 
 returns-2 : tie.Need-returns-2
 unfolding numbersOf

@@ -1,8 +1,9 @@
 -- `stages::table::xor_table` works out the numbers of three encodings: of the sum so far, of the nibble that is added, and of the result. `write`
 -- makes the table of them; `xor-made` of `laws.Xors` says that these are the numbers of XOR x, and that it is the XOR table. Nothing wraps, as
--- every number is below the bundle's 6,048 encodings: `xor-within`; so each of the three is a permutation (`numbers-below`, `encodings-permute`).
+-- every number is below that of the bundle's encodings: `xor-within`; so each of the three is a permutation (`numbers-below`, `encodings-permute`).
 -- Assumes nothing.
-use Rattle.bundle.specs.Format.{encodings, tenEncodings}
+use Rattle.stages.proofs.laws.Tables.{most-encodings}
+use Rattle.bundle.specs.Format.{encodings, mostEncodings}
 use Rattle.stages.proofs.laws.Encodings.{encodings-permute}
 use Rattle.stages.proofs.laws.Xors.{Within, numbers-below, xor-within, xor-made}
 use native.Mathlib.Omega.{arith}
@@ -11,30 +12,30 @@ use Rattle.stages.proofs.table.xor_table.Statement.{statement}
 use Rattle.stages.proofs.table.xor_table.Tie as tie
 
 returns : tie.Need-returns
-unfolding encodings
 returns c =
     let written : tie.After-write = search in
-    let section : tie.After-section = search in
+    let section : tie.After-encodings = search in
     let sum : tie.After-sum-so-far = search in
     let start : tie.Start = search in
     let p = start .pre in
-    xor-made _ (p .1) _ _ 10 _ _ _ _ (p .2) (p .3) (section .section .ensures) (sum .sum-so-far .ensures) (written .write .ensures)
+    let nr = start .args .rounds in
+    xor-made _ (p .width) _ _ nr _ _ _ _ (p .results) (p .index) (section .encodings .ensures) (sum .sum-so-far .ensures) (written .write .ensures)
 
 write-requires : tie.Need-write-requires
-unfolding encodings
 write-requires c κs =
-    let section : tie.After-section = search in
+    let section : tie.After-encodings = search in
     let sum : tie.After-sum-so-far = search in
     let bytes : tie.After-shared-slice-known = search in
     let start : tie.Start = search in
     let p = start .pre in
-    let below = numbers-below _ (p .1) _ _ tenEncodings _ (p .2) (p .3) (sum .sum-so-far .ensures) in
-    let permutes = encodings-permute 10 _ _ (section .section .ensures) (λ i. bytes .shared-slice-known .given i .fits) (p .0) in
-    (permutes _ (below .0), permutes _ (below .1), permutes _ (below .2), p .4)
+    let nr = start .args .rounds in
+    let below = numbers-below _ (p .width) _ _ (encodings nr) _ (p .results) (p .index) (sum .sum-so-far .ensures) in
+    let permutes = encodings-permute _ _ _ (section .encodings .ensures) (λ i. bytes .shared-slice-known .given i .fits) (p .bundle .accepted) in
+    record { of-sum = permutes _ (below .0); of-added = permutes _ (below .1); of-result = permutes _ (below .2); room = p .room }
 
 -- ---- no sum and no product wraps
-fits : (s : tie.Start) → Within tenEncodings (s .args .m) (s .args .first) (s .args .x)
-fits s = xor-within tenEncodings _ _ _ (s .pre .1) (s .pre .2) (s .pre .3)
+fits : (s : tie.Start) → Within mostEncodings (s .args .m) (s .args .first) (s .args .x)
+fits s = xor-within mostEncodings _ _ _ (s .pre .width) (omega (arith, s .pre .results, most-encodings _ (s .pre .bundle .rounds))) (s .pre .index)
 
 mul-word : tie.Need-mul-word
 mul-word c = omega (arith, fits (search))
@@ -92,7 +93,7 @@ mul-result : tie.Need-mul-result
 mul-result c = search needs
 
 add-result : tie.Need-add-result
-add-result c = search needs
+add-result c = omega (arith, fits (search))
 
 sub-sum-so-far : tie.Need-sub-sum-so-far
 sub-sum-so-far c = search needs
@@ -100,8 +101,8 @@ sub-sum-so-far c = search needs
 sum-so-far-requires : tie.Need-sum-so-far-requires
 sum-so-far-requires c κs = search needs
 
-section-requires : tie.Need-section-requires
-section-requires c κs = search needs
+encodings-requires : tie.Need-encodings-requires
+encodings-requires c κs = search needs
 
 same-length : tie.Need-same-length
 same-length c = search needs
@@ -126,7 +127,7 @@ xor-table-spec =
     add-sum-so-far-2
     sub-sum-so-far
     sum-so-far-requires
-    section-requires
+    encodings-requires
     add-write
     add-write-2
     mul-write

@@ -8,22 +8,22 @@ use Rattle.view.proofs.part.section_from.Statement.{statement}
 use Rattle.view.proofs.part.section_from.Tie as tie
 
 returns : tie.Need-returns
-returns c = from-nowhere 10 _ _ _ (search)
+returns c = from-nowhere _ _ _ _ (search)
 
 returns-2 : tie.Need-returns-2
 returns-2 c =
     let long : tie.After-section-length = search in
-    from-long 10 _ _ _ (search) (long .section-length .ensures .0) (search)
+    from-long _ _ _ _ (search) (long .section-length .ensures .0) (search)
 
 returns-3 : tie.Need-returns-3
 returns-3 c =
     let long : tie.After-section-length = search in
-    from-late 10 _ _ _ (search) (long .section-length .ensures .0) (search) (search)
+    from-late _ _ _ _ (search) (long .section-length .ensures .0) (search) (search)
 
 returns-4 : tie.Need-returns-4
 returns-4 c =
     let long : tie.After-section-length = search in
-    from-cut 10 _ _ _ (search) (long .section-length .ensures .0) (search) (search)
+    from-cut _ _ _ _ (search) (long .section-length .ensures .0) (search) (search)
 
 -- ---- the needs that the search closes
 section-length-requires : tie.Need-section-length-requires

@@ -1,0 +1,9 @@
+pub mod Judged
+pub mod Calls
+pub mod Kept
+pub mod Next
+pub mod Served
+pub mod KeepsBytes
+pub mod PlaceRead
+pub mod PutDown
+pub mod Zeros
