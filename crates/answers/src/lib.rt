@@ -1,4 +1,4 @@
-// What every call answers: accepted, or refused for a cause of document 01's table "Turned down" or of document 02. In code the numbers of each cause stand
+// The answer of a call that only accepts or refuses, and the refusals of every call: a cause of document 01's table "Turned down" or of document 02. In code the numbers of each cause stand
 // here alone.
 pub mod found;
 

@@ -1,6 +1,7 @@
 -- DEMANDS 2 AND 3, AND THE ROUND TRIP, OF THE CALLS IN CODE, for a reader to hold against the mission. Crate whitebox states them of definitions, in its
 -- specs/Demand2.antt, Demand3.antt and RoundTrip.antt; here they are stated of calls that meet the contracts of crate evaluate (its specs/Contracts.antt), of
--- whole walks (Whole.antt) and of chains of calls (Chains.antt). Each statement is a type; proofs/laws/Demands.antt proves them.
+-- whole walks (Whole.antt) and of chains of calls (Chains.antt). Of demand 2 it is here that a whole walk leaves `walkedOver`; that this is the cipher's block is
+-- whitebox/specs/Demand2.antt, and of the bytes that the maker leaves tables/specs/Made.antt. Each statement is a type; proofs/laws/Demands.antt proves them.
 use mathlib.Core.List.{List, map}
 use mathlib.Core.Logic.{_≢_}
 use mathlib.Core.Path.{_≡_}

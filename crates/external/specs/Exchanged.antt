@@ -39,7 +39,7 @@ pub record Exchanged (nr : ℕ) (k l : List ℕ) : Type 0 where
 abbrev pub ExchangedCross : Type 0
 ExchangedCross = (nr : ℕ) (k l : List ℕ) → Exchanged nr k l → Crossed nr k l
 
--- ---- there are such bundles, with any outer lists and matrices that have inverses
+-- ---- there are such bundles: with any one list for all nibbles of the input coding, any one for those of the output coding, and any two matrices that have inverses
 -- A bundle with the list A for each nibble of the input coding, B for each of the output coding, input matrix I and output matrix O. Its byte and column matrices are
 -- built from blocks (judgement/specs/Witness.antt), and its inner lists change nothing.
 abbrev pub outerLists : ℕ → List ℕ → List ℕ → ℕ → List ℕ

@@ -52,7 +52,8 @@ pub record StatesDue (c nr : ℕ) (w b : List ℕ) : Type 0 where
 abbrev pub StatesByFips : Type 0
 StatesByFips = (c nr : ℕ) (w b : List ℕ) → StatesDue c nr w b
 
--- The values due (Values.antt) over any codings C, stage by stage: the bytes that stand at its start, and for each position p the word of its spread lookup.
+-- The values due (Values.antt) over any codings C, stage by stage: the bytes that stand at its start, and for each position p the word of its spread lookup. The words are
+-- Words.antt's, with the coefficients of the cipher's parts, which are MixColumns' or InvMixColumns' own (Parts.antt).
 module _ (c nr : ℕ) (w b : List ℕ) (C : Codings) where
   abbrev P : Parts
   P = partsFor c nr w

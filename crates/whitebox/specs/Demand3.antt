@@ -36,7 +36,7 @@ pub record Presented (x : List ℕ) : Type 0 where
 -- ---- what is due at each place of a walk
 -- Of the state s at count k, from the uncoded presented block b: "each coded half-byte held, its own list taken off, is the one that FIPS 197 and the bundle's matrices
 -- give for that place"; a place with no encoding is zero. And the encoding of each place is "that of the last look-up numbered below the count whose result
--- these rules put there".
+-- these rules put there". That the walk's own count is k is said beside it (`last` of `Answered`).
 module _ (c nk : ℕ) (key l b : List ℕ) where
   -- Due at standing nibble q, and at nibble q of the area.
   abbrev pub standingValue : ℕ → ℕ → Due

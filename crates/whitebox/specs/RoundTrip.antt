@@ -11,8 +11,9 @@ use Rattle.calls.specs.Calls.{walkedOver}
 use Rattle.whitebox.specs.Bundles.{madeSet}
 use Rattle.whitebox.specs.Demand3.{Given, Presented}
 
--- What is said of two memories, whatever they hold: walking one and then the other, from the block x, gives x again. What the first walk's fetch leaves in a lent block
--- is presented to the second, which answers into another. The walk over `forward` is for the forward cipher, the one over `inverse` for the cipher that i names.
+-- The claim, as a property of two memories: walking one and then the other, from the block x, gives x again. `RoundTripFor` makes it of made sets only. What the first
+-- walk's fetch leaves in a lent block, which may have held anything, is presented to the second, which answers into another. The walk over `forward` is for the forward
+-- cipher, the one over `inverse` for the cipher that i names.
 pub record GivesBack (nr i : ℕ) (forward inverse x lent lent′ : List ℕ) : Type 0 where
   pub forward-first : walkedOver i nr inverse (walkedOver 0 nr forward x lent) lent′ ≡ x
   pub inverse-first : walkedOver 0 nr forward (walkedOver i nr inverse x lent) lent′ ≡ x
