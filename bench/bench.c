@@ -71,7 +71,7 @@ static void walk_ours(void)
 static void walk_plain(void)
 {
     uint8_t answer[TAZHIKKO_BLOCK_BYTES];
-    plain_walk(cipher, plain_set[cipher], plain_block, answer);
+    plain_walk(cipher, plain_set[cipher], TAZHIKKO_SET_BYTES, plain_block, sizeof plain_block, answer, sizeof answer);
     memcpy(plain_block, answer, sizeof answer);
 }
 
@@ -87,8 +87,17 @@ static size_t replay_ours(const struct recorded *r)
     return differs;
 }
 
-static void record_plain(struct recorded *r) { plain_record(cipher, plain_set[cipher], r->block, r->plain); }
-static size_t replay_plain(const struct recorded *r) { return plain_replay(cipher, plain_set[cipher], r->block, r->plain); }
+static void record_plain(struct recorded *r)
+{
+    plain_record(cipher, plain_set[cipher], TAZHIKKO_SET_BYTES, r->block, sizeof r->block, r->plain, sizeof r->plain);
+}
+
+static size_t replay_plain(const struct recorded *r)
+{
+    size_t differs = 0;
+    plain_replay(cipher, plain_set[cipher], TAZHIKKO_SET_BYTES, r->block, sizeof r->block, r->plain, sizeof r->plain, &differs);
+    return differs;
+}
 
 /* In turn, so that a call reads other entries than the one before. */
 static struct recorded *next(void)
@@ -109,7 +118,12 @@ static size_t bit_ours(const struct recorded *r, size_t from)
     return bit;
 }
 
-static size_t bit_plain(const struct recorded *r, size_t from) { return plain_next_bit(cipher, plain_set[cipher], r->block, from); }
+static size_t bit_plain(const struct recorded *r, size_t from)
+{
+    size_t bit = SET_BITS;
+    plain_next_bit(cipher, plain_set[cipher], TAZHIKKO_SET_BYTES, r->block, sizeof r->block, from, &bit);
+    return bit;
+}
 
 /* Behind every 16th bit of the list in turn: the searches of a round take a sixteenth of the time of the whole list. */
 static size_t next_from(void)

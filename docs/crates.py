@@ -20,9 +20,9 @@ GROUPS = {
     "answers and numbers of rounds": ("#e4e7eb", {"answers": 1.2, "rounds": 5.0}),
     "the bundle": ("#fdebc8", {"bundle": 1.6, "judgement": 2.1, "external": 2.1, "view": 0.9}),
     "the table set, as definitions and theorems": ("#ecdff7", {"network": 5.2, "layout": 5.2, "calls": 5.15, "whitebox": 3.5, "sensitivity": 3.5, "demands": 5.0}),
-    "the maker": ("#dcf2e3", {"entries": 0, "layers": 0.7, "stages": 0.7, "tables": 0.7}),
-    "the walk": ("#f8dcdc", {"lookups": 6.0, "passes": 5.7, "evaluate": 5.6, "records": 5.9, "next_bit": 4.5}),
-    "calls for C, chains of calls, programs": ("#ffffff", {"host": 2, "chains": 3.6, "streams": 7.0, "maker": 6.3, "walker": 7.2, "catalogue_list": 7.6}),
+    "the maker": ("#dcf2e3", {"encodings": 0, "xor_tables": -0.1, "spread_tables": 0.9, "inverse_matrices": 2.2, "substitution": 1.6, "layers": 2.6, "stages": 0.9, "keyed_tables": 0.9, "tables": 0.9}),
+    "the walk": ("#f8dcdc", {"lookups": 6.0, "layer_lookups": 6.7, "layer_record": 7.6, "passes": 5.7, "moves": 5.9, "evaluate": 5.6, "records": 7.0, "next_bit": 4.5}),
+    "calls for C, chains of calls, programs": ("#ffffff", {"one_call": 6.0, "told": 4.5, "host": 3.0, "orders": 5.6, "chains": 1.6, "streams": 8.4, "maker": 0.1, "walker": 8.0, "catalogue_list": 8.9}),
 }
 TESTS = {"matrix_cases", "aes_vectors", "bundle_cases", "walk_cases"}
 FILL = {name: color for color, names in GROUPS.values() for name in names}

@@ -15,11 +15,14 @@ INLINED bool below(void *state, reading r)
     return false;
 }
 
-size_t plain_next_bit(uint64_t cipher, const uint8_t *set, const uint8_t *block, size_t from)
+uint64_t plain_next_bit(uint64_t cipher, const uint8_t *set, size_t set_len, const uint8_t *block, size_t block_len, size_t from, size_t *bit)
 {
-    uint8_t standing[16];
+    uint64_t refusal = judged(set_len, block_len);
+    if (refusal != 0)
+        return refusal;
     search s = {from, SIZE_MAX};
-    memcpy(standing, block, 16);
-    walk(cipher, set, standing, (visitor){below, &s, set});
-    return s.bit;
+    held w = started(block);
+    walk(cipher, set, &w, (visitor){below, &s, set});
+    *bit = s.bit;
+    return 0;
 }

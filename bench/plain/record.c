@@ -1,7 +1,7 @@
 #include "plain.h"
 #include "walk.h"
 
-enum { ENTRY_BYTES = 5 };
+enum { ENTRY_BYTES = 5, RECORD_BYTES = 15040 };
 
 /* An offset is turned round as one word, which is right where the machine has the least significant byte first. */
 
@@ -27,18 +27,31 @@ INLINED bool compare(void *state, reading r)
     return true;
 }
 
-void plain_record(uint64_t cipher, const uint8_t *set, const uint8_t *block, uint8_t *record)
+static uint64_t judged_record(size_t set_len, size_t block_len, size_t record_len)
 {
-    uint8_t standing[16];
-    memcpy(standing, block, 16);
-    walk(cipher, set, standing, (visitor){note, &record, set});
+    uint64_t refusal = judged(set_len, block_len);
+    return refusal != 0 ? refusal : record_len != RECORD_BYTES ? refused(13) : 0;
 }
 
-size_t plain_replay(uint64_t cipher, const uint8_t *set, const uint8_t *block, const uint8_t *record)
+uint64_t plain_record(uint64_t cipher, const uint8_t *set, size_t set_len, const uint8_t *block, size_t block_len, uint8_t *record, size_t record_len)
 {
-    uint8_t standing[16];
+    uint64_t refusal = judged_record(set_len, block_len, record_len);
+    if (refusal != 0)
+        return refusal;
+    held w = started(block);
+    walk(cipher, set, &w, (visitor){note, &record, set});
+    return 0;
+}
+
+uint64_t plain_replay(uint64_t cipher, const uint8_t *set, size_t set_len, const uint8_t *block, size_t block_len, const uint8_t *record, size_t record_len,
+    size_t *differs)
+{
+    uint64_t refusal = judged_record(set_len, block_len, record_len);
+    if (refusal != 0)
+        return refusal;
     const uint8_t *next = record;
-    memcpy(standing, block, 16);
-    bool own = walk(cipher, set, standing, (visitor){compare, &next, set});
-    return own ? SIZE_MAX : (size_t)(next - record) / ENTRY_BYTES;
+    held w = started(block);
+    bool own = walk(cipher, set, &w, (visitor){compare, &next, set});
+    *differs = own ? SIZE_MAX : (size_t)(next - record) / ENTRY_BYTES;
+    return 0;
 }

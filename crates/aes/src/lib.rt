@@ -7,10 +7,14 @@ use answers::Answer;
 use answers::Refusal;
 use bits::block::load;
 use bits::block::store;
-use round::key::expand_key;
+use round::key::FOUR;
+use round::key::expand;
 use rounds::TEN;
 ghost use mathlib.Core.Path.{_≡_};
 ghost use Rattle.aes.specs.Answers.{answerOf, enciphered, deciphered};
+
+// Bytes of the round keys of ten rounds.
+const ROUND_KEYS: usize = 16 * (TEN + 1);
 
 // Whether a call is accepted, by the lengths of what it is lent.
 fn judged(key: &[u8], block_in: &[u8], block_out: &[u8]) -> Answer
@@ -37,7 +41,8 @@ pub fn encipher(key: &[u8], block_in: &[u8], block_out: &mut [u8]) -> Answer
 {
     let a = judged(key, block_in, block_out);
     if let Answer::Accepted = a {
-        let w = expand_key(load(key));
+        let mut w = [0u8; ROUND_KEYS];
+        expand(FOUR, key, &mut w);
         store(block_out, cipher(TEN, &w, load(block_in)));
     }
     a
@@ -51,7 +56,8 @@ pub fn decipher(key: &[u8], block_in: &[u8], block_out: &mut [u8]) -> Answer
 {
     let a = judged(key, block_in, block_out);
     if let Answer::Accepted = a {
-        let w = expand_key(load(key));
+        let mut w = [0u8; ROUND_KEYS];
+        expand(FOUR, key, &mut w);
         store(block_out, inv_cipher(TEN, &w, load(block_in)));
     }
     a

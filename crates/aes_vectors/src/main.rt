@@ -89,7 +89,8 @@ fn longer_keys() {
 
 // The lines of one record with a key of four words, by the calls.
 fn vector(key: [u8; 16], block: [u8; 16]) {
-    let w = round::key::expand_key(key);
+    let mut w = [0u8; 176];
+    round::key::expand(4, &key, &mut w);
     show(&w);
     let mut enciphered = [0u8; 16];
     aes::encipher(&key, &block, &mut enciphered);

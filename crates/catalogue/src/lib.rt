@@ -59,15 +59,17 @@ fn kernel_with(kernel: u16, row: usize) -> u16
     kernel & KERNELS[row]
 }
 
-// The matrix whose rows make a number has an inverse: all its rows together take no vector but 0 to 0.
+// The matrix whose rows make a number has an inverse: all its rows together take no vector but 0 to 0. The constant
+// is laid out once for the four rows: each read of the constant itself copies it.
 pub fn is_invertible(number: u16) -> bool
     ensures { λ r. ⌜ r ≡ isInvertible side number ⌝ }
 {
+    let kernels = KERNELS;
     let v = number as usize;
-    let first = kernel_with(WHOLE, v / VECTORS / VECTORS / VECTORS);
-    let second = kernel_with(first, v / VECTORS / VECTORS % VECTORS);
-    let third = kernel_with(second, v / VECTORS % VECTORS);
-    kernel_with(third, v % VECTORS) == ALONE
+    let first = WHOLE & kernels[v / VECTORS / VECTORS / VECTORS];
+    let second = first & kernels[v / VECTORS / VECTORS % VECTORS];
+    let third = second & kernels[v / VECTORS % VECTORS];
+    third & kernels[v % VECTORS] == ALONE
 }
 
 // `WAYS`, where this many rows are still to choose.

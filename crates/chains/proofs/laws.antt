@@ -1,4 +1,2 @@
-pub mod Orders
-pub mod Answered
 pub mod Whole
 pub mod Refusals

@@ -1,3 +1,2 @@
-// The calls one after the other: functions above them, whose contracts follow from the calls' contracts and from demands 2 and 3.
-pub mod orders;
+// All calls one after the other, from a key to the block again: a function above them, whose contract follows from the calls' contracts and from demand 2.
 pub mod whole;

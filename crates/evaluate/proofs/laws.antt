@@ -1,4 +1,3 @@
-pub mod Stages
 pub mod Calls
 pub mod Chains
 pub mod Whole

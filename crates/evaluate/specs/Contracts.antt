@@ -5,6 +5,9 @@ use mathlib.Core.Path.{_≡_}
 use Prim.Native.Nat.{ℕ, _-_, _<_}
 use lib.ListN.{length}
 use Rattle.answers.specs.declared.Answer.{Answer}
+use Rattle.answers.specs.declared.Answer.the-variants.{Refused}
+use Rattle.answers.specs.declared.Refusal.{Refusal}
+use Rattle.layout.specs.Stages.{nowhere}
 use Rattle.calls.specs.Calls.{Call, judgeStart, started, fetch, answer, handed, passedOn, blockLeft}
 use Rattle.calls.specs.PlaceRead.{InTable}
 use Rattle.evaluate.specs.Held.{held}
@@ -25,6 +28,12 @@ module _ (nr : ℕ) where
     pub offset : r .offset ≡ passedOn nr c (held w)
     -- What the code's types add to these equations: standing bytes and area are bytes, so where lookups were made the offset lies in the last one's table.
     pub inside : w .count < r .walk .count → InTable nr (r .walk .count - 1) (r .offset)
+
+  -- A move of the walk w that is refused, as the private function `refused` hands it back.
+  pub record Refuses (refusal : Refusal) (w : Walk) (r : Move) : Type 0 where
+    pub answer : r .answer ≡ Refused refusal
+    pub walk : r .walk ≡ w
+    pub offset : r .offset ≡ nowhere nr
 
   -- `fetch` from the walk w into a block that held `lent` answers r, and the block is `left` afterwards. The walk stays with the caller.
   pub record Fetches (lent : List ℕ) (w : Walk) (r : Answer) (left : List ℕ) : Type 0 where

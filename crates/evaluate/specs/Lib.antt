@@ -1,5 +1,4 @@
 pub mod Held
-pub mod Advanced
 pub mod Contracts
 pub mod Chains
 pub mod PlaceRead

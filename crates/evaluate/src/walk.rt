@@ -1,12 +1,10 @@
 // The held walk and its calls, over any walk, any lent memory and any number.
 ghost use mathlib.Core.Path.{_≡_};
 ghost use Rattle.network.specs.Lookups.{stateAt, zeroArea};
-ghost use Rattle.layout.specs.Ciphers.{readsOf};
 ghost use Rattle.rounds.specs.Rounds.{Rounds};
 ghost use Rattle.calls.specs.Calls as calls;
 ghost use Rattle.evaluate.specs.Held.{held};
-ghost use Rattle.evaluate.specs.Advanced.{PartAsked, MoveAsked, Refuses, Advanced, Advances};
-ghost use Rattle.evaluate.specs.Contracts.{Opens, Moves, Fetches};
+ghost use Rattle.evaluate.specs.Contracts.{Opens, Refuses, Moves, Fetches};
 use answers::Answer;
 use answers::Refusal;
 use bits::block::load;
@@ -16,9 +14,8 @@ use layout::stage::lookups_in;
 use layout::stage::place_of;
 use layout::stage::set_bytes;
 use layout::stage::tables_bytes;
-use layout::stage::width_of;
-use lookups::layer;
-use passes::look_up_at;
+use lookups::layer::lookup_in;
+use moves::advance;
 use rounds::TEN;
 
 // "A held walk is a count, 16 standing bytes and a spread area of 256 bytes, all by value." It keeps the cipher that it
@@ -43,12 +40,6 @@ pub struct Move {
     pub answer: Answer,
     pub walk: Walk,
     pub offset: usize,
-}
-
-// What a part of a move reached: a count, and the offset of the last lookup up to it.
-struct Reached {
-    count: usize,
-    offset: usize,
 }
 
 // The walk that a start makes for a cipher: what it keeps beside its state is made here.
@@ -106,65 +97,6 @@ pub fn start(cipher: u64, block: &[u8]) -> Opening
     }
 }
 
-// At count n, all lookups of a stage or half where it begins here and ends by the stop, else one.
-fn step(
-    rounds: usize,
-    cipher: u64,
-    standing: &mut [u8; 16],
-    area: &mut [u8; 256],
-    set: &[u8],
-    n: usize,
-    stop: usize,
-) -> Reached
-    requires { ⌜ PartAsked rounds (now set) n stop (now standing) (now area) ⌝ }
-    ensures { λ r. ⌜ Advanced (readsOf cipher) rounds (now (set .entry)) n stop (r .count) (r .offset)
-        (now (standing .entry)) (now (area .entry)) (now (standing .exit)) (now (area .exit)) ⌝ }
-{
-    let p = place_of(rounds, n);
-    let from = p.offset;
-    let stage = p.stage;
-    let index = p.index;
-    let all = layer::lookups_of(width_of(stage));
-    if index == 0 {
-        if all <= stop - n {
-            let last = layer::layer_in(cipher, standing, area, set, from, stage);
-            let end = n + all;
-            return Reached {
-                count: end,
-                offset: last.offset,
-            };
-        }
-    }
-    let read = look_up_at(cipher, standing, area, set, p);
-    let next = n + 1;
-    Reached {
-        count: next,
-        offset: read.offset,
-    }
-}
-
-// The lookups from the count up to the stop: an accepted move.
-fn advance(rounds: usize, walk: Walk, set: &[u8], stop: usize) -> Move
-    requires { ⌜ MoveAsked rounds (now set) (walk .count) stop ⌝ }
-    ensures { λ r. ⌜ Advances rounds (now (set .entry)) stop walk r ⌝ }
-{
-    let cipher = walk.cipher;
-    let mut standing = walk.standing;
-    let mut area = walk.area;
-    let mut n = walk.count;
-    let mut offset = tables_bytes(rounds);
-    while n < stop {
-        let r = step(rounds, cipher, &mut standing, &mut area, set, n, stop);
-        n = r.count;
-        offset = r.offset;
-    }
-    Move {
-        answer: Answer::Accepted,
-        walk: changed(walk, n, standing, area),
-        offset: offset,
-    }
-}
-
 // A move to a stop.
 pub fn move_to(walk: Walk, set: &[u8], stop: usize) -> Move
     ensures { λ r. ⌜ Moves 10 (calls.toStop (now (set .entry)) stop) walk r ⌝ }
@@ -186,7 +118,16 @@ pub fn to_stop(rounds: usize, walk: Walk, set: &[u8], stop: usize) -> Move
     if stop < walk.count {
         return refused(rounds, walk, Refusal::Stop);
     }
-    advance(rounds, walk, set, stop)
+    let cipher = walk.cipher;
+    let count = walk.count;
+    let mut standing = walk.standing;
+    let mut area = walk.area;
+    let offset = advance(rounds, cipher, &mut standing, &mut area, set, count, stop);
+    Move {
+        answer: Answer::Accepted,
+        walk: changed(walk, stop, standing, area),
+        offset: offset,
+    }
 }
 
 // A move of one lookup, with only that table lent.
@@ -215,7 +156,7 @@ fn one_lookup(rounds: usize, walk: Walk, table: &[u8]) -> Move
     let stage = p.stage;
     let index = p.index;
     let from = p.offset;
-    let read = layer::lookup_in(cipher, &mut standing, &mut area, table, from, stage, index);
+    let read = lookup_in(cipher, &mut standing, &mut area, table, from, stage, index);
     Move {
         answer: Answer::Accepted,
         walk: changed(walk, n + 1, standing, area),

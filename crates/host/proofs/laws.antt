@@ -1,6 +1,2 @@
-pub mod Walks
-pub mod Pointers
-pub mod Told
-pub mod Bits
-pub mod Entries
+pub mod Numbered
 pub mod Returned

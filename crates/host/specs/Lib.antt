@@ -1,5 +1,1 @@
-pub mod Walks
-pub mod Told
-pub mod Bits
-pub mod Entries
 pub mod Returned

@@ -9,7 +9,7 @@ use Rattle.tables.specs.Calls.{setAnswer, tableAnswer}
 use Rattle.catalogue.specs.Catalogue.{catalogueEntry, entryAnswer}
 use Rattle.calls.specs.Calls.{judgeWhole}
 use Rattle.records.specs.Replay.{judgeRecord}
-use Rattle.host.specs.Walks.{walkAnswer}
+use Rattle.one_call.specs.Walks.{walkAnswer}
 
 -- Of every call, whatever it is lent: both of the documents' numbers can be read off, and it is 0 only where the call is accepted.
 pub record Returned : Type 0 where

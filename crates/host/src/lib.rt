@@ -1,9 +1,7 @@
 // The calls for a host program in C: numbers and byte slices, each slice a pointer and a length. A call returns 0 where it is accepted,
 // else cause * 2^32 + the number returned with it.
-pub mod entry;
 pub mod make;
-pub mod read_bits;
-pub mod replay;
+pub mod tell;
 pub mod walk;
 
 use answers::number;
@@ -14,9 +12,6 @@ ghost use Rattle.aes.specs.Answers.{answerOf, enciphered, deciphered};
 ghost use Rattle.judgement.specs.Judge.{judge};
 ghost use Rattle.external.specs.Calls.{answer, leaves};
 ghost use Rattle.external.specs.Coding.{encodeInput, decodeInput, encodeOutput, decodeOutput};
-
-// What stands for none, of lookups or of bits, behind a pointer: the largest number of 64 bits.
-pub(crate) const NONE: usize = 18446744073709551615;
 
 // The judgement of a bundle, causes 2 to 7.
 #[no_mangle]

@@ -10,8 +10,7 @@ use Rattle.bits.specs.Lists.{tabulate}
 use Rattle.matrices.specs.Rows.{rowAt, setRow}
 
 -- What a step of column k asks, with row i: n rows, at most `most`, of so many words each, which m has, and k and i
--- among their numbers. The loops of the eliminations call such steps: here `coefficient` and `pivot`, in invertible
--- `clear`, and in narrow `pivot`.
+-- among their numbers. The loops of the eliminations call such steps: here and in narrow `pivot`, in invertible `clear`.
 pub record ColumnStep (most words n k i : ℕ) (m : List ℕ) : Type 0 where
   pub within : n ≤ most
   pub room : words * n ≤ length m
@@ -39,10 +38,13 @@ lefts n m = tabulate n (leftAt m)
 unfoldable pub rights : ℕ → List ℕ → List ℕ
 rights n m = tabulate n (rightAt m)
 
--- c times row s added to row i, on both sides.
-unfoldable pub addedTo : List ℕ → ℕ → ℕ → ℕ → List ℕ
-addedTo m i s c =
-    setRow (setRow m (2 * i) (bitXor (leftAt m i) (c * leftAt m s))) (2 * i + 1) (bitXor (rightAt m i) (c * rightAt m s))
+-- Row i replaced by l on the left and by r on the right.
+unfoldable pub bothSet : List ℕ → ℕ → ℕ → ℕ → List ℕ
+bothSet m i l r = setRow (setRow m (2 * i) l) (2 * i + 1) r
+
+-- c times l and r added to row i, on the left and on the right.
+unfoldable pub addedTo : List ℕ → ℕ → ℕ → ℕ → ℕ → List ℕ
+addedTo m i c l r = bothSet m i (bitXor (leftAt m i) (c * l)) (bitXor (rightAt m i) (c * r))
 
 -- The end of an elimination that answers r and leaves b on the right.
 abbrev pub ended : Bool → List ℕ → Inversion

@@ -4,12 +4,14 @@ ghost use mathlib.Core.Path.{_≡_};
 ghost use Prim.Native.Nat.{_+_, _-_, _*_, _<_, _≤_};
 ghost use lib.ListN.{length};
 ghost use Rattle.bits.specs.Lists.{tabulate};
+ghost use Rattle.bits.specs.Words.{value};
 ghost use Rattle.matrices.specs.Matrices.{identity};
 ghost use Rattle.matrices.specs.Rows.{rowsOf, stored};
 ghost use Rattle.inversion.specs.Elimination.{addRow, pivotBy, clearBy, columns};
-ghost use Rattle.inversion.specs.Work.{ColumnStep, leftAt, rightAt, lefts, rights, addedTo, ended};
+ghost use Rattle.inversion.specs.Work.{ColumnStep, leftAt, rightAt, lefts, rights, bothSet, addedTo, ended};
 use crate::search;
 use bits::vector;
+use bits::vector::Vector;
 use matrices::matrix::row;
 use matrices::matrix::set_row;
 
@@ -27,29 +29,26 @@ pub fn start(a: &[u64], work: &mut [u64], n: usize)
     }
 }
 
-// c times row s is added to row i, on both sides.
-fn add_row(work: &mut [u64], i: usize, s: usize, c: u64)
-    requires { ⌜ (4 * i + 3 < length (now work)) × (4 * s + 3 < length (now work)) × (c < 2) ⌝ }
-    ensures { λ _. ⌜ now (work .exit) ≡ addedTo (now (work .entry)) i s c ⌝ }
+// The rows l and r become row i, on the left and on the right.
+fn put(work: &mut [u64], i: usize, l: Vector, r: Vector)
+    requires { ⌜ 4 * i + 3 < length (now work) ⌝ }
+    ensures { λ _. ⌜ now (work .exit) ≡ bothSet (now (work .entry)) i (value l) (value r) ⌝ }
 {
-    let l = vector::add(row(work, 2 * i), c, row(work, 2 * s));
-    let r = vector::add(row(work, 2 * i + 1), c, row(work, 2 * s + 1));
     set_row(work, 2 * i, l);
     set_row(work, 2 * i + 1, r);
 }
 
-// Bit k of row i on the left; 0 for row k itself.
-fn coefficient(work: &[u64], n: usize, k: usize, i: usize) -> u64
-    requires { ⌜ ColumnStep 128 4 n k i (now work) ⌝ }
-    ensures { λ r. ⌜ r ≡ clearBy n k (leftAt (now (work .entry))) i ⌝ }
+// c times the rows l and r is added to row i, on the left and on the right.
+fn add_row(work: &mut [u64], i: usize, c: u64, l: Vector, r: Vector)
+    requires { ⌜ (4 * i + 3 < length (now work)) × (c < 2) ⌝ }
+    ensures { λ _. ⌜ now (work .exit) ≡ addedTo (now (work .entry)) i c (value l) (value r) ⌝ }
 {
-    if i == k {
-        return 0;
-    }
-    vector::digit(row(work, 2 * i), n - 1 - k)
+    let left = vector::add(row(work, 2 * i), c, l);
+    let right = vector::add(row(work, 2 * i + 1), c, r);
+    put(work, i, left, right);
 }
 
-// Row k clears bit k in every other row.
+// Row k clears bit k in every other row. No row is left out of the loop, which so has no branch: row k, which is lost in it, is put back.
 fn clear(work: &mut [u64], n: usize, k: usize)
     requires { ⌜ (n ≤ 128) × (4 * n ≤ length (now work)) × (k < n) ⌝ }
     ensures left { λ _. ⌜ lefts n (now (work .exit))
@@ -57,12 +56,15 @@ fn clear(work: &mut [u64], n: usize, k: usize)
     ensures right { λ _. ⌜ rights n (now (work .exit))
         ≡ tabulate n (addRow (clearBy n k (leftAt (now (work .entry)))) k (rightAt (now (work .entry)))) ⌝ }
 {
+    let l = row(work, 2 * k);
+    let r = row(work, 2 * k + 1);
     let mut i = 0;
     while i < n {
-        let c = coefficient(work, n, k, i);
-        add_row(work, i, k, c);
+        let c = vector::digit(row(work, 2 * i), n - 1 - k);
+        add_row(work, i, c, l, r);
         i += 1;
     }
+    put(work, k, l, r);
 }
 
 // Row k gets bit k from row p, if it lacks it.
@@ -74,7 +76,7 @@ fn pivot(work: &mut [u64], n: usize, k: usize, p: usize)
         ≡ tabulate n (addRow (pivotBy n k (leftAt (now (work .entry)))) p (rightAt (now (work .entry)))) ⌝ }
 {
     let b = vector::digit(row(work, 2 * k), n - 1 - k);
-    add_row(work, k, p, 1 - b);
+    add_row(work, k, 1 - b, row(work, 2 * p), row(work, 2 * p + 1));
 }
 
 // The elimination of n columns; false where one has no pivot.

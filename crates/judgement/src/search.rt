@@ -14,13 +14,15 @@ use answers::found::Found;
 // How many images a list has.
 const IMAGES: usize = 16;
 
+// The mark of image 0: the top bit of 16.
+const FIRST_MARK: u64 = 32768;
+
 // The mark of image x in a word of marks: bit x of 16, from the top.
 fn mark(x: u8) -> u64
     requires { ⌜ x < 16 ⌝ }
     ensures { λ r. ⌜ r ≡ unit 16 x ⌝ }
 {
-    let one: u64 = 1;
-    one << (15 - x)
+    FIRST_MARK >> x
 }
 
 // Image q of the lists that a section holds, 16 a list: "two to a byte".

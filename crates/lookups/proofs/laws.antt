@@ -1,3 +1,3 @@
 pub mod Area
 pub mod Layers
-pub mod Whole
+pub mod Words

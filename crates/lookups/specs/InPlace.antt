@@ -1,19 +1,18 @@
--- Lookups as the code makes them, one by one or a whole stage or half at once: the standing bytes and the area change in place. Definitions
--- only, for this crate's functions.
+-- Lookups as the code makes them, one by one: the standing bytes and the area change in place. Definitions only, for this crate's functions.
 use mathlib.Core.Bool.{cond}
 use mathlib.Core.List.{List}
 use mathlib.Core.Logic.{_⊎_}
 use mathlib.Core.Path.{_≡_}
-use Prim.Native.Nat.{ℕ, zero, suc, _+_, _-_, _*_, _/_, _%_, _≤_, _<_}
+use Prim.Native.Nat.{ℕ, suc, _+_, _*_, _/_, _%_, _≤_, _<_}
 use lib.Dec.{eqb}
 use lib.ListN.{length, set, take, drop}
 use lib.Seq.{paste}
 use Rattle.bits.specs.Lists.{at}
 use Rattle.bits.specs.Nibbles.{pack, nibble, setNibble}
-use Rattle.network.specs.Lookups.{stateAt, Shape, zeroArea, spreadArea, xorIndex, xorArea, sums, lookupIn}
-use Rattle.network.specs.Order.{xors, layerLookups}
+use Rattle.network.specs.Lookups.{stateAt, Shape, xorIndex, xorArea, lookupIn}
+use Rattle.network.specs.Order.{layerLookups}
 use Rattle.network.specs.Read.{readIn}
-use Rattle.network.specs.Sizes.{sizeOf, offsetOf, layerBytes}
+use Rattle.network.specs.Sizes.{sizeOf}
 use Rattle.network.specs.Theorems.{WithinTable}
 use Rattle.network.specs.declared.EntryPlace.{EntryPlace}
 use Rattle.layout.specs.Stages.{widthOf}
@@ -50,12 +49,6 @@ pub record Fits (s : Stage) (j from long : ℕ) : Type 0 where
   pub sized : long ≡ sizeOf (widthOf s) j
   pub short : from ≤ offsetLimit
 
--- The tables of a stage or half, from byte `from` on, lie in memory of the given length.
-pub record LayerStands (s : Stage) (from long : ℕ) : Type 0 where
-  pub width : (widthOf s ≡ 4) ⊎ (widthOf s ≡ 16)
-  pub room : from + layerBytes (widthOf s) ≤ long
-  pub short : long ≤ offsetLimit
-
 -- ---- what they leave
 -- The byte x with the half replaced that is nibble q of a list.
 abbrev pub withHalf : ℕ → ℕ → ℕ → ℕ
@@ -67,6 +60,11 @@ pub record SpreadRead (t : List ℕ) (m p x : ℕ) (a : List ℕ) (r : ℕ) (a�
   pub ends : r + m ≤ 256 * m
   pub area : a′ ≡ paste a (p * m) (drop (x * m) t) m
   pub long : length a′ ≡ length a
+
+-- The first m bytes of w are those of the table t from byte `from` on.
+pub record WordRead (t : List ℕ) (m from : ℕ) (w : List ℕ) : Type 0 where
+  pub same : take m w ≡ take m (drop from t)
+  pub long : length w ≡ 16
 
 -- An XOR lookup over the table t at two nibbles of an area a reads entry e and leaves the area a′.
 pub record XorRead (t : List ℕ) (sum added : ℕ) (a : List ℕ) (e : ℕ) (a′ : List ℕ) : Type 0 where
@@ -91,12 +89,6 @@ pub record XorMade (m x : ℕ) (t a : List ℕ) (e : ℕ) (a′ : List ℕ) : Ty
   pub below : e < 256
   pub area : a′ ≡ xorArea m x t a
 
--- XOR lookups 2y and 2y + 1 over the tables `high` and `low`: the second reads entry e, and they turn the area a into a′.
-pub record PairMade (m y : ℕ) (high low a : List ℕ) (e : ℕ) (a′ : List ℕ) : Type 0 where
-  pub entry : e ≡ xorIndex m (2 * y + 1) (xorArea m (2 * y) high a)
-  pub below : e < 256
-  pub area : a′ ≡ xorArea m (2 * y + 1) low (xorArea m (2 * y) high a)
-
 -- Lookup j over the table t, which begins at byte `from` of the set, reads the place r and turns standing bytes s and area a into s′ and a′ of the same
 -- lengths, at any count.
 pub record LookedUp (S : Shape) (j : ℕ) (t : List ℕ) (from : ℕ) (s a : List ℕ) (r : EntryPlace) (s′ a′ : List ℕ) : Type 0 where
@@ -105,42 +97,3 @@ pub record LookedUp (S : Shape) (j : ℕ) (t : List ℕ) (from : ℕ) (s a : Lis
   pub walk : (n : ℕ) → lookupIn S j t (stateAt n s a) ≡ stateAt (suc n) s′ a′
   pub kept : length s′ ≡ length s
   pub long : length a′ ≡ length a
-
--- ---- all lookups of a layer, whose tables begin at byte `from` of the set
-abbrev pub tableFrom : ℕ → List ℕ → ℕ → ℕ → List ℕ
-tableFrom m set from j = take (sizeOf m j) (drop (from + offsetOf m j) set)
-
--- The area after the first k spread lookups.
-unfoldable pub spreadsIn : Shape → List ℕ → ℕ → List ℕ → ℕ → List ℕ → List ℕ
-spreadsIn S set from s zero a = a
-spreadsIn S set from s (suc k) a = spreadArea (S .width) (S .source k) k (tableFrom (S .width) set from k) s (spreadsIn S set from s k a)
-
--- The area after the first k XOR lookups.
-unfoldable pub xorsIn : ℕ → List ℕ → ℕ → ℕ → List ℕ → List ℕ
-xorsIn m set from zero a = a
-xorsIn m set from (suc k) a = xorArea m k (tableFrom m set from (16 + k)) (xorsIn m set from k a)
-
--- All of them turn the area a into a′, and the last reads entry e.
-pub record XorsMade (m : ℕ) (set : List ℕ) (from : ℕ) (a : List ℕ) (e : ℕ) (a′ : List ℕ) : Type 0 where
-  pub entry : e ≡ xorIndex m (xors m - 1) (xorsIn m set from (xors m - 1) a)
-  pub below : e < 256
-  pub area : a′ ≡ xorsIn m set from (xors m) a
-  pub long : length a′ ≡ 256
-
--- The place that the last lookup of the layer reads, where all but it are made.
-unfoldable pub placeOfLast : Shape → List ℕ → ℕ → List ℕ → List ℕ → EntryPlace
-placeOfLast S set from s a =
-    let m = S .width in
-    let last = layerLookups m - 1 in
-    readIn S last (from + offsetOf m last) s (xorsIn m set from (xors m - 1) (spreadsIn S set from s 16 a))
-
--- The sums after all of them.
-unfoldable pub sumsIn : Shape → List ℕ → ℕ → List ℕ → List ℕ → List ℕ
-sumsIn S set from s a = let m = S .width in sums m (xorsIn m set from (xors m) (spreadsIn S set from s 16 a))
-
--- All lookups of a layer turn standing bytes s and area a into s′ and a′, and the last reads the place r.
-pub record LayerMade (S : Shape) (set : List ℕ) (from : ℕ) (s a : List ℕ) (r : EntryPlace) (s′ a′ : List ℕ) : Type 0 where
-  pub read : r ≡ placeOfLast S set from s a
-  pub table : WithinTable (S .width) (layerLookups (S .width) - 1) (from + offsetOf (S .width) (layerLookups (S .width) - 1)) r
-  pub standing : s′ ≡ sumsIn S set from s a
-  pub area : a′ ≡ zeroArea

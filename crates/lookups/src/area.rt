@@ -1,47 +1,26 @@
 // The spread area, changed in place.
 ghost use mathlib.Core.Logic.{_⊎_};
 ghost use mathlib.Core.Path.{_≡_};
-ghost use Prim.Native.Nat.{_+_, _*_, _/_, _%_, _<_};
+ghost use Prim.Native.Nat.{_+_, _*_, _/_, _%_, _<_, _≤_};
 ghost use lib.ListN.{length};
-ghost use Rattle.bits.specs.Nibbles.{half, nibble, pack};
 ghost use Rattle.network.specs.Lookups.{sums, zeroArea};
-ghost use Rattle.lookups.specs.InPlace.{SpreadIn, XorTables, withHalf, SpreadRead, XorRead, PairRead};
+ghost use Rattle.lookups.specs.InPlace.{SpreadIn, withHalf, SpreadRead, XorRead, WordRead};
+use crate::pair::half_of;
+use crate::pair::index_of;
+use crate::pair::joined;
+use crate::pair::xor_entry;
 use bits::encoding;
 
-// The half of the byte x that is nibble q of a list.
-fn half_of(x: u8, q: usize) -> u8
-    ensures { λ r. ⌜ (r ≡ half (q % 2) x) × (r < 16) ⌝ }
-{
-    if q % 2 == 0 { x / 16 } else { x % 16 }
-}
-
-// The byte x with that half replaced by v.
-fn with_half(x: u8, q: usize, v: u8) -> u8
+// The byte x with the half replaced by v that is nibble q of a list.
+fn with_half(x: u8, q: usize, v: usize) -> u8
     requires { ⌜ v < 16 ⌝ }
     ensures { λ r. ⌜ r ≡ withHalf x q v ⌝ }
 {
     if q % 2 == 0 {
-        v * 16 + x % 16
+        joined(v, half_of(x, 1))
     } else {
-        x / 16 * 16 + v
+        joined(half_of(x, 0), v)
     }
-}
-
-// The entry that two nibbles pick: "index 16a+b".
-fn index_of(a: u8, b: u8) -> usize
-    requires { ⌜ (a < 16) × (b < 16) ⌝ }
-    ensures { λ r. ⌜ (r ≡ pack a b) × (r < 256) ⌝ }
-{
-    encoding::widened(a) * 16 + encoding::widened(b)
-}
-
-// Entry e of an XOR table: "entry e stands in byte e/2, even e in the high half".
-fn xor_entry(table: &[u8], e: usize) -> u8
-    requires { ⌜ (e < 256) × (length (now table) ≡ 128) ⌝ }
-    ensures { λ r. ⌜ (r ≡ nibble (now (table .entry)) e) × (r < 16) ⌝ }
-{
-    let k = e / 2;
-    half_of(table[k], e)
 }
 
 // An XOR lookup: the nibbles at `sum` and `added` pick the nibble of the table that replaces the first. Hands
@@ -60,20 +39,19 @@ pub fn xor(area: &mut [u8; 256], table: &[u8], sum: usize, added: usize) -> usiz
     e
 }
 
-// Two XOR lookups in a row, those of the two nibbles of a byte: the high nibble over one table, then the low nibble
-// over the next. The byte is read and written once, which halves the time of a walk. Hands back the entry that the
-// second read.
-pub fn xor_byte(area: &mut [u8; 256], high: &[u8], low: &[u8], sum: usize, added: usize) -> usize
-    requires { ⌜ (sum < 256) × (added < 256) × XorTables (now high) (now low) ⌝ }
-    ensures { λ r. ⌜ PairRead (now (high .entry)) (now (low .entry)) sum added (now (area .entry)) r (now (area .exit)) ⌝ }
+// The word of `width` bytes that begins at a byte of a table, in front of zeros. It is read whole before it is written:
+// the compiler cannot know that a table and an area lie apart, and would move it byte by byte.
+fn word_of(table: &[u8], width: usize, from: usize) -> [u8; 16]
+    requires { ⌜ (width ≤ 16) × (from + width ≤ length (now table)) ⌝ }
+    ensures { λ r. ⌜ WordRead (now (table .entry)) width from r ⌝ }
 {
-    let a = area[sum];
-    let b = area[added];
-    let h = xor_entry(high, index_of(half_of(a, 0), half_of(b, 0)));
-    let e = index_of(half_of(a, 1), half_of(b, 1));
-    let l = xor_entry(low, e);
-    area[sum] = h * 16 + l;
-    e
+    let mut word = [0u8; 16];
+    let mut b = 0;
+    while b < width {
+        word[b] = table[from + b];
+        b += 1;
+    }
+    word
 }
 
 // A spread lookup: the byte s picks a word of the table, which becomes word p of the area. Hands back the byte
@@ -84,12 +62,24 @@ pub fn spread(area: &mut [u8; 256], table: &[u8], width: usize, p: usize, s: u8)
 {
     let to = p * width;
     let from = encoding::widened(s) * width;
+    let word = word_of(table, width, from);
     let mut b = 0;
     while b < width {
-        area[to + b] = table[from + b];
+        area[to + b] = word[b];
         b += 1;
     }
     from
+}
+
+// The same, of a width that the compiler knows: the word is moved at once.
+pub fn spread_known(area: &mut [u8; 256], table: &[u8], width: usize, p: usize, s: u8) -> usize
+    requires { ⌜ SpreadIn width p (length (now table)) × (length (now area) ≡ 256) × ((width ≡ 4) ⊎ (width ≡ 16)) ⌝ }
+    ensures { λ r. ⌜ SpreadRead (now (table .entry)) width p s (now (area .entry)) r (now (area .exit)) ⌝ }
+{
+    if width == 16 {
+        return spread(area, table, 16, p, s);
+    }
+    spread(area, table, 4, p, s)
 }
 
 // Where byte q of the sums stands: in word 0 of its group.

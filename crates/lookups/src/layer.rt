@@ -1,15 +1,16 @@
-// The lookups of a stage or half, one or all, in place: the standing bytes and the area are lent.
+// The lookups of a stage or half, in place: the standing bytes and the area are lent. One lookup over its table; and
+// what crates that make all of them over a set share.
 ghost use mathlib.Core.Logic.{_⊎_};
 ghost use mathlib.Core.Path.{_≡_};
-ghost use Prim.Native.Nat.{_+_, _-_, _*_, _≤_, _<_};
+ghost use Prim.Native.Nat.{_≤_, _<_};
 ghost use lib.ListN.{length};
 ghost use Rattle.network.specs.Order.{layerLookups};
+ghost use Rattle.network.specs.Lookups.{sums, zeroArea};
 ghost use Rattle.network.specs.Read.{nibblePlace};
-ghost use Rattle.network.specs.Sizes.{layerBytes};
 ghost use Rattle.layout.specs.Ciphers.{readsOf};
-ghost use Rattle.layout.specs.Stages.{widthOf, shapeAt};
-ghost use Rattle.lookups.specs.InPlace.{offsetLimit, Lent, XorIn, XorTables, Fits, LayerStands};
-ghost use Rattle.lookups.specs.InPlace.{XorMade, PairMade, LookedUp, XorsMade, LayerMade, spreadsIn};
+ghost use Rattle.layout.specs.Stages.{shapeAt};
+ghost use Rattle.lookups.specs.InPlace.{offsetLimit, Lent, XorIn, Fits, XorMade, LookedUp};
+ghost use Rattle.lookups.specs.Layer.{SpreadAsked, SpreadMade, WordIn, WordAt};
 use crate::area;
 use layout::stage::ENTRY_LOOKUPS;
 use layout::stage::HALF_LOOKUPS;
@@ -23,11 +24,19 @@ use network::EntryPlace;
 // and the bytes of an XOR table, and of two.
 const WORDS: usize = 256;
 
-const SPREAD_WORDS: usize = SPREADS * WORDS;
+pub const SPREAD_WORDS: usize = SPREADS * WORDS;
 
-const XOR_BYTES: usize = 128;
+pub const XOR_BYTES: usize = 128;
 
-const PAIR_BYTES: usize = 2 * XOR_BYTES;
+pub const PAIR_BYTES: usize = 2 * XOR_BYTES;
+
+// Where the bytes of a word of a group stand that are added to the group's sum: the first byte of the sum and of the
+// word in the area, and the first byte of their tables behind where those of the stage or half begin.
+pub struct Word {
+    pub sum: usize,
+    pub added: usize,
+    pub tables: usize,
+}
 
 // All lookups of a stage or half.
 pub fn lookups_of(width: usize) -> usize
@@ -56,7 +65,7 @@ fn xor_in(area: &mut [u8; 256], table: &[u8], width: usize, x: usize) -> usize
 }
 
 // The place of entry e of an XOR table that begins at byte `from` of the set.
-fn xor_place(from: usize, e: usize) -> EntryPlace
+pub fn xor_place(from: usize, e: usize) -> EntryPlace
     requires { ⌜ (from ≤ offsetLimit) × (e < 256) ⌝ }
     ensures { λ r. ⌜ r ≡ nibblePlace from e ⌝ }
 {
@@ -98,91 +107,53 @@ pub fn lookup_in(
     if j + 1 != lookups_of(width) {
         return read;
     }
-    area::take_sums(standing, area, width);
-    area::clear(area);
+    finish(standing, area, width);
     read
 }
 
-// XOR lookups 2y and 2y + 1 of a stage or half, those of one byte. Hands back the entry that the second read.
-fn xor_pair_in(area: &mut [u8; 256], high: &[u8], low: &[u8], width: usize, y: usize) -> usize
-    requires { ⌜ XorIn width (2 * y + 1) × XorTables (now high) (now low) × (length (now area) ≡ 256) ⌝ }
-    ensures { λ r. ⌜ PairMade width y (now (high .entry)) (now (low .entry)) (now (area .entry)) r (now (area .exit)) ⌝ }
-{
-    if width == 16 {
-        area::xor_byte(area, high, low, y % 16, y + 16)
-    } else {
-        let group = y / 12 * 16;
-        area::xor_byte(area, high, low, group + y % 4, group + 4 + y % 12)
-    }
-}
-
-// All spread lookups of a stage or half, whose tables begin at byte `from` of the set.
-fn spread_all(
+// Spread lookup p of a stage or half, whose tables begin at byte `from` of the set. Hands back the byte of the set where
+// the word begins that was read.
+pub fn spread_in(
     cipher: u64,
     standing: &[u8; 16],
     area: &mut [u8; 256],
     set: &[u8],
     from: usize,
     stage: Stage,
-)
-    requires { ⌜ (from + layerBytes (widthOf stage) ≤ length (now set)) × Lent (now standing) (now area) ⌝ }
-    ensures { λ _. ⌜ now (area .exit)
-        ≡ spreadsIn (shapeAt (readsOf cipher) stage) (now (set .entry)) from (now (standing .entry)) 16 (now (area .entry)) ⌝ }
-    ensures { λ _. ⌜ length (now (area .exit)) ≡ 256 ⌝ }
+    p: usize,
+) -> usize
+    requires { ⌜ SpreadAsked stage p from (length (now set)) × Lent (now standing) (now area) ⌝ }
+    ensures { λ r. ⌜ SpreadMade (shapeAt (readsOf cipher) stage) (now (set .entry)) from p
+        (now (standing .entry)) (now (area .entry)) r (now (area .exit)) ⌝ }
 {
     let width = width_of(stage);
     let size = WORDS * width;
-    let mut p = 0;
-    while p < SPREADS {
-        let i = source_of(cipher, stage, p);
-        let start = from + p * size;
-        let end = start + size;
-        area::spread(area, &set[start..end], width, p, standing[i]);
-        p += 1;
+    let start = from + p * size;
+    let end = start + size;
+    let i = source_of(cipher, stage, p);
+    let word = area::spread_known(area, &set[start..end], width, p, standing[i]);
+    start + word
+}
+
+// Word t of group g: "rounds, column, then word 1 to 3", each of its bytes two tables.
+pub fn word_in(width: usize, g: usize, t: usize) -> Word
+    requires { ⌜ WordIn width g t ⌝ }
+    ensures { λ r. ⌜ WordAt width g t r ⌝ }
+{
+    let sum = g * width * width;
+    let turns = g * (width - 1) + t - 1;
+    Word {
+        sum: sum,
+        added: sum + t * width,
+        tables: SPREAD_WORDS * width + turns * (PAIR_BYTES * width),
     }
 }
 
-// All XOR lookups of a stage or half, whose tables begin at byte `from` of the set, behind those of the spread lookups.
-// Hands back the entry that the last read.
-fn xor_all(area: &mut [u8; 256], set: &[u8], from: usize, width: usize) -> usize
-    requires { ⌜ (from + layerBytes width ≤ length (now set)) × (length (now area) ≡ 256) × ((width ≡ 4) ⊎ (width ≡ 16)) ⌝ }
-    ensures { λ r. ⌜ XorsMade width (now (set .entry)) from (now (area .entry)) r (now (area .exit)) ⌝ }
+// Behind the last lookup of a stage or half: the sums become the standing bytes, and the area zero.
+pub fn finish(standing: &mut [u8; 16], area: &mut [u8; 256], width: usize)
+    requires { ⌜ Lent (now standing) (now area) × ((width ≡ 4) ⊎ (width ≡ 16)) ⌝ }
+    ensures { λ _. ⌜ (now (standing .exit) ≡ sums width (now (area .entry))) × (now (area .exit) ≡ zeroArea) ⌝ }
 {
-    let start = from + SPREAD_WORDS * width;
-    let bytes = (lookups_of(width) - SPREADS) / 2;
-    let mut last = 0;
-    let mut y = 0;
-    while y < bytes {
-        let high = start + y * PAIR_BYTES;
-        let low = high + XOR_BYTES;
-        let end = low + XOR_BYTES;
-        last = xor_pair_in(area, &set[high..low], &set[low..end], width, y);
-        y += 1;
-    }
-    last
-}
-
-// All lookups of a stage or half, whose tables begin at byte `from` of the set. Hands back the place that the last one
-// read.
-pub fn layer_in(
-    cipher: u64,
-    standing: &mut [u8; 16],
-    area: &mut [u8; 256],
-    set: &[u8],
-    from: usize,
-    stage: Stage,
-) -> EntryPlace
-    requires { ⌜ LayerStands stage from (length (now set)) × Lent (now standing) (now area) ⌝ }
-    ensures { λ r. ⌜ LayerMade (shapeAt (readsOf cipher) stage) (now (set .entry)) from
-        (now (standing .entry)) (now (area .entry)) r (now (standing .exit)) (now (area .exit)) ⌝ }
-{
-    let width = width_of(stage);
-    // The last table: behind those of the spread lookups and of all XOR lookups but one.
-    let last = lookups_of(width) - 1;
-    let table = from + SPREAD_WORDS * width + (last - SPREADS) * XOR_BYTES;
-    spread_all(cipher, standing, area, set, from, stage);
-    let e = xor_all(area, set, from, width);
     area::take_sums(standing, area, width);
     area::clear(area);
-    xor_place(table, e)
 }

@@ -1,3 +1,4 @@
 pub mod Judged
 pub mod Places
 pub mod Walking
+pub mod Stages

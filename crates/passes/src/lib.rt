@@ -16,8 +16,7 @@ use layout::stage::width_of;
 use lookups::layer;
 
 // What is told of a lookup: the place of the set that it read, as an `EntryPlace` has it, its number in its stage or
-// half, and the bytes of a word there. The place's two numbers stand apart: one behind the other they are copied in
-// one, which waits for both to be written, and a record takes two thirds as long again.
+// half, and the bytes of a word there.
 pub struct Lookup {
     pub offset: usize,
     pub index: usize,
@@ -65,8 +64,7 @@ pub fn look_up_at(
     }
 }
 
-// Lookup n of a walk for a cipher, in place. It takes the place apart here: handed on whole, as above, it is copied in
-// pieces that wait for each other, and a record takes three quarters as long again.
+// Lookup n of a walk for a cipher, in place.
 pub fn look_up(
     rounds: usize,
     cipher: u64,
@@ -79,16 +77,5 @@ pub fn look_up(
     ensures { λ r. ⌜ LookupMade (readsOf cipher) rounds (now (set .entry)) n
         (now (standing .entry)) (now (area .entry)) r (now (standing .exit)) (now (area .exit)) ⌝ }
 {
-    let place = place_of(rounds, n);
-    let from = place.offset;
-    let stage = place.stage;
-    let index = place.index;
-    let to = from + place.size;
-    let looked = layer::lookup_in(cipher, standing, area, &set[from..to], from, stage, index);
-    Lookup {
-        offset: looked.offset,
-        index: index,
-        half: looked.half,
-        width: width_of(stage),
-    }
+    look_up_at(cipher, standing, area, set, place_of(rounds, n))
 }

@@ -1,5 +1,6 @@
 pub mod Entry
-pub mod Walking
+pub mod Compare
+pub mod Recorded
 pub mod Judged
 pub mod Loops
 pub mod Calls

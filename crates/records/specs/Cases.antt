@@ -2,7 +2,8 @@
 use mathlib.Core.Path.{_≡_}
 use Prim.Native.Nat.{_*_, _^_, _≤_}
 use Rattle.layout.specs.Stages.{tablesBytes}
-use Rattle.records.specs.Record.{offsetBytes, entrySize, recordBytes, tenRecordBytes}
+use Rattle.layer_record.specs.Entries.{offsetBytes, entrySize}
+use Rattle.records.specs.Record.{recordBytes, tenRecordBytes}
 
 pub record Numbers : Type 0 where
   -- "Each an offset in 4 bytes [..] then the entry's first byte, or its half-byte"; "a length other than 15,040".

@@ -1,14 +1,21 @@
--- What the loops over the lookups ask, and what `entry::look_up` makes. Definitions only.
+-- What the loops over the stages and halves of a walk ask, and what `compare::first_other` and `replay::compare_layer` find. Definitions only.
+use mathlib.Core.Bool.{Bool, true, false, not}
 use mathlib.Core.List.{List}
 use mathlib.Core.Path.{_≡_}
-use Prim.Native.Nat.{ℕ, suc}
+use Prim.Native.Nat.{ℕ, _*_, _≤_, _<_}
 use lib.ListN.{length}
-use Rattle.network.specs.Lookups.{stateAt}
-use Rattle.layout.specs.Stages.{setBytes}
+use Rattle.bits.specs.Lists.{partOf}
+use Rattle.network.specs.Lookups.{Shape}
+use Rattle.network.specs.Order.{layerLookups}
+use Rattle.layout.specs.Stages.{widthOf, setBytes}
+use Rattle.layout.specs.declared.stage.Stage.{Stage}
 use Rattle.rounds.specs.Rounds.{Rounds}
-use Rattle.calls.specs.Calls.{advance}
-use Rattle.records.specs.Record.{recordBytes, entryNext}
-use Rattle.records.specs.declared.entry.Entry.{Entry}
+use Rattle.lookups.specs.InPlace.{Lent}
+use Rattle.lookups.specs.Layer.{LayerStands}
+use Rattle.layer_record.specs.Entries.{entrySize}
+use Rattle.layer_record.specs.Layer.{LayerRecorded}
+use Rattle.records.specs.Record.{recordBytes}
+use Rattle.records.specs.Replay.{same}
 
 -- Memory of the length of a set of nr rounds, of a block and of that set's record.
 pub record RecordAsked (nr : ℕ) (set block recorded : List ℕ) : Type 0 where
@@ -17,10 +24,27 @@ pub record RecordAsked (nr : ℕ) (set block recorded : List ℕ) : Type 0 where
   pub record-sized : length recorded ≡ recordBytes nr
   pub rounds : Rounds nr
 
--- Lookup n over the memory `set`, of nr rounds, where position p of a first half or of the exit reads byte `reads p`: e is what is recorded of it, and it turns
--- standing bytes s and area a into s′ and a′ of the same lengths.
-pub record EntryMade (reads : ℕ → ℕ) (nr : ℕ) (set : List ℕ) (n : ℕ) (s a : List ℕ) (e : Entry) (s′ a′ : List ℕ) : Type 0 where
-  pub entry : e ≡ entryNext reads nr set (stateAt n s a)
-  pub walk : advance reads nr set 1 (stateAt n s a) ≡ stateAt (suc n) s′ a′
-  pub kept : length s′ ≡ length s
-  pub long : length a′ ≡ length a
+-- ---- two parts of records
+-- They have other bytes for entry k.
+abbrev pub otherIn : List ℕ → List ℕ → ℕ → Bool
+otherIn a b k = not (same (partOf entrySize a k) (partOf entrySize b k))
+
+-- r is the first of n numbers that a test picks, or n.
+pub record FirstOther (n : ℕ) (p : ℕ → Bool) (r : ℕ) : Type 0 where
+  pub within : r ≤ n
+  pub before : (i : ℕ) → i < r → p i ≡ false
+  pub here : r < n → p r ≡ true
+
+-- ---- a stage or half, whose tables begin at byte `from` of memory of the given length, compared
+-- It has `all` lookups; the two arrays of a walk, the part of a record for those lookups, and memory for what is recorded of them.
+pub record CompareAsked (t : Stage) (from long all : ℕ) (s a recorded own : List ℕ) : Type 0 where
+  pub stands : LayerStands t from long
+  pub lent : Lent s a
+  pub counted : all ≡ layerLookups (widthOf t)
+  pub record-sized : length recorded ≡ all * entrySize
+  pub own-sized : length own ≡ all * entrySize
+
+-- `own` is what is recorded of all its lookups, and r is the first of them for which the part of the record has other bytes, or their number.
+pub record LayerCompared (S : Shape) (set : List ℕ) (from : ℕ) (s a s′ a′ recorded own : List ℕ) (all r : ℕ) : Type 0 where
+  pub made : LayerRecorded S set from s a s′ a′ own
+  pub found : FirstOther all (otherIn recorded own) r

@@ -18,8 +18,9 @@ use Rattle.evaluate.specs.Held.{held}
 use Rattle.evaluate.specs.Contracts.{Opens, Moves}
 use Rattle.evaluate.specs.declared.walk.Move.{Move}
 use Rattle.evaluate.specs.declared.walk.Opening.{Opening}
+use Rattle.layer_record.specs.Entries.{offsetBytes, entrySize, written, entryRead}
 use Rattle.records.specs.Contracts.{Records, Replays}
-use Rattle.records.specs.Record.{offsetBytes, entrySize, written, entryRead, entryAt, recordOf, recordBytes, entryIn}
+use Rattle.records.specs.Record.{entryAt, recordOf, recordBytes, entryIn}
 use Rattle.records.specs.Replay.{judgeRecord, verdictAnswer, replayed}
 use Rattle.records.specs.Values.{ValuesPutDown}
 use Rattle.records.specs.declared.replay.Verdict.{Verdict}

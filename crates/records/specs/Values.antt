@@ -16,8 +16,9 @@ use Rattle.evaluate.specs.Held.{held}
 use Rattle.evaluate.specs.Contracts.{Opens, Moves}
 use Rattle.evaluate.specs.declared.walk.Move.{Move}
 use Rattle.evaluate.specs.declared.walk.Opening.{Opening}
+use Rattle.layer_record.specs.Entries.{offsetBytes}
 use Rattle.records.specs.Contracts.{Records}
-use Rattle.records.specs.Record.{offsetBytes, entryIn}
+use Rattle.records.specs.Record.{entryIn}
 
 -- The value v is what lookup j of a stage or half of width m put down, where s is the state after it.
 pub record PutDown (m j v : ℕ) (s : State) : Type 0 where

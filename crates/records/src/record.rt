@@ -6,12 +6,15 @@ ghost use Rattle.records.specs.InPlace.{RecordAsked};
 ghost use Rattle.records.specs.Record.{recordOf};
 ghost use Rattle.records.specs.Replay.{judgeRecord};
 ghost use Rattle.records.specs.Contracts.{Records};
-use crate::entry;
-use crate::entry::ENTRY_BYTES;
 use answers::Answer;
 use answers::Refusal;
 use bits::block::load;
+use layer_record::ENTRY_BYTES;
+use layer_record::record_layer;
 use layout::stage::lookups_in;
+use layout::stage::place_of;
+use layout::stage::width_of;
+use lookups::layer::lookups_of;
 use rounds::TEN;
 
 // The answer for these lengths.
@@ -30,7 +33,7 @@ pub(crate) fn judged(rounds: usize, set: usize, block: usize, recorded: usize) -
     Answer::Accepted
 }
 
-// The record of the walk for a cipher from a block, where the lengths are right.
+// The record of the walk for a cipher from a block, a stage or half at a time, where the lengths are right.
 fn write_all(rounds: usize, cipher: u64, set: &[u8], block: &[u8], recorded: &mut [u8])
     requires { ⌜ RecordAsked rounds (now set) (now block) (now recorded) ⌝ }
     ensures { λ _. ⌜ now (recorded .exit) ≡ recordOf cipher rounds (now (set .entry)) (now (block .entry)) ⌝ }
@@ -40,11 +43,22 @@ fn write_all(rounds: usize, cipher: u64, set: &[u8], block: &[u8], recorded: &mu
     let all = lookups_in(rounds);
     let mut n = 0;
     while n < all {
-        let e = entry::look_up(rounds, cipher, &mut standing, &mut area, set, n);
+        let p = place_of(rounds, n);
+        let stage = p.stage;
+        let offset = p.offset;
+        let next = n + lookups_of(width_of(stage));
         let from = n * ENTRY_BYTES;
-        let to = from + ENTRY_BYTES;
-        entry::write(&mut recorded[from..to], e);
-        n += 1;
+        let to = next * ENTRY_BYTES;
+        record_layer(
+            cipher,
+            &mut standing,
+            &mut area,
+            set,
+            offset,
+            stage,
+            &mut recorded[from..to],
+        );
+        n = next;
     }
 }
 

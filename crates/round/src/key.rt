@@ -8,8 +8,16 @@ ghost use Rattle.round.specs.Key.{Rcon, wordAt, RotWord, SubWord, xorWor
 // The first bytes of the round constants; Rcon begins at 1.
 const RCON: [u8; 11] = [0, 1, 2, 4, 8, 16, 32, 64, 128, 27, 54];
 
-// Bytes of the round keys for a key of four words.
-pub const ROUND_KEYS: usize = 176;
+// FIPS 197's number of words of a key of 16 bytes.
+pub const FOUR: usize = 4;
+
+// Table 3: a cipher has six rounds more than its key has words.
+pub const MORE_ROUNDS: usize = 6;
+
+// The most rounds that a cipher has, and the bytes of its round keys.
+pub const MOST_ROUNDS: usize = 14;
+
+pub const MOST_ROUND_KEYS: usize = 16 * (MOST_ROUNDS + 1);
 
 // Rcon[j].
 fn rcon_at(j: usize) -> [u8; 4]
@@ -110,13 +118,4 @@ pub fn expand(words: usize, key: &[u8], w: &mut [u8])
         put_word(w, i, x);
         i += 1;
     }
-}
-
-// The round keys of a key of four words.
-pub fn expand_key(key: [u8; 16]) -> [u8; ROUND_KEYS]
-    ensures { λ r. ⌜ r ≡ KeyExpansion 4 key ⌝ }
-{
-    let mut w = [0u8; ROUND_KEYS];
-    expand(4, &key, &mut w);
-    w
 }

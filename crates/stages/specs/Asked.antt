@@ -1,5 +1,5 @@
--- What the functions of this crate ask where that is more than three things; `Opened` and `Sources` of crate layers are what tables are made from.
--- Definitions only.
+-- What the functions of this crate ask where that is more than three things; `Opened` and `Sources` of crate
+-- inverse_matrices are what tables are made from. Definitions only.
 use mathlib.Core.List.{List}
 use mathlib.Core.Path.{_≡_}
 use Prim.Native.Nat.{ℕ, _+_, _*_, _≤_, _<_}
@@ -11,8 +11,8 @@ use Rattle.network.specs.Order.{GoodWidth, xors, layerLookups}
 use Rattle.network.specs.Sizes.{sizeOf}
 use Rattle.layout.specs.Stages.{widthOf, InRounds}
 use Rattle.layout.specs.declared.stage.Stage.{Stage}
-use Rattle.layers.specs.Asked.{Opened, Sources}
-use Rattle.layers.specs.Layers.{inverseFor, Begins}
+use Rattle.inverse_matrices.specs.Asked.{Opened, Sources}
+use Rattle.inverse_matrices.specs.InverseWords.{inverseFor, Begins}
 
 -- Spread table p of a stage or half of nr rounds.
 pub record SpreadAt (nr : ℕ) (s : Stage) (p : ℕ) : Type 0 where
@@ -25,7 +25,8 @@ pub record Sized (nr : ℕ) (s : Stage) (j : ℕ) (dst : List ℕ) : Type 0 wher
   pub index : j < layerLookups (widthOf s)
   pub size : length dst ≡ sizeOf (widthOf s) j
 
--- For the basis of spread table p's words, made with the inverse that the words m begin with: `basis_of`, which `spread_table` calls.
+-- For the basis of spread table p's words, made with the inverse that the words m begin with: `basis_of`, which
+-- `spread_table` calls.
 pub record ForWords (nr : ℕ) (l : List ℕ) (t : Starts) (m : List ℕ) (s : Stage) (p : ℕ) (basis : List ℕ) : Type 0 where
   pub inverse : Begins (inverseFor nr l s p) m
   pub table : SpreadAt nr s p

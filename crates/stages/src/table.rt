@@ -9,19 +9,17 @@ ghost use Rattle.bits.specs.Lists.{tabulate};
 ghost use Rattle.network.specs.Tables.{xorTable};
 ghost use Rattle.layout.specs.Ciphers.{readsOf};
 ghost use Rattle.whitebox.specs.Bundles.{codingsOf};
-ghost use Rattle.layers.specs.Asked.{Opened, Sources};
+ghost use Rattle.inverse_matrices.specs.Asked.{Opened, Sources};
 ghost use Rattle.stages.specs.Asked.{SpreadAt, ForWords, ForSpreadTable, ForXorTable, ForTable};
 ghost use Rattle.stages.specs.Spread.{readByte, actedBytes, wordBasis};
 ghost use Rattle.stages.specs.Table.{stageSpread, stageTable};
-use entries::lists;
-use entries::spread;
-use entries::xors;
-use layers::column;
-use layers::values;
+use encodings::lists;
+use inverse_matrices::column;
 use layers::words;
 use layout::numbers;
 use layout::stage;
 use layout::stage::Stage;
+use substitution::values;
 use view::found;
 use view::part::Part;
 use view::starts::Starts;
@@ -149,7 +147,7 @@ fn spread_table(
         d,
         &mut images,
     );
-    spread::write(&values, &basis, &images, m, dst);
+    spread_tables::write(&values, &basis, &images, m, dst);
 }
 
 // The number of the encoding of the sum so far: of the group's first word, or of the XOR before.
@@ -180,7 +178,7 @@ fn xor_table(
     let result = first + 16 * d + x;
     let sum = sum_so_far(added, first + word * d + h, result - d);
     let encodings = found::encodings(rounds, bundle, starts);
-    xors::write(
+    xor_tables::write(
         encodings,
         sum,
         first + (word + added + 1) * d + h,

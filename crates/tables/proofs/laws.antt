@@ -1,3 +1,2 @@
-pub mod Set
 pub mod Calls
 pub mod Made

@@ -1,3 +1,2 @@
-// The maker: one table, and the whole set.
+// The maker's calls: one table, and the whole set.
 pub mod make;
-mod set;

@@ -7,11 +7,11 @@ use borrow.Author.Needs.{needs}
 use Rattle.aes.proofs.decipher.Statement.{statement}
 use Rattle.aes.proofs.decipher.Tie as tie
 
-load-requires : tie.Need-load-requires
-load-requires c κs = search lent-key
+expand-requires : tie.Need-expand-requires
+expand-requires c κs = (search lent-key, search needs, search needs)
 
-load-requires-2 : tie.Need-load-requires-2
-load-requires-2 c κs = search lent-from
+load-requires : tie.Need-load-requires
+load-requires c κs = search lent-from
 
 store-requires : tie.Need-store-requires
 store-requires c κs = search lent-into
@@ -38,8 +38,8 @@ same-length c = search needs
 slice-aggregate-inv-cipher : tie.Need-slice-aggregate-inv-cipher
 slice-aggregate-inv-cipher c = search needs
 
-expand-key-requires : tie.Need-expand-key-requires
-expand-key-requires c κs = search needs
+slice-aggregate-expand : tie.Need-slice-aggregate-expand
+slice-aggregate-expand c = search needs
 
 inv-cipher-requires : tie.Need-inv-cipher-requires
 inv-cipher-requires c κs = search needs
@@ -53,10 +53,10 @@ decipher-spec =
     (tie.spec
     judged-requires
     enum-told
-    load-requires
-    expand-key-requires
+    slice-aggregate-expand
+    expand-requires
     slice-aggregate-inv-cipher
-    load-requires-2
+    load-requires
     inv-cipher-requires
     store-requires
     enum-told-2

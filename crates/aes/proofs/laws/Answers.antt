@@ -63,9 +63,9 @@ module _ (key from into : List ℕ) {a : Answer} (e : a ≡ answerOf key from in
 
 -- ---- The block that a call leaves, from what it called: f is the cipher or the inverse cipher over round keys.
 module _ (key from into : List ℕ) {a : Answer} (e : a ≡ answerOf key from into) where
-  done : (f : List ℕ → List ℕ → List ℕ) {k w s t o : List ℕ} → a ≡ Accepted → k ≡ key → w ≡ KeyExpansion 4 k → s ≡ from → t ≡ f w s → o ≡ t
+  done : (f : List ℕ → List ℕ → List ℕ) {w s t o : List ℕ} → a ≡ Accepted → w ≡ KeyExpansion 4 key → s ≡ from → t ≡ f w s → o ≡ t
       → o ≡ ifAccepted (answerOf key from into) (f (KeyExpansion 4 key) from) into
-  done f {o = o} d p q r u v =
+  done f {o = o} d p q u v =
       let y : o ≡ f (KeyExpansion 4 key) from = cc in
       y ∙ left-new _ _ _ (sym e ∙ d)
 
@@ -77,12 +77,12 @@ module _ (key from into : List ℕ) {a : Answer} (e : a ≡ answerOf key from in
   unfolding deciphered
   decipher-refused {r} d = left-old _ r _ _ (sym e ∙ d)
 
-  pub encipher-done : {k w s t o : List ℕ} → a ≡ Accepted → k ≡ key → w ≡ KeyExpansion 4 k → s ≡ from → t ≡ Cipher 10 w s → o ≡ t
+  pub encipher-done : {w s t o : List ℕ} → a ≡ Accepted → w ≡ KeyExpansion 4 key → s ≡ from → t ≡ Cipher 10 w s → o ≡ t
       → o ≡ enciphered key from into
   unfolding enciphered encipherOf
   encipher-done = done (Cipher 10)
 
-  pub decipher-done : {k w s t o : List ℕ} → a ≡ Accepted → k ≡ key → w ≡ KeyExpansion 4 k → s ≡ from → t ≡ InvCipher 10 w s → o ≡ t
+  pub decipher-done : {w s t o : List ℕ} → a ≡ Accepted → w ≡ KeyExpansion 4 key → s ≡ from → t ≡ InvCipher 10 w s → o ≡ t
       → o ≡ deciphered key from into
   unfolding deciphered decipherOf
   decipher-done = done (InvCipher 10)

@@ -1,9 +1,9 @@
 -- Laws, not definitions: lists that are tabulated, lists that a loop fills from the front, lists one after the other, and parts of lists.
 -- Assumes nothing.
 use mathlib.Core.Path.{_≡_, refl, sym, ap, ap₂, _∙_, subst}
-use mathlib.Core.List.{List, [], _∷_, _++_, append-assoc}
+use mathlib.Core.List.{List, [], _∷_, _++_, append-assoc, append-nil}
 use Prim.Native.Nat.{ℕ, zero, suc, _+_, _-_, _*_, _≤_, _<_, suc-le-suc}
-use native.Mathlib.Nat.{le-of-suc-le-suc, not-suc-le-zero, zero-lt-suc, zero-mul, suc-mul}
+use native.Mathlib.Nat.{le-of-suc-le-suc, not-suc-le-zero, zero-lt-suc, add-zero, zero-mul, suc-mul}
 use native.Mathlib.Decide.{decLt}
 use native.Mathlib.Numerals.{add-one}
 use native.Mathlib.Omega.{arith}
@@ -112,6 +112,16 @@ fill-all n t i f l e p =
 pub concat-next : (n : ℕ) (t : ℕ → List ℕ) → concat (n + 1) t ≡ concat n t ++ t n
 unfolding concat
 concat-next n t = ap (λ (k : ℕ). concat k t) (add-one n)
+
+-- The first k, and then l more.
+pub concat-split : (k l : ℕ) (t : ℕ → List ℕ) → concat (k + l) t ≡ concat k t ++ concat l (λ i. t (k + i))
+unfolding concat
+concat-split k zero t = ap (λ (n : ℕ). concat n t) (add-zero k) ∙ sym (append-nil (concat k t))
+concat-split k (suc l) t =
+    let e : k + suc l ≡ suc (k + l) = omega arith in
+    ap (λ (n : ℕ). concat n t) e
+    ∙ ap (λ (u : List ℕ). u ++ t (k + l)) (concat-split k l t)
+    ∙ append-assoc (concat k t) (concat l (λ i. t (k + i))) (t (k + l))
 
 pub concat-same : (n : ℕ) (s t : ℕ → List ℕ) → ((i : ℕ) → i < n → s i ≡ t i) → concat n s ≡ concat n t
 unfolding concat

@@ -1,151 +1,37 @@
--- Laws, not definitions: the calls, from what their parts left, for any number nr of rounds; what lookups leave, for any byte `reads` that the row shift reads,
--- which for a call is its walk's cipher's (`readsOf`). What the code has as numbers, the lookups and the bytes of a set, is `count` and `bytes`.
+-- Laws, not definitions: the calls, from what their parts left, for any number nr of rounds. The row shift reads as the walk's cipher does (`readsOf`). What the
+-- code has as numbers, the lookups and the bytes of a set, is `count` and `bytes`.
 -- Assumes nothing.
 use mathlib.Core.List.{List}
-use mathlib.Core.Path.{_≡_, sym, ap, ap₂, _∙_, subst}
+use mathlib.Core.Path.{_≡_, sym, ap, _∙_, subst}
 use Prim.Native.Nat.{ℕ, _+_, _-_, _≤_, _<_}
 use native.Mathlib.Numerals.{add-one}
 use native.Mathlib.Omega.{arith}
-use lib.ListN.{length, length-replicate}
+use lib.ListN.{length}
 use Rattle.answers.specs.Answers.{accepted}
 use Rattle.answers.specs.declared.Answer.the-variants.{Accepted, Refused}
 use Rattle.answers.specs.declared.Refusal.{Refusal}
 use Rattle.answers.specs.declared.Refusal.the-variants.{SetLength, BlockLength, Stop, Unfinished}
 use Rattle.answers.proofs.laws.Tests.{differ, reply-was, left-new, left-old}
-use Rattle.network.specs.Lookups.{State, stateAt, zeroArea}
-use Rattle.network.specs.Order.{layerLookups}
-use Rattle.network.specs.Sizes.{offsetOf}
-use Rattle.network.specs.Theorems.{WithinTable}
+use Rattle.network.specs.Lookups.{stateAt, zeroArea}
 use Rattle.network.specs.declared.EntryPlace.{EntryPlace}
-use Rattle.network.proofs.laws.Order.{layer-lookups}
-use Rattle.layout.specs.Ciphers.{kept, readsOf}
-use Rattle.layout.specs.Stages.{widthOf, shapeAt, lookups, setBytes, nowhere, tableOffset, stageOf, indexOf, placeOf}
+use Rattle.layout.specs.Ciphers.{readsOf}
+use Rattle.layout.specs.Stages.{shapeAt, lookups, setBytes, nowhere, placeOf}
 use Rattle.layout.specs.declared.stage.Place.{Place}
 use Rattle.layout.proofs.laws.Lookup.{Sizes, stands}
-use Rattle.calls.specs.Calls.{marked, keptMark, zeroHeld, Held, holding, Call, toStop, oneLookup, started, judgeStop, judgeOne, judgeFetch, advance, lastOffset}
+use Rattle.calls.specs.Calls.{marked, keptMark, zeroHeld, Held, holding, Call, toStop, oneLookup, started, judgeStop, judgeOne, judgeFetch}
 use Rattle.calls.specs.Calls.{answer, reply, handed, passedOn, blockLeft}
 use Rattle.calls.specs.PlaceRead.{InTable}
-use Rattle.calls.proofs.laws.Calls.{advance-split}
 use Rattle.calls.proofs.laws.Judged as judged
 use Rattle.calls.proofs.laws.Judged.{presented-wrong, presented-right, set-wrong, stop-right, none-left, table-wrong, table-right, block-wrong, count-wrong, count-right}
 use Rattle.calls.proofs.laws.Kept.{refused-leaves}
 use Rattle.calls.proofs.laws.PlaceRead.{place-was-read}
-use Rattle.lookups.specs.InPlace.{LookedUp, LayerMade, placeOfLast, sumsIn}
-use Rattle.lookups.proofs.laws.Whole.{length-sums-in}
-use Rattle.passes.specs.InPlace.{LookupMade}
-use Rattle.passes.specs.declared.Lookup.{Lookup}
+use Rattle.lookups.specs.InPlace.{LookedUp}
 use Rattle.passes.proofs.laws.Places.{looked-up, read-there, inside-there}
+use Rattle.moves.specs.Advanced.{Advanced}
 use Rattle.evaluate.specs.Held.{held}
-use Rattle.evaluate.specs.Advanced.{Refuses, Advanced, Advances}
-use Rattle.evaluate.specs.Contracts.{Opens, Moves, Fetches}
+use Rattle.evaluate.specs.Contracts.{Opens, Refuses, Moves, Fetches}
 use Rattle.evaluate.specs.declared.walk.Move.{Move}
 use Rattle.evaluate.specs.declared.walk.Walk.{Walk}
-use Rattle.evaluate.proofs.laws.Stages.{last-split, layer-walk, layer-read, layer-inside}
-
--- ---- a step: one lookup, or all of a stage or half, made in place, is the walk's
-pub one-advanced : {reads : ℕ → ℕ} {nr : ℕ} {set : List ℕ} {n stop : ℕ} {s a s′ a′ : List ℕ} {r : Lookup} → n < stop → LookupMade reads nr set n s a r s′ a′
-    → Advanced reads nr set n stop (n + 1) (r .offset) s a s′ a′
-unfolding lastOffset advance
-one-advanced {reads} {nr} {set} {n} {s = s} {a} {s′} {a′} {r} b made =
-    let w : State = stateAt n s a in
-    let one : n + 1 - n ≡ 1 = omega arith in
-    record {
-      more = omega arith;
-      most = omega arith;
-      walk = ap (λ (x : ℕ). advance reads nr set x w) one ∙ made .walk ∙ ap (λ (k : ℕ). stateAt k s′ a′) (sym (add-one n));
-      offset = ap (λ (r : EntryPlace). r .offset) (made .place) ∙ ap (λ (x : ℕ). lastOffset reads nr set x w) (sym one);
-      inside = subst (λ (k : ℕ). InTable nr k (r .offset)) (let z : n ≡ n + 1 - 1 = omega arith in z) (made .inside);
-      kept = made .kept;
-      long = made .long;
-    }
-
-module _ {reads : ℕ → ℕ} {nr : ℕ} {set : List ℕ} {n stop : ℕ} {p : Place} {s a s′ a′ : List ℕ}
-    (e : p ≡ placeOf nr n) (b : n < stop) (d : stop ≤ lookups nr) where
-  pub all-advanced : {all m : ℕ} {r : EntryPlace} → m ≡ widthOf (p .stage) → all ≡ layerLookups m → p .index ≡ 0 → all ≤ stop - n → length s ≡ 16
-      → length a ≡ 256 → LayerMade (shapeAt reads (p .stage)) set (p .offset) s a r s′ a′ → Advanced reads nr set n stop (n + all) (r .offset) s a s′ a′
-  all-advanced {all} {m} {r} v c z b′ ls la f =
-      let inside : n < lookups nr = omega arith in
-      let x : n + all - n ≡ all = omega arith in
-      let q : all ≡ layerLookups (widthOf (stageOf nr n)) = c ∙ ap layerLookups v ∙ ap (λ (p : Place). layerLookups (widthOf (p .stage))) e in
-      let i : indexOf nr n ≡ 0 = ap (λ (p : Place). p .index) (sym e) ∙ z in
-      let sums : sumsIn (shapeAt reads (stageOf nr n)) set (tableOffset nr n) s a ≡ s′ =
-      ap (λ (p : Place). sumsIn (shapeAt reads (p .stage)) set (p .offset) s a) (sym e) ∙ sym (f .standing) in
-      record {
-        more = omega (arith, layer-lookups m);
-        most = omega arith;
-        walk =
-            ap (λ (x : ℕ). advance reads nr set x (stateAt n s a)) (x ∙ q)
-            ∙ layer-walk reads nr set n inside i s a
-            ∙ ap (λ (k : ℕ). stateAt (n + k) (sumsIn (shapeAt reads (stageOf nr n)) set (tableOffset nr n) s a) zeroArea) (sym q)
-            ∙ ap₂ (stateAt (n + all)) sums (sym (f .area));
-        offset =
-            ap (λ (r : EntryPlace). r .offset) (f .read ∙ ap (λ (p : Place). placeOfLast (shapeAt reads (p .stage)) set (p .offset) s a) e)
-            ∙ sym (layer-read reads nr set n inside i s a)
-            ∙ ap (λ (x : ℕ). lastOffset reads nr set x (stateAt n s a)) (sym (x ∙ q));
-        inside =
-            subst (λ (k : ℕ). InTable nr k (r .offset)) (let y : n + (layerLookups (widthOf (stageOf nr n)) - 1) ≡ n + all - 1 = omega (arith, q, layer-lookups m, c) in y)
-            (layer-inside reads nr set n inside i s a r
-            (subst (λ (p : Place). WithinTable (widthOf (p .stage)) (layerLookups (widthOf (p .stage)) - 1)
-            (p .offset + offsetOf (widthOf (p .stage)) (layerLookups (widthOf (p .stage)) - 1)) r) e (f .table)));
-        kept = ap length (f .standing) ∙ length-sums-in (shapeAt reads (p .stage)) set (p .offset) s a ∙ sym ls;
-        long = ap length (f .area) ∙ length-replicate {A = ℕ} 256 0 ∙ sym la;
-      }
-
--- ---- the loop over a set, from the walk w₀: the lookups up to count n have left standing bytes s and area a, and o is the offset of the last
-pub record Going (reads : ℕ → ℕ) (nr : ℕ) (set : List ℕ) (stop : ℕ) (w₀ : State) (s a : List ℕ) (n o : ℕ) : Type 0 where
-  pub within : n ≤ stop
-  pub behind : w₀ .count ≤ n
-  pub kept : length s ≡ 16
-  pub long : length a ≡ 256
-  pub same : advance reads nr set (n - w₀ .count) w₀ ≡ stateAt n s a
-  pub offset : o ≡ lastOffset reads nr set (n - w₀ .count) w₀
-  pub inside : w₀ .count < n → InTable nr (n - 1) o
-
-pub going-none : {reads : ℕ → ℕ} {nr : ℕ} {set : List ℕ} {stop n o : ℕ} {s a : List ℕ} → n ≤ stop → length s ≡ 16 → length a ≡ 256 → o ≡ nowhere nr
-    → Going reads nr set stop (stateAt n s a) s a n o
-unfolding advance lastOffset
-going-none {reads} {nr} {set} {n = n} {s = s} {a} h l k e =
-    let z : n - n ≡ 0 = omega arith in
-    record {
-      within = h;
-      behind = omega arith;
-      kept = l;
-      long = k;
-      same = ap (λ (x : ℕ). advance reads nr set x (stateAt n s a)) z;
-      offset = e ∙ ap (λ (x : ℕ). lastOffset reads nr set x (stateAt n s a)) (sym z);
-      inside = λ more. absurd (omega arith);
-    }
-
-module _ {reads : ℕ → ℕ} {nr : ℕ} {set : List ℕ} {stop : ℕ} {w₀ : State} {s a : List ℕ} {n o : ℕ} (I : Going reads nr set stop w₀ s a n o) where
-  pub going-more : {r o′ : ℕ} {s′ a′ : List ℕ} → Advanced reads nr set n stop r o′ s a s′ a′ → Going reads nr set stop w₀ s′ a′ r o′
-  going-more {r} d =
-      let i = n - w₀ .count in
-      let e : r - w₀ .count ≡ i + (r - n) = omega (arith, I .behind, d .more) in
-      record {
-        within = d .most;
-        behind = omega (arith, I .behind, d .more);
-        kept = d .kept ∙ I .kept;
-        long = d .long ∙ I .long;
-        same =
-            ap (λ (x : ℕ). advance reads nr set x w₀) e
-            ∙ advance-split reads nr set i (r - n) w₀
-            ∙ ap (advance reads nr set (r - n)) (I .same)
-            ∙ d .walk;
-        offset =
-            d .offset
-            ∙ ap (lastOffset reads nr set (r - n)) (sym (I .same))
-            ∙ sym (last-split reads nr set i (r - n) w₀ (omega (arith, d .more)))
-            ∙ ap (λ (x : ℕ). lastOffset reads nr set x w₀) (sym e);
-        inside = λ more. d .inside;
-      }
-
-  -- At the stop all lookups are made.
-  pub going-all : stop ≤ n → (stateAt n s a ≡ advance reads nr set (stop - w₀ .count) w₀) × (o ≡ lastOffset reads nr set (stop - w₀ .count) w₀)
-  going-all h =
-      let e : n ≡ stop = omega (arith, I .within) in (
-        sym (I .same) ∙ ap (λ (x : ℕ). advance reads nr set (x - w₀ .count) w₀) e,
-        I .offset ∙ ap (λ (x : ℕ). lastOffset reads nr set (x - w₀ .count) w₀) e,
-      )
 
 -- ---- start
 pub start-refused : (c : ℕ) (block : List ℕ) (w : Walk) → (length block ≡ 16 → ⊥) → held w ≡ zeroHeld
@@ -194,15 +80,18 @@ module _ {nr count bytes : ℕ} (N : Sizes nr count bytes) (set : List ℕ) (sto
     pub stop-below : Refuses nr Stop w m → stop ≤ count → stop < w .count → Moves nr (toStop set stop) w m
     stop-below d h b = not-moved Stop d (judged.stop-below nr _ _ _ long (omega (arith, N .all-lookups)) b)
 
-    pub stop-done : stop ≤ count → w .count ≤ stop → Advances nr set stop w m → Moves nr (toStop set stop) w m
+    pub stop-done : {s′ a′ : List ℕ} {o : ℕ} → m .answer ≡ Accepted → stop ≤ count → w .count ≤ stop
+        → Advanced (readsOf (w .cipher)) nr set (w .count) stop o (w .standing) (w .area) s′ a′
+        → held (m .walk) ≡ holding (keptMark (held w .mark)) (stateAt stop s′ a′) → m .offset ≡ o → Moves nr (toStop set stop) w m
     unfolding answer handed passedOn
-    stop-done h b d =
+    stop-done {o = o} a h b d f g =
         let j = stop-right nr _ stop (w .count) long (omega (arith, N .all-lookups)) b in
+        let at-stop : stop ≡ m .walk .count = ap (λ (v : Held). v .state .count) (sym f) in
         record {
-          answer = d .answer ∙ j;
-          walk = d .walk ∙ left-new _ _ (held w) (sym j);
-          offset = d .offset ∙ left-new _ _ (nowhere nr) (sym j);
-          inside = d .inside;
+          answer = a ∙ j;
+          walk = f ∙ ap (holding (keptMark (held w .mark))) (sym (d .walk)) ∙ left-new _ _ (held w) (sym j);
+          offset = g ∙ d .offset ∙ left-new _ _ (nowhere nr) (sym j);
+          inside = λ more. rw g (subst (λ (k : ℕ). InTable nr (k - 1) o) at-stop (d .inside (omega arith)));
         }
 
 module _ {nr count bytes : ℕ} (N : Sizes nr count bytes) (table : List ℕ) (w : Walk) (m : Move) where

@@ -26,8 +26,8 @@ use Rattle.calls.specs.Calls.{judgeWhole}
 use Rattle.records.specs.Record.{recordBytes}
 use Rattle.records.specs.Replay.{judgeRecord}
 use Rattle.host.specs.Returned.{Returned}
-use Rattle.host.specs.Walks.{walkAnswer}
-use Rattle.host.proofs.laws.Entries.{entry-small}
+use Rattle.one_call.specs.Walks.{walkAnswerFor, walkAnswer}
+use Rattle.told.proofs.laws.Entries.{entry-small}
 
 -- ---- The number returned with a cause has 32 bits.
 -- What a search among no more than 65,536 numbers finds.
@@ -100,7 +100,7 @@ unfolding judgeWhole
 whole-small set block = small-andThen _ _ (small-length (setBytes 10) set SetLength (omega arith)) (small-length 16 block BlockLength (omega arith))
 
 walk-small : (set block answer : ℕ) → Small (walkAnswer set block answer)
-unfolding walkAnswer
+unfolding walkAnswerFor
 walk-small set block answer = small-andThen _ _ (whole-small set block) (small-length 16 answer BlockLength (omega arith))
 
 record-small : (set block rec : ℕ) → Small (judgeRecord 10 set block rec)

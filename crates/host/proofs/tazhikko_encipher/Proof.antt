@@ -1,8 +1,7 @@
 -- `host::tazhikko_encipher`: FIPS 197's cipher, by the crate `aes`. The number returned is that of the definition's answer,
 -- since the call's answer is it, and the block is as the call leaves it.
 -- Assumes nothing.
-use mathlib.Core.Path.{ap, _∙_}
-use Rattle.answers.specs.Numbers.{numberOf}
+use Rattle.host.proofs.laws.Numbered.{numbered}
 use borrow.Author.Needs.{needs}
 use Rattle.host.proofs.tazhikko_encipher.Statement.{statement}
 use Rattle.host.proofs.tazhikko_encipher.Tie as tie
@@ -10,7 +9,7 @@ use Rattle.host.proofs.tazhikko_encipher.Tie as tie
 returns : tie.Need-returns
 returns c =
     let call : tie.After-encipher = search in
-    (c .number .ensures ∙ ap numberOf (call .encipher .ensures .0), call .encipher .ensures .1)
+    (numbered (c .number .ensures) (call .encipher .ensures .0), call .encipher .ensures .1)
 
 -- ---- the needs that the search closes
 encipher-requires : tie.Need-encipher-requires

@@ -1,8 +1,7 @@
 -- `host::tazhikko_encode_input`: the input coding of a block, by the crate `external`. The number returned is that of the definition's answer,
 -- since the call's answer is it, and the block is as the call leaves it.
 -- Assumes nothing.
-use mathlib.Core.Path.{ap, _∙_}
-use Rattle.answers.specs.Numbers.{numberOf}
+use Rattle.host.proofs.laws.Numbered.{numbered}
 use borrow.Author.Needs.{needs}
 use Rattle.host.proofs.tazhikko_encode_input.Statement.{statement}
 use Rattle.host.proofs.tazhikko_encode_input.Tie as tie
@@ -10,7 +9,7 @@ use Rattle.host.proofs.tazhikko_encode_input.Tie as tie
 returns : tie.Need-returns
 returns c =
     let call : tie.After-encode-input = search in
-    (c .number .ensures ∙ ap numberOf (call .encode-input .ensures .0), call .encode-input .ensures .1)
+    (numbered (c .number .ensures) (call .encode-input .ensures .0), call .encode-input .ensures .1)
 
 -- ---- the needs that the search closes
 encode-input-requires : tie.Need-encode-input-requires

@@ -1,7 +1,6 @@
 -- `host::tazhikko_judge_bundle`: the bundle's judgement, by the crate `judgement`, as a number.
 -- Assumes nothing.
-use mathlib.Core.Path.{ap, _∙_}
-use Rattle.answers.specs.Numbers.{numberOf}
+use Rattle.host.proofs.laws.Numbered.{numbered}
 use borrow.Author.Needs.{needs}
 use Rattle.host.proofs.tazhikko_judge_bundle.Statement.{statement}
 use Rattle.host.proofs.tazhikko_judge_bundle.Tie as tie
@@ -9,7 +8,7 @@ use Rattle.host.proofs.tazhikko_judge_bundle.Tie as tie
 returns : tie.Need-returns
 returns c =
     let judged : tie.After-judge-bundle = search in
-    c .number .ensures ∙ ap numberOf (judged .judge-bundle .ensures)
+    numbered (c .number .ensures) (judged .judge-bundle .ensures)
 
 -- ---- the needs that the search closes
 judge-bundle-requires : tie.Need-judge-bundle-requires

@@ -9,19 +9,20 @@ use Prim.Native.Nat.{ℕ, suc, _+_, _-_, _*_, _/_, _%_, _^_, _≤_, _<_}
 use native.Mathlib.Decide.{ℕ-discrete}
 use native.Mathlib.Nat.{mul-suc, mul-le-mul-left, mul-le-mul-right}
 use native.Mathlib.Omega.{arith}
+use lib.Bits.{bitXor}
 use lib.ListN.{length}
 use Rattle.bits.specs.Lists.{at, tabulate}
-use Rattle.bits.specs.Vectors.{unit}
+use Rattle.bits.specs.Vectors.{bit, unit}
 use Rattle.bits.proofs.laws.Lists.{tabulate-ext, at-tabulate}
 use Rattle.bits.proofs.laws.Words.{power-fits}
 use Rattle.matrices.specs.Matrices.{identity}
 use Rattle.matrices.specs.Rows.{rowAt, rowsOf, setRow, stored}
 use Rattle.matrices.proofs.laws.Rows.{row-set-same, row-set-other, length-setRow, stored-same}
-use Rattle.inversion.specs.Elimination.{pivotBy, clearBy, pivotFrom, Inversion, inverse, singular, columns, invert, hasInverse, withInverse}
-use Rattle.inversion.specs.Work.{leftAt, rightAt, lefts, rights, addedTo, ended}
+use Rattle.inversion.specs.Elimination.{addRow, pivotBy, clearBy, pivotFrom, Inversion, inverse, singular, columns, invert, hasInverse, withInverse}
+use Rattle.inversion.specs.Work.{leftAt, rightAt, lefts, rights, bothSet, addedTo, ended}
 use Rattle.inversion.proofs.laws.Elimination.{clearBy-pivot}
 use Rattle.inversion.proofs.laws.Inverses.{pivot-found}
-use Rattle.inversion.proofs.laws.Work.{added-left, added-right, Swept, swept-none, swept-more, swept-all, clearBy-row, digit-of-row}
+use Rattle.inversion.proofs.laws.Work.{Replaced, set-left, set-right, stays, Swept, swept-none, swept-one, clearBy-bit, digit-of-row}
 use Rattle.inversion.proofs.laws.Work.{pivot-here, pivot-on, pivot-end, Stepped, column-none, column-next, columns-done}
 
 -- ---- the start: the first i rows of a stand on the left, those of the identity on the right
@@ -109,46 +110,84 @@ module _ {n k : ℕ} {f : ℕ → ℕ} {i : ℕ} (g : Sought n k f i) where
       let upto = g .within in
       pivot-end n k f i (omega arith) ∙ sym (g .same)
 
--- ---- the clearing of column k: row k has cleared it in the first i rows
-length-addedTo : (m : List ℕ) (i s c : ℕ) → length (addedTo m i s c) ≡ length m
-unfolding addedTo
-length-addedTo m i s c = simp length-setRow
+-- ---- the clearing of column k: l and r, which are rows k of m₀, have been added to those of the first i rows that have bit k, row k too
+length-bothSet : (m : List ℕ) (i x y : ℕ) → length (bothSet m i x y) ≡ length m
+unfolding bothSet
+length-bothSet m i x y = simp length-setRow
 
-pub record Cleared (n k : ℕ) (m₀ m : List ℕ) (i : ℕ) : Type 0 where
+-- Bit k of row i on the left, of every row.
+abbrev has : ℕ → ℕ → List ℕ → ℕ → ℕ
+has n k m i = bit n k (leftAt m i)
+
+pub record Cleared (n k : ℕ) (m₀ : List ℕ) (l r : ℕ) (m : List ℕ) (i : ℕ) : Type 0 where
   pub within : i ≤ n
   pub long : length m ≡ length m₀
-  pub left : Swept (clearBy n k (leftAt m₀)) k (leftAt m₀) i (leftAt m)
-  pub right : Swept (clearBy n k (leftAt m₀)) k (rightAt m₀) i (rightAt m)
+  pub top-left : l ≡ leftAt m₀ k
+  pub top-right : r ≡ rightAt m₀ k
+  pub left : Swept (has n k m₀) k (leftAt m₀) i (leftAt m)
+  pub right : Swept (has n k m₀) k (rightAt m₀) i (rightAt m)
 
-pub cleared-none : {n k : ℕ} {m : List ℕ} → Cleared n k m m 0
-cleared-none {n} {k} {m} = record {
+pub cleared-none : {n k l r : ℕ} (m : List ℕ) → l ≡ leftAt m k → r ≡ rightAt m k → Cleared n k m l r m 0
+cleared-none {n} {k} m el er = record {
   within = omega arith;
   long = refl;
-  left = swept-none (clearBy n k (leftAt m)) k (leftAt m);
-  right = swept-none (clearBy n k (leftAt m)) k (rightAt m);
+  top-left = el;
+  top-right = er;
+  left = swept-none (has n k m) k (leftAt m);
+  right = swept-none (has n k m) k (rightAt m);
 }
 
-module _ {n k : ℕ} {m₀ m : List ℕ} {i : ℕ} (g : Cleared n k m₀ m i) where
-  pub cleared-more : {m₁ : List ℕ} {x : ℕ} → 4 * n ≤ length m₀ → i < n → x ≡ clearBy n k (leftAt m) i → m₁ ≡ addedTo m i k x
-      → Cleared n k m₀ m₁ (i + 1)
-  cleared-more {m₁} {x} room h coefficient e =
-      let by = clearBy n k (leftAt m₀) in
-      let pivot = clearBy-pivot n k (leftAt m₀) in
+-- One side: g, with y at row i, where b is bit k of that row.
+side-more : (c : ℕ → ℕ) (k : ℕ) (f : ℕ → ℕ) (i b t : ℕ) (g g′ : ℕ → ℕ) → Swept c k f i g → b ≡ c i → t ≡ f k
+    → Replaced g i (bitXor (g i) (b * t)) g′
+    → Swept c k f (i + 1) g′
+unfolding addRow
+side-more c k f i b t g g′ S is top put =
+    swept-one c k f i g g′ S
+    (put .here ∙ ap₂ (λ (u v : ℕ). bitXor u v) (S .left i (omega arith)) (ap₂ (λ (u v : ℕ). u * v) is top)) (put .others)
+
+-- One side at the end, with row k put back: that is the step which leaves row k alone.
+side-all : (n k : ℕ) (e f : ℕ → ℕ) (i t : ℕ) (g g′ : ℕ → ℕ) → Swept (λ j. bit n k (e j)) k f i g → n ≤ i → t ≡ f k → Replaced g k t g′
+    → tabulate n g′ ≡ tabulate n (addRow (clearBy n k e) k f)
+unfolding addRow
+side-all n k e f i t g g′ S h top put = tabulate-ext n _ _ (λ j l. elim (ℕ-discrete k j) [
+  | yes q ↦
+      subst (λ (j : ℕ). g′ j ≡ addRow (clearBy n k e) k f j) q (put .here ∙ top ∙ sym (stays (clearBy n k e) k f k (clearBy-pivot n k e)))
+  | no q ↦
+      let other : j ≢ k = omega arith in
+      put .others j other ∙ S .done j (omega arith) ∙ ap (λ (c : ℕ). bitXor (f j) (c * f k)) (clearBy-bit n k e j other)
+])
+
+module _ {n k : ℕ} {m₀ : List ℕ} {l r : ℕ} {m : List ℕ} {i : ℕ} (g : Cleared n k m₀ l r m i) where
+  -- b is bit k of x, which is row i on the left.
+  pub cleared-more : {m₁ : List ℕ} {x b : ℕ} → 4 * n ≤ length m₀ → i < n → x ≡ leftAt m i → b ≡ x / 2 ^ (n - 1 - k) % 2 → m₁ ≡ addedTo m i b l r
+      → Cleared n k m₀ l r m₁ (i + 1)
+  unfolding addedTo
+  cleared-more {m₁} {x} {b} room h row digit e =
       let long-m = g .long in
-      let is : x ≡ by i = coefficient ∙ clearBy-row n k (leftAt m) (leftAt m₀) i (g .left .left i (omega arith)) in
-      let lefts-done = swept-more by k (leftAt m₀) pivot i (leftAt m) _ x is (g .left) (added-left m i k x (omega arith)) in
-      let rights-done = swept-more by k (rightAt m₀) pivot i (rightAt m) _ x is (g .right) (added-right m i k x (omega arith)) in
+      let is : b ≡ has n k m₀ i = digit-of-row n k (leftAt m₀) i x b (row ∙ g .left .left i (omega arith)) digit in
+      let u = bitXor (leftAt m i) (b * l) in
+      let v = bitXor (rightAt m i) (b * r) in
       record {
         within = omega arith;
-        long = ap length e ∙ length-addedTo m i k x ∙ long-m;
-        left = subst (λ (w : List ℕ). Swept by k (leftAt m₀) (i + 1) (leftAt w)) (sym e) lefts-done;
-        right = subst (λ (w : List ℕ). Swept by k (rightAt m₀) (i + 1) (rightAt w)) (sym e) rights-done;
+        long = ap length e ∙ length-bothSet m i u v ∙ long-m;
+        top-left = g .top-left;
+        top-right = g .top-right;
+        left = subst (λ (w : List ℕ). Swept (has n k m₀) k (leftAt m₀) (i + 1) (leftAt w)) (sym e)
+            (side-more (has n k m₀) k (leftAt m₀) i b l (leftAt m) _ (g .left) is (g .top-left) (set-left m i u v (omega arith)));
+        right = subst (λ (w : List ℕ). Swept (has n k m₀) k (rightAt m₀) (i + 1) (rightAt w)) (sym e)
+            (side-more (has n k m₀) k (rightAt m₀) i b r (rightAt m) _ (g .right) is (g .top-right) (set-right m i u v (omega arith)));
       }
 
-  pub cleared-all : n ≤ i → Stepped n (clearBy n k (leftAt m₀)) k (leftAt m₀) (rightAt m₀) (leftAt m) (rightAt m)
-  cleared-all h =
-      let by = clearBy n k (leftAt m₀) in
-      (swept-all by k (leftAt m₀) n i (leftAt m) h (g .left), swept-all by k (rightAt m₀) n i (rightAt m) h (g .right))
+  pub cleared-all : {m₁ : List ℕ} → 4 * n ≤ length m₀ → k < n → n ≤ i → m₁ ≡ bothSet m k l r
+      → Stepped n (clearBy n k (leftAt m₀)) k (leftAt m₀) (rightAt m₀) (leftAt m₁) (rightAt m₁)
+  cleared-all {m₁} room hk h e =
+      let long-m = g .long in (
+        ap (λ (w : List ℕ). tabulate n (leftAt w)) e
+            ∙ side-all n k (leftAt m₀) (leftAt m₀) i l (leftAt m) _ (g .left) h (g .top-left) (set-left m k l r (omega arith)),
+        ap (λ (w : List ℕ). tabulate n (rightAt w)) e
+            ∙ side-all n k (leftAt m₀) (rightAt m₀) i r (rightAt m) _ (g .right) h (g .top-right) (set-right m k l r (omega arith)),
+      )
 
 -- ---- the columns, of a work area m that holds row i as l m i on the left and r m i on the right: k of them are behind, and those left give what all would
 pub record Reduced (l r : List ℕ → ℕ → ℕ) (m₀ : List ℕ) (n : ℕ) (m : List ℕ) (k : ℕ) : Type 0 where

@@ -4,7 +4,7 @@ use mathlib.Core.List.{List}
 use mathlib.Core.Logic.{_≢_}
 use mathlib.Core.Path.{_≡_, refl, sym, ap, ap₂, _∙_, subst}
 use Prim.Native.Nat.{ℕ, zero, suc, _+_, _-_, _*_, _/_, _%_, _^_, _≤_, _<_}
-use native.Mathlib.Decide.{decLt, ℕ-discrete}
+use native.Mathlib.Decide.{ℕ-discrete}
 use native.Mathlib.Nat.{zero-mul, one-mul}
 use native.Mathlib.Numerals.{add-one}
 use native.Mathlib.Omega.{arith}
@@ -13,12 +13,12 @@ use lib.ListN.{length}
 use Rattle.bits.specs.Lists.{at, tabulate}
 use Rattle.bits.specs.Vectors.{bit, delta}
 use Rattle.bits.proofs.laws.Lists.{tabulate-ext, at-tabulate}
-use Rattle.bits.proofs.laws.Vectors.{delta-same, delta-eq, delta-other, bit-lt, bit-shift}
+use Rattle.bits.proofs.laws.Vectors.{delta-same, delta-other, bit-lt, bit-shift}
 use Rattle.matrices.specs.Rows.{setRow}
 use Rattle.matrices.proofs.laws.Rows.{row-set-same, row-set-other, length-setRow}
 use Rattle.inversion.specs.Elimination.{addRow, pivotBy, clearBy, leftStep, rightStep, pivoted, choose, pivotFrom}
 use Rattle.inversion.specs.Elimination.{Inversion, inverse, singular, unlessZero, columns}
-use Rattle.inversion.specs.Work.{leftAt, rightAt, addedTo}
+use Rattle.inversion.specs.Work.{leftAt, rightAt, bothSet, addedTo}
 use Rattle.inversion.proofs.laws.Elimination.{clearBy-lt}
 
 -- ---- c times row s added to row i
@@ -26,23 +26,25 @@ pub record Added (f : ℕ → ℕ) (i s c : ℕ) (g : ℕ → ℕ) : Type 0 wher
   pub here : g i ≡ bitXor (f i) (c * f s)
   pub others : (j : ℕ) → j ≢ i → g j ≡ f j
 
-module _ (m : List ℕ) (i s c : ℕ) (h : 4 * i + 3 < length m) where
-  pub added-left : Added (leftAt m) i s c (leftAt (addedTo m i s c))
-  unfolding addedTo
-  added-left =
-      let x = bitXor (leftAt m i) (c * leftAt m s) in
-      let y = bitXor (rightAt m i) (c * rightAt m s) in
+-- ---- row i replaced by x
+pub record Replaced (f : ℕ → ℕ) (i x : ℕ) (g : ℕ → ℕ) : Type 0 where
+  pub here : g i ≡ x
+  pub others : (j : ℕ) → j ≢ i → g j ≡ f j
+
+-- Both sides of a work area are replaced apart.
+module _ (m : List ℕ) (i x y : ℕ) (h : 4 * i + 3 < length m) where
+  pub set-left : Replaced (leftAt m) i x (leftAt (bothSet m i x y))
+  unfolding bothSet
+  set-left =
       let a = setRow m (2 * i) x in
       record {
         here = row-set-other a (2 * i + 1) y (2 * i) (omega arith) ∙ row-set-same m (2 * i) x (omega arith);
         others = λ j q. row-set-other a (2 * i + 1) y (2 * j) (omega arith) ∙ row-set-other m (2 * i) x (2 * j) (omega arith);
       }
 
-  pub added-right : Added (rightAt m) i s c (rightAt (addedTo m i s c))
-  unfolding addedTo
-  added-right =
-      let x = bitXor (leftAt m i) (c * leftAt m s) in
-      let y = bitXor (rightAt m i) (c * rightAt m s) in
+  pub set-right : Replaced (rightAt m) i y (rightAt (bothSet m i x y))
+  unfolding bothSet
+  set-right =
       let a = setRow m (2 * i) x in
       record {
         here = row-set-same a (2 * i + 1) y (omega (arith, length-setRow m (2 * i) x));
@@ -72,31 +74,11 @@ swept-one c s f i g g′ S here others = record {
   left = λ j h. others j (omega arith) ∙ S .left j (omega arith);
 }
 
-module _ (c : ℕ → ℕ) (s : ℕ) (f : ℕ → ℕ) (cs : c s ≡ 0) where
-  swept-pivot : (i : ℕ) (g : ℕ → ℕ) → Swept c s f i g → g s ≡ f s
-  swept-pivot i g S = elim (decLt s i) [ yes q ↦ S .done s q ∙ stays c s f s cs | no q ↦ S .left s (omega arith) ]
-
-  pub swept-more : (i : ℕ) (g g′ : ℕ → ℕ) (x : ℕ) → x ≡ c i → Swept c s f i g → Added g i s x g′ → Swept c s f (i + 1) g′
-  unfolding addRow
-  swept-more i g g′ x e S A =
-      swept-one c s f i g g′ S
-      (A .here ∙ ap (λ (z : ℕ). bitXor (g i) (z * g s)) e
-      ∙ ap₂ (λ (x y : ℕ). bitXor x (c i * y)) (S .left i (omega arith)) (swept-pivot i g S)) (A .others)
-
-pub swept-all : (c : ℕ → ℕ) (s : ℕ) (f : ℕ → ℕ) (n i : ℕ) (g : ℕ → ℕ) → n ≤ i → Swept c s f i g → tabulate n g ≡ tabulate n (addRow c s f)
-swept-all c s f n i g h S = tabulate-ext n g (addRow c s f) (λ j k. S .done j (omega arith))
-
 -- ---- the coefficients, as the code has them: b is bit k of x, which is row i
 pub digit-of-row : (n k : ℕ) (f : ℕ → ℕ) (i x b : ℕ) → x ≡ f i → b ≡ x / 2 ^ (n - 1 - k) % 2 → b ≡ bit n k (f i)
 digit-of-row n k f i x b row digit =
     let place : n - 1 - k ≡ n - suc k = omega arith in
     digit ∙ ap₂ (λ (y z : ℕ). y / 2 ^ z % 2) row place ∙ sym (bit-shift n k (f i))
-
-pub clearBy-self : (n k : ℕ) (f : ℕ → ℕ) (i : ℕ) → i ≡ k → 0 ≡ clearBy n k f i
-unfolding clearBy
-clearBy-self n k f i e =
-    let own : 1 - delta i k ≡ 0 = omega (arith, delta-eq i k e) in
-    sym (ap (λ (x : ℕ). x * bit n k (f i)) own ∙ zero-mul (bit n k (f i)))
 
 pub clearBy-bit : (n k : ℕ) (f : ℕ → ℕ) (i : ℕ) → i ≢ k → bit n k (f i) ≡ clearBy n k f i
 unfolding clearBy
@@ -171,13 +153,25 @@ pivot-same n k f g (suc d) i e =
 abbrev pub Stepped : ℕ → (ℕ → ℕ) → ℕ → (ℕ → ℕ) → (ℕ → ℕ) → (ℕ → ℕ) → (ℕ → ℕ) → Type 0
 Stepped n c s f g f₁ g₁ = (tabulate n f₁ ≡ tabulate n (addRow c s f)) × (tabulate n g₁ ≡ tabulate n (addRow c s g))
 
-pub pivot-step : (n k p : ℕ) (m m₁ : List ℕ) (x b : ℕ) → 4 * k + 3 < length m → x ≡ leftAt m k → b ≡ x / 2 ^ (n - 1 - k) % 2
-    → m₁ ≡ addedTo m k p (1 - b)
+-- b is bit k of row k on the left; where it lacks the bit, l and r, rows p of the two sides, are added to row k.
+pub pivot-step : (n k p : ℕ) (m m₁ : List ℕ) (x b l r : ℕ) → 4 * k + 3 < length m → x ≡ leftAt m k → b ≡ x / 2 ^ (n - 1 - k) % 2
+    → l ≡ leftAt m p → r ≡ rightAt m p → m₁ ≡ addedTo m k (1 - b) l r
     → Stepped n (pivotBy n k (leftAt m)) p (leftAt m) (rightAt m) (leftAt m₁) (rightAt m₁)
-pivot-step n k p m m₁ x b h row digit e =
+unfolding addedTo
+pivot-step n k p m m₁ x b l r h row digit el er e =
     let has = digit-of-row n k (leftAt m) k x b row digit in
-    let same-left = pivot-rows n k p (leftAt m) (leftAt m) _ b has (added-left m k p (1 - b) h) in
-    let same-right = pivot-rows n k p (leftAt m) (rightAt m) _ b has (added-right m k p (1 - b) h) in (
+    let u = bitXor (leftAt m k) ((1 - b) * l) in
+    let v = bitXor (rightAt m k) ((1 - b) * r) in
+    let left = set-left m k u v h in
+    let right = set-right m k u v h in
+    let same-left = pivot-rows n k p (leftAt m) (leftAt m) _ b has (record {
+      here = left .here ∙ ap (λ (z : ℕ). bitXor (leftAt m k) ((1 - b) * z)) el;
+      others = left .others;
+    }) in
+    let same-right = pivot-rows n k p (leftAt m) (rightAt m) _ b has (record {
+      here = right .here ∙ ap (λ (z : ℕ). bitXor (rightAt m k) ((1 - b) * z)) er;
+      others = right .others;
+    }) in (
       ap (λ (w : List ℕ). tabulate n (leftAt w)) e ∙ tabulate-ext n _ _ same-left,
       ap (λ (w : List ℕ). tabulate n (rightAt w)) e ∙ tabulate-ext n _ _ same-right,
     )

@@ -1,33 +1,46 @@
--- `invertible::has_inverse` meets its contract. The bytes are read into the rows, which are then the matrix that the bytes write; so what the
--- elimination answers of the rows holds of that matrix (`read-answered` of inversion's `laws.Inverses`). The array has room for 16 w words, as w is at most 16.
+-- `invertible::has_inverse` meets its contract. Where w is 1 or 4, the rows are words; what is asked and answered for that number is asked and answered for w
+-- (`named-room`, `named-answer` of `laws.Short`). Else they are two words each.
 -- Assumes nothing.
+use Rattle.invertible.proofs.laws.Short.{named-room, named-answer}
 use native.Mathlib.Omega.{arith}
-use Rattle.inversion.proofs.laws.Inverses.{read-answered}
 use borrow.Author.Needs.{needs}
 use Rattle.invertible.proofs.has_inverse.Statement.{statement}
 use Rattle.invertible.proofs.has_inverse.Tie as tie
 
+has-inverse-requires : tie.Need-has-inverse-requires
+has-inverse-requires c κs =
+    let entry : tie.Start = search in
+    (omega arith, named-room (c .if1 .taken) (entry .pre .1))
+
 returns : tie.Need-returns
 returns c =
-    let eliminated : tie.After-eliminate = search in
-    let read : tie.After-read = search in
-    read-answered _ _ _ _ _ (omega arith) (read .read .ensures) (eliminated .eliminate .ensures)
+    let one : tie.Then1 = search in
+    named-answer _ _ (one .if1 .taken) (search)
+
+has-inverse-requires-2 : tie.Need-has-inverse-requires-2
+has-inverse-requires-2 c κs =
+    let entry : tie.Start = search in
+    (omega arith, named-room (c .if2 .taken) (entry .pre .1))
+
+returns-2 : tie.Need-returns-2
+returns-2 c =
+    let four : tie.Then2 = search in
+    named-answer _ _ (four .if2 .taken) (search)
 
 -- ---- the needs that the search closes
-slice-aggregate-read : tie.Need-slice-aggregate-read
-slice-aggregate-read c = search needs
+has-inverse-requires-3 : tie.Need-has-inverse-requires-3
+has-inverse-requires-3 c κs = search needs
 
-read-requires : tie.Need-read-requires
-read-requires c κs = search needs
-
-slice-aggregate-eliminate : tie.Need-slice-aggregate-eliminate
-slice-aggregate-eliminate c = search needs
-
-mul-eliminate : tie.Need-mul-eliminate
-mul-eliminate c = search needs
-
-eliminate-requires : tie.Need-eliminate-requires
-eliminate-requires c κs = search needs
+returns-3 : tie.Need-returns-3
+returns-3 c = search needs
 
 pub has-inverse-spec : {M : Type 1} → statement M
-has-inverse-spec = tie.close (tie.spec slice-aggregate-read read-requires slice-aggregate-eliminate mul-eliminate eliminate-requires returns)
+has-inverse-spec =
+    tie.close
+    (tie.spec
+    has-inverse-requires
+    returns
+    has-inverse-requires-2
+    returns-2
+    has-inverse-requires-3
+    returns-3)

@@ -2,21 +2,19 @@
 -- Assumes nothing.
 use mathlib.Core.Logic.{_≢_}
 use mathlib.Core.Path.{_≡_, sym, ap, _∙_}
-use Prim.Native.Nat.{ℕ, suc, _-_, _*_, _%_, _^_, _<_, min}
+use Prim.Native.Nat.{ℕ, suc, _+_, _-_, _/_, _^_, _<_, min}
 use native.Mathlib.Decide.{ℕ-discrete}
-use native.Mathlib.Nat.{one-mul, mod-eq-of-lt}
 use native.Mathlib.Omega.{arith}
 use lib.Bits.{bitXor, bitAnd, and-le-r}
-use lib.Pow.{pow-lt}
+use lib.Pow.{pow-add, shl-shr}
 use Rattle.bits.specs.Vectors.{bit, unit}
 use Rattle.bits.proofs.laws.Vectors.{bit-lt, bit-and, bit-xor, bit-zero, bit-ext, unit-lt, bit-unit-same, bit-unit-other}
 
 -- ---- the mark of an image, as the code shifts it
-pub mark-bit : (x : ℕ) → x < 16 → 1 * 2 ^ (15 - x) % 2 ^ 64 ≡ unit 16 x
+pub mark-bit : (x : ℕ) → x < 16 → 2 ^ 15 / 2 ^ x ≡ unit 16 x
 mark-bit x h =
-    let place : 15 - x ≡ 16 - suc x = omega arith in
-    let small : 15 - x < 64 = omega arith in
-    ap (λ (y : ℕ). y % 2 ^ 64) (one-mul (2 ^ (15 - x))) ∙ mod-eq-of-lt (pow-lt small) ∙ ap (λ (k : ℕ). 2 ^ k) place
+    let all : 15 ≡ 16 - suc x + x = omega arith in
+    ap (λ (k : ℕ). 2 ^ k / 2 ^ x) all ∙ ap (λ (y : ℕ). y / 2 ^ x) (pow-add 2 (16 - suc x) x) ∙ shl-shr (2 ^ (16 - suc x)) x
 
 module _ (s x : ℕ) (h : x < 16) where
   -- ---- the test of a mark: s has nothing in common with it exactly where it is not set

@@ -22,11 +22,10 @@ use Rattle.layout.specs.Stages.{widthOf, entryLookups}
 use Rattle.layout.specs.declared.stage.Stage.{Stage}
 use Rattle.layout.specs.declared.stage.Stage.the-variants.{Entry, First, Second, Exit, Beyond}
 use Rattle.layout.proofs.laws.Stages.{lookups-16, lookups-4}
-use Rattle.lookups.specs.InPlace.{SpreadIn, XorIn, Fits, SpreadRead, XorRead, PairRead, XorMade, PairMade, LookedUp}
-use Rattle.lookups.proofs.laws.Area.{both-entry, xor-both}
+use Rattle.lookups.specs.InPlace.{SpreadIn, XorIn, Fits, SpreadRead, XorRead, XorMade, LookedUp}
 
 -- ---- an XOR lookup at its two places
-xor-at : (m x p q : ℕ) (t a : List ℕ) → p ≡ sumPlace m x → q ≡ addedPlace m x
+pub xor-at : (m x p q : ℕ) (t a : List ℕ) → p ≡ sumPlace m x → q ≡ addedPlace m x
     → setNibble a p (nibble t (pack (nibble a p) (nibble a q))) ≡ xorArea m x t a
 unfolding xorArea
 xor-at m x p q t a e f = ap₂ (λ (p q : ℕ). setNibble a p (nibble t (pack (nibble a p) (nibble a q)))) e f
@@ -40,19 +39,6 @@ xor-made m x p q t a e a′ f g r =
       area = r .area ∙ ap (λ (i : ℕ). setNibble a p (nibble t i)) (r .entry) ∙ xor-at m x p q t a f g;
     }
 
--- Two XOR lookups in a row, those of one byte: the entry that the second reads, and the area that they leave.
-pair-made : (m y p q : ℕ) (high low a : List ℕ) (e : ℕ) (a′ : List ℕ) → p < length a → (q ≡ p → ⊥)
-    → 2 * p ≡ sumPlace m (2 * y) → 2 * q ≡ addedPlace m (2 * y) → 2 * p + 1 ≡ sumPlace m (2 * y + 1) → 2 * q + 1 ≡ addedPlace m (2 * y + 1)
-    → PairRead high low p q a e a′ → PairMade m y high low a e a′
-pair-made m y p q high low a e a′ h n i j i′ j′ r =
-    let c = xorArea m (2 * y) high a in
-    let first = sym (xor-at m (2 * y) (2 * p) (2 * q) high a i j) in
-    record {
-      entry = r .entry ∙ both-entry high low a p q h n c first ∙ ap₂ (λ (p q : ℕ). pack (nibble c p) (nibble c q)) i′ j′;
-      below = r .below;
-      area = r .area ∙ xor-both high low a p q h n c first ∙ xor-at m (2 * y + 1) (2 * p + 1) (2 * q + 1) low c i′ j′;
-    }
-
 -- Entry and exit: one group of 16 words.
 pub below-480 : {m x : ℕ} → XorIn m x → m ≡ 16 → x < 480
 below-480 k e = ⊎-elim (λ p. p .1) (λ p. absurd (omega arith)) k
@@ -61,13 +47,6 @@ pub xor-16 : {m x : ℕ} {t a a′ : List ℕ} {i : ℕ} → XorIn m x → m ≡
 xor-16 {x = x} {t} {a} {a′} {i} k e r =
     let h = below-480 k e in
     rw e (xor-made 16 x (x % 32) (x + 32) t a i a′ (omega arith) (omega arith) r)
-
-pub xor-pair-16 : {m y : ℕ} {high low a a′ : List ℕ} {i : ℕ} → XorIn m (2 * y + 1) → m ≡ 16 → length a ≡ 256
-    → PairRead high low (y % 16) (y + 16) a i a′ → PairMade m y high low a i a′
-xor-pair-16 {y = y} {high} {low} {a} {a′} {i} k e l r =
-    let h : y < 240 = omega (arith, below-480 k e) in
-    rw e
-    (pair-made 16 y (y % 16) (y + 16) high low a i a′ (omega arith) (λ z. omega arith) (omega arith) (omega arith) (omega arith) (omega arith) r)
 
 -- A half: four groups of 4 words.
 pub is-4 : {m x : ℕ} → XorIn m x → (m ≡ 16 → ⊥) → (m ≡ 4) × (x < 96)
@@ -78,19 +57,6 @@ pub xor-4 : {m x : ℕ} {t a a′ : List ℕ} {i : ℕ} → XorIn m x → (m ≡
 xor-4 {x = x} {t} {a} {a′} {i} k n r =
     let h = is-4 k n in
     rw (h .0) (xor-made 4 x (x / 24 * 32 + x % 8) (x / 24 * 32 + 8 + x % 24) t a i a′ (omega arith) (omega arith) r)
-
-pub xor-pair-4 : {m y : ℕ} {high low a a′ : List ℕ} {i : ℕ} → XorIn m (2 * y + 1) → (m ≡ 16 → ⊥) → length a ≡ 256
-    → PairRead high low (y / 12 * 16 + y % 4) (y / 12 * 16 + 4 + y % 12) a i a′ → PairMade m y high low a i a′
-xor-pair-4 {y = y} {high} {low} {a} {a′} {i} k n l r =
-    let h = is-4 k n in
-    let turn : 2 * y / 8 ≡ y / 4 = omega arith in
-    let turn′ : (2 * y + 1) / 8 ≡ y / 4 = omega arith in
-    let group : y / 4 / 3 ≡ y / 12 = omega arith in
-    let word : y % 12 ≡ y / 4 % 3 * 4 + y % 4 = omega arith in
-    rw (h .0)
-    (pair-made 4 y (y / 12 * 16 + y % 4) (y / 12 * 16 + 4 + y % 12) high low a i a′ (omega arith) (λ z. omega arith)
-    (rw (turn, group) (omega arith)) (rw (turn, group, word) (omega arith))
-    (rw (turn′, group) (omega arith)) (rw (turn′, group, word) (omega arith)) r)
 
 pub length-xor : (m x : ℕ) (t a : List ℕ) → length (xorArea m x t a) ≡ length a
 unfolding xorArea setNibble

@@ -21,7 +21,8 @@ use Rattle.layout.proofs.laws.Rounds.{most-bytes}
 use Rattle.calls.specs.Calls.{advance, readNext}
 use Rattle.calls.specs.PlaceRead.{InTable}
 use Rattle.calls.proofs.laws.PlaceRead.{in-table}
-use Rattle.lookups.specs.InPlace.{Fits, LayerStands, LookedUp}
+use Rattle.lookups.specs.InPlace.{Fits, LookedUp}
+use Rattle.lookups.specs.Layer.{LayerStands}
 use Rattle.passes.specs.InPlace.{StandsIn, MadeAt, LookupMade}
 use Rattle.passes.specs.declared.Lookup.{Lookup}
 

@@ -21,8 +21,9 @@ use Rattle.evaluate.specs.Held.{held}
 use Rattle.evaluate.specs.Contracts.{Opens, Moves}
 use Rattle.evaluate.specs.declared.walk.Move.{Move}
 use Rattle.evaluate.specs.declared.walk.Opening.{Opening}
+use Rattle.layer_record.specs.Entries.{entrySize}
 use Rattle.records.specs.Contracts.{Records}
-use Rattle.records.specs.Record.{entrySize, walkAt, recordOf}
+use Rattle.records.specs.Record.{walkAt, recordOf}
 use Rattle.records.specs.Replay.{recordLeft}
 use Rattle.records.proofs.laws.Judged.{lengths-were}
 

@@ -20,12 +20,14 @@ use Rattle.bits.proofs.laws.Lists.{ext-at, length-concat}
 use Rattle.bits.proofs.laws.Offsets.{concat-row}
 use Rattle.layout.specs.Stages.{lookups}
 use Rattle.layout.proofs.laws.Lookup.{own-sizes}
-use Rattle.records.specs.Record.{entrySize, entryAt, recordOf, recordBytes, entryIn}
+use Rattle.layer_record.specs.Entries.{entrySize}
+use Rattle.layer_record.proofs.laws.Entries.{length-written}
+use Rattle.records.specs.Record.{entryAt, recordOf, recordBytes, entryIn}
 use Rattle.records.specs.Replay.{judgeRecord, same, differsAt, told, verdictBy, replayed}
 use Rattle.records.specs.Theorems.{Agrees, OtherAt, OtherByte, ReplaysExact}
 use Rattle.records.specs.declared.replay.Verdict.{Verdict}
 use Rattle.records.specs.declared.replay.Verdict.the-variants.{Own, Differs, Refused}
-use Rattle.records.proofs.laws.Entry.{length-written, same-only, same-if}
+use Rattle.records.proofs.laws.Compare.{same-only, same-if}
 use Rattle.records.proofs.laws.Judged.{lengths-were}
 
 -- ---- the record of a walk, by entries

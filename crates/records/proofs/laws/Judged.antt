@@ -11,7 +11,8 @@ use Rattle.answers.proofs.laws.Tests.{both, first-refuses, second-decides, leng
 use Rattle.layout.proofs.laws.Lookup.{Sizes}
 use Rattle.calls.specs.Calls.{judgeWhole}
 use Rattle.passes.proofs.laws.Judged as passes
-use Rattle.records.specs.Record.{entrySize, recordBytes}
+use Rattle.layer_record.specs.Entries.{entrySize}
+use Rattle.records.specs.Record.{recordBytes}
 use Rattle.records.specs.Replay.{judgeRecord}
 
 -- ---- behind the answer w for set and block

@@ -12,8 +12,9 @@ use Rattle.layout.proofs.laws.Lookup.{own-sizes}
 use Rattle.calls.specs.Calls.{advance}
 use Rattle.calls.proofs.laws.Kept.{reads-kept}
 use Rattle.passes.proofs.laws.Judged.{bad-set, bad-block, good as whole-good}
+use Rattle.layer_record.specs.Entries.{entrySize, written}
 use Rattle.records.specs.Cases.{Numbers}
-use Rattle.records.specs.Record.{entrySize, written, entryNext, recordOf}
+use Rattle.records.specs.Record.{entryNext, recordOf}
 use Rattle.records.specs.Theorems.{TestsInOrder, RecordsShaped, RecordsAndReplays}
 use Rattle.records.proofs.laws.Calls.{replay-answers}
 use Rattle.records.proofs.laws.Exact.{record-long, record-entry, replays-exact}

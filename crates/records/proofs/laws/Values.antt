@@ -21,8 +21,9 @@ use Rattle.calls.proofs.laws.Calls.{advance-split}
 use Rattle.calls.proofs.laws.PutDown.{Whole, by-spread, by-xor, by-last, withNibble, word-put, nibble-put, xor-last, last-sum}
 use Rattle.calls.proofs.laws.PutDown.{WholeState, next-is, next-whole, stays-whole, starts-whole}
 use Rattle.evaluate.specs.Held.{held}
+use Rattle.layer_record.specs.Entries.{offsetBytes, entryRead}
 use Rattle.records.specs.Contracts.{Records}
-use Rattle.records.specs.Record.{offsetBytes, entryRead, entryNext, walkAt, entryIn}
+use Rattle.records.specs.Record.{entryNext, walkAt, entryIn}
 use Rattle.records.specs.Values.{PutDown, ValuesPutDown}
 use Rattle.records.proofs.laws.Accepted.{count-is, left-is, right, moved}
 use Rattle.records.proofs.laws.Entry.{value-byte, value-spread, value-xor}

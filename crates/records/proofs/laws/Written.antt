@@ -30,11 +30,11 @@ use Rattle.evaluate.specs.declared.walk.Move.{Move}
 use Rattle.evaluate.specs.declared.walk.Opening.{Opening}
 use Rattle.evaluate.proofs.laws.PlaceRead.{places-made}
 use Rattle.passes.proofs.laws.Judged.{good as whole-good}
+use Rattle.layer_record.specs.Entries.{Entry, offsetBytes, entrySize, written, entryRead}
 use Rattle.records.specs.Contracts.{Records}
-use Rattle.records.specs.Record.{offsetBytes, entrySize, written, entryRead, walkAt, entryAt, recordOf, entryIn}
+use Rattle.records.specs.Record.{walkAt, entryAt, recordOf, entryIn}
 use Rattle.records.specs.Replay.{judgeRecord, recordLeft}
 use Rattle.records.specs.Theorems.{RefusedLeaves, WrittenIsOwn, WrittenOfMoves}
-use Rattle.records.specs.declared.entry.Entry.{Entry}
 use Rattle.records.proofs.laws.Accepted.{count-is, left-is, right, opened, moved}
 use Rattle.records.proofs.laws.Entry.{value-byte, value-xor}
 use Rattle.records.proofs.laws.Exact.{record-long, record-entry, replays-exact}

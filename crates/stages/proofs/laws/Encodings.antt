@@ -20,8 +20,8 @@ use Rattle.layout.specs.Stages as stages
 use Rattle.layout.specs.Stages.{sourceOf, standingNumber}
 use Rattle.layout.specs.declared.stage.Stage.{Stage}
 use Rattle.whitebox.proofs.laws.Bundles.{encodings-agree}
-use Rattle.entries.specs.Encodings.{encodingIn}
-use Rattle.layers.proofs.laws.Code.{frame-of}
+use Rattle.encodings.specs.Encodings.{encodingIn}
+use Rattle.inverse_matrices.proofs.laws.Code.{frame-of}
 use Rattle.stages.specs.Spread.{readByte}
 
 module _ (nr : ℕ) (l s : List ℕ) (e : s ≡ sectionOf nr l 0) where

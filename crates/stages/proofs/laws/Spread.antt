@@ -44,9 +44,9 @@ use Rattle.whitebox.specs.Words.{entryWord, mixedWord, secondWord, placedWord, 
 use Rattle.whitebox.proofs.laws.Bundles.{encoding-is}
 use Rattle.whitebox.proofs.laws.States.{substituted-lt}
 use Rattle.whitebox.proofs.laws.Values.{entry-bytes, mixed-word-bytes, second-bytes, placed-word-bytes}
-use Rattle.entries.specs.Encodings.{encodingIn}
-use Rattle.entries.specs.Spread.{encodedBytes, encodedWord}
-use Rattle.layers.proofs.laws.Linear.{by-powers, spread-xor, mixed-xor, exit-xor}
+use Rattle.encodings.specs.Encodings.{encodingIn}
+use Rattle.spread_tables.specs.Spread.{encodedBytes, encodedWord}
+use Rattle.substitution.proofs.laws.Linear.{by-powers, spread-xor, mixed-xor, exit-xor}
 use Rattle.stages.specs.Spread.{acted, linearWord, wordNumber, readByte}
 
 -- ---- 256 words of m bytes, one after the other

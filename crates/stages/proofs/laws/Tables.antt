@@ -15,7 +15,7 @@ use Rattle.layout.specs.Stages.{widthOf, firstNumber, InRounds}
 use Rattle.layout.specs.declared.stage.Stage.{Stage}
 use Rattle.layout.specs.declared.stage.Stage.the-variants.{Entry, First, Second, Exit, Beyond}
 use Rattle.layout.proofs.laws.Stages.{good-16, good-4, results-16, results-4}
-use Rattle.entries.specs.Words.{WordWidth}
+use Rattle.spread_tables.specs.Words.{WordWidth}
 
 -- ---- widths and numbers by stage
 good-width : (nr : ℕ) (s : Stage) → InRounds nr s → GoodWidth (widthOf s)

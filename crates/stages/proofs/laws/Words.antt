@@ -25,11 +25,12 @@ use Rattle.layout.specs.declared.stage.Stage.{Stage}
 use Rattle.layout.specs.declared.stage.Stage.the-variants.{Entry, First, Second, Exit}
 use Rattle.whitebox.specs.Bundles.{codingsOf}
 use Rattle.whitebox.specs.Parts.{Parts}
-use Rattle.entries.specs.Encodings.{encodingIn}
-use Rattle.entries.proofs.laws.Entries.{images-below}
-use Rattle.layers.specs.Layers.{Begins, inputWords, columnWords, inputInverse, columnInverse, columnNumber, inverseFor, spreadWord}
-use Rattle.layers.proofs.laws.Code.{byte-is, column-is}
-use Rattle.layers.proofs.laws.Inverses.{begins-entry, begins-second}
+use Rattle.encodings.specs.Encodings.{encodingIn}
+use Rattle.encodings.proofs.laws.Lists.{images-below}
+use Rattle.inverse_matrices.specs.InverseWords.{Begins, inputWords, columnWords, inputInverse, columnInverse, columnNumber, inverseFor}
+use Rattle.layers.specs.Layers.{spreadWord}
+use Rattle.inverse_matrices.proofs.laws.Code.{byte-is, column-is}
+use Rattle.inverse_matrices.proofs.laws.Inverses.{begins-entry, begins-second}
 use Rattle.layout.proofs.laws.Numbers.{round-second}
 use Rattle.stages.specs.Spread.{wordNumber}
 use Rattle.stages.proofs.laws.Spread.{images-front, entry-form, first-form, second-form, exit-form}

@@ -21,7 +21,7 @@ use Rattle.network.proofs.laws.InRange.{number-lt}
 use Rattle.network.proofs.laws.Order.{sum-div, added-lt, nibble-in, added-word-lt}
 use Rattle.whitebox.specs.Bundles.{codingsOf}
 use Rattle.whitebox.proofs.laws.Bundles.{encoding-is}
-use Rattle.entries.specs.Encodings.{encodingIn}
+use Rattle.encodings.specs.Encodings.{encodingIn}
 use Rattle.stages.proofs.laws.Encodings.{encodings-in}
 
 -- The table of encodings a, b and c of a section: of the sum so far, of the nibble that is added, of the result.

@@ -1,5 +1,5 @@
--- Laws, not definitions: what the calls answer, by the tests on the way, and the set or table that they leave; of keys of nk words. `count` and `bytes`
--- are the sizes of a set as the numbers that the code has.
+-- Laws, not definitions: what the calls answer, by the tests on the way, and the set or table that they leave; of keys
+-- of nk words. `count` and `bytes` are the sizes of a set as the numbers that the code has.
 -- Assumes nothing.
 use mathlib.Core.Bool.{Bool, true, false, not}
 use mathlib.Core.List.{List}
@@ -8,8 +8,6 @@ use Prim.Native.Nat.{ℕ, _*_, _≤_, _<_}
 use native.Mathlib.Omega.{arith}
 use borrow.Author.Tests.{ltb-true, lt-ltb, le-ltb}
 use lib.Dec.{ltb}
-use lib.ListN.{length, take}
-use lib.Seq.{take-length}
 use Rattle.answers.specs.Answers.{refusedIf, wantsLength, andThen}
 use Rattle.answers.specs.declared.Answer.{Answer}
 use Rattle.answers.specs.declared.Answer.the-variants.{Accepted, Refused}
@@ -18,26 +16,13 @@ use Rattle.answers.specs.declared.Refusal.the-variants.{KeyLength, TableNumber,
 use Rattle.answers.proofs.laws.Tests.{first-refuses, second-decides, both, test-refuses, test-passes, passed, length-wrong, length-right, length-was, stops, decides}
 use Rattle.round.specs.Key.{KeyExpansion, roundsOf}
 use Rattle.judgement.specs.Judge.{judge}
-use Rattle.layout.specs.Stages.{lookups, tablesBytes, setBytes, tableSize, placeOf}
+use Rattle.layout.specs.Stages.{lookups, setBytes, tableSize, placeOf}
 use Rattle.layout.specs.declared.stage.Place.{Place}
-use Rattle.layout.specs.declared.stage.Stage.{Stage}
 use Rattle.layout.proofs.laws.Lookup.{Sizes}
-use Rattle.whitebox.specs.Bundles.{madeSet, madeTable}
-use Rattle.whitebox.specs.Tables.{tablesOf, setOf}
+use Rattle.whitebox.specs.Bundles.{madeTable}
 use Rattle.stages.specs.Table.{stageTable}
 use Rattle.tables.specs.Calls.{judgedFor, setAnswerFor, tableAnswerFor}
-use Rattle.tables.specs.Set.{tablesMade}
-use Rattle.tables.proofs.laws.Set.{table-made}
-
--- ---- what is made for the cipher c, from the key that the code has copied and the round keys that it has expanded
-module _ (c nk : ℕ) (key copy l w dst : List ℕ) (same : copy ≡ key) (e : w ≡ KeyExpansion nk copy) where
-  -- A memory of the set's length that begins with all tables is the set.
-  pub set-made : length dst ≡ setBytes (roundsOf nk) → take (tablesBytes (roundsOf nk)) dst ≡ tablesMade c (roundsOf nk) w l → dst ≡ madeSet c nk key l
-  unfolding madeSet setOf tablesOf setBytes
-  set-made long front = sym (ap (λ (n : ℕ). take n dst) (sym long) ∙ take-length dst) ∙ (rw (e, same) at front)
-
-  pub one-made : (s : Stage) (j : ℕ) → dst ≡ stageTable c (roundsOf nk) w l s j → dst ≡ stageTable c (roundsOf nk) (KeyExpansion nk key) l s j
-  one-made s j d = rw (e, same) at d
+use Rattle.keyed_tables.proofs.laws.Set.{table-made}
 
 -- What is made at the place of table n is table n of the set.
 pub table-by-place : (c nk : ℕ) (key l dst : List ℕ) (n : ℕ) (q : Place) → q ≡ placeOf (roundsOf nk) n → n < lookups (roundsOf nk)
@@ -55,7 +40,8 @@ module _ (nk key : ℕ) (l : List ℕ) where
   unfolding judgedFor
   judged-by h e = e ∙ second-decides _ _ (sym (length-right (4 * nk) key KeyLength h))
 
--- ---- a call, whose answer a by key and bundle stays if it is a refusal; else another is given, by what the call is asked for
+-- ---- a call, whose answer a by key and bundle stays if it is a refusal; else another is given, by what the call is
+-- asked for
 module _ (nk key : ℕ) (l : List ℕ) {a : Answer} (e : a ≡ judgedFor nk key l) where
   -- What was lent where it is none.
   pub lent-key : a ≡ Accepted → key ≡ 4 * nk

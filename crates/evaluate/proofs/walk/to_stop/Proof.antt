@@ -1,6 +1,6 @@
--- `evaluate::walk::to_stop` meets its contract. Each way out has a law of `laws.Calls`, whose premises are the tests on the way and what `refused` ensures: a set of another
--- length (`wrong-set`), a stop behind the last lookup (`stop-above`), a stop before the count (`stop-below`); and behind `advance`, which ensures
--- that the walk has made the lookups up to the stop, as its cipher reads, the move is done (`stop-done`). They are over the sizes of a set.
+-- `evaluate::walk::to_stop` meets its contract. Each way out has a law of `laws.Calls`, whose premises are the tests on the way and what `refused` ensures: a set
+-- of another length (`wrong-set`), a stop behind the last lookup (`stop-above`), a stop before the count (`stop-below`); and behind `advance`, which makes the
+-- lookups up to the stop, the walk keeps the cipher, as `changed` ensures, and the move is done (`stop-done`). They are over the sizes of a set.
 -- Assumes nothing.
 use mathlib.Core.Path.{refl}
 use Rattle.layout.proofs.laws.Rounds.{sizes-of}
@@ -30,16 +30,22 @@ returns-3 c =
     let bytes : tie.After-set-bytes = search in
     stop-below (sizes-of (count .lookups-in .ensures) (bytes .set-bytes .ensures)) _ _ _ _ (search) (down .refused3 .ensures) (search) (search)
 
-returns-4 : tie.Need-returns-4
-returns-4 c =
-    let count : tie.After-lookups-in = search in
-    let bytes : tie.After-set-bytes = search in
-    stop-done (sizes-of (count .lookups-in .ensures) (bytes .set-bytes .ensures)) _ _ _ _ (search) (search) (search) (c .advance .ensures)
-
 advance-requires : tie.Need-advance-requires
 advance-requires c κs =
     let entry : tie.Start = search in
-    record { sized = omega arith; not-behind = search; stop-within = omega arith; rounds = entry .pre }
+    record { sized = omega arith; not-behind = search; stop-within = omega arith; lent = record { standing = search needs; area = search needs }; rounds = entry .pre }
+
+returns-4 : tie.Need-returns-4
+returns-4 c =
+    let walk : tie.After-changed = search in
+    let moved : tie.After-advance = search in
+    let behind : tie.Else3 = search in
+    let within : tie.Else2 = search in
+    let sized : tie.Else1 = search in
+    let count : tie.After-lookups-in = search in
+    let bytes : tie.After-set-bytes = search in
+    stop-done (sizes-of (count .lookups-in .ensures) (bytes .set-bytes .ensures)) _ _ _ _ (sized .if1 .left) refl (within .if2 .left) (behind .if3 .left)
+    (moved .advance .ensures) (walk .changed .ensures) refl
 
 -- ---- the needs that the search closes
 set-bytes-requires : tie.Need-set-bytes-requires
@@ -57,6 +63,9 @@ refused-requires-2 c κs = search needs
 refused-requires-3 : tie.Need-refused-requires-3
 refused-requires-3 c κs = search needs
 
+changed-requires : tie.Need-changed-requires
+changed-requires c κs = search needs
+
 pub to-stop-spec : {M : Type 1} → statement M
 to-stop-spec =
     tie.close
@@ -70,4 +79,5 @@ to-stop-spec =
     refused-requires-3
     returns-3
     advance-requires
+    changed-requires
     returns-4)

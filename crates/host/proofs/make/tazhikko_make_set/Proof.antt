@@ -1,8 +1,7 @@
 -- `host::make::tazhikko_make_set`: the maker's call for the whole set, by the crate `tables`. What is returned is the number of the call's
 -- answer, which is the definition's; what is left is the call's.
 -- Assumes nothing.
-use mathlib.Core.Path.{ap, _∙_}
-use Rattle.answers.specs.Numbers.{numberOf}
+use Rattle.host.proofs.laws.Numbered.{numbered}
 use borrow.Author.Needs.{needs}
 use Rattle.host.proofs.make.tazhikko_make_set.Statement.{statement}
 use Rattle.host.proofs.make.tazhikko_make_set.Tie as tie
@@ -10,7 +9,7 @@ use Rattle.host.proofs.make.tazhikko_make_set.Tie as tie
 returns : tie.Need-returns
 returns c =
     let call : tie.After-make-set = search in
-    (c .number .ensures ∙ ap numberOf (call .make-set .ensures .0), call .make-set .ensures .1)
+    (numbered (c .number .ensures) (call .make-set .ensures .0), call .make-set .ensures .1)
 
 -- ---- the needs that the search closes
 make-set-requires : tie.Need-make-set-requires

@@ -1,8 +1,7 @@
 -- `host::make::tazhikko_make_table`: the maker's call for one table, by the crate `tables`. What is returned is the number of the call's
 -- answer, which is the definition's; what is left is the call's.
 -- Assumes nothing.
-use mathlib.Core.Path.{ap, _∙_}
-use Rattle.answers.specs.Numbers.{numberOf}
+use Rattle.host.proofs.laws.Numbered.{numbered}
 use borrow.Author.Needs.{needs}
 use Rattle.host.proofs.make.tazhikko_make_table.Statement.{statement}
 use Rattle.host.proofs.make.tazhikko_make_table.Tie as tie
@@ -10,7 +9,7 @@ use Rattle.host.proofs.make.tazhikko_make_table.Tie as tie
 returns : tie.Need-returns
 returns c =
     let call : tie.After-make-table = search in
-    (c .number .ensures ∙ ap numberOf (call .make-table .ensures .0), call .make-table .ensures .1)
+    (numbered (c .number .ensures) (call .make-table .ensures .0), call .make-table .ensures .1)
 
 -- ---- the needs that the search closes
 make-table-requires : tie.Need-make-table-requires

@@ -1,68 +1,26 @@
--- `host::walk::tazhikko_walk`: where `judged` finds something against the lengths, its answer's number is returned and the lent answer is left as it
--- was (`walk-refused` of `laws.Walks`); else the walk for the cipher starts at the block, one move over the set goes to the last count, and the block there is
--- fetched (`walk-done`, whose premises are what the three calls ensure).
+-- `host::walk::tazhikko_walk`: the walk from a block to its answer, by the crate `one_call`. What is returned is the number of the call's
+-- answer, which is the definition's; what is left is the call's.
 -- Assumes nothing.
-use mathlib.Core.Path.{ap, _∙_}
-use Rattle.answers.specs.Numbers.{numberOf}
-use Rattle.host.proofs.laws.Walks.{walk-refused, walk-done}
+use Rattle.host.proofs.laws.Numbered.{numbered}
 use borrow.Author.Needs.{needs}
 use Rattle.host.proofs.walk.tazhikko_walk.Statement.{statement}
 use Rattle.host.proofs.walk.tazhikko_walk.Tie as tie
 
 returns : tie.Need-returns
 returns c =
-    let answer : tie.After-judged = search in
-    (c .number .ensures ∙ ap numberOf (answer .judged .ensures), search walk-refused)
-
-returns-2 : tie.Need-returns-2
-returns-2 c =
-    let fetched : tie.After-fetch = search in
-    let moved : tie.After-move-to = search in
-    let opening : tie.After-start = search in
-    let answer : tie.After-judged = search in
-    let left = walk-done _ _ _ _ (answer .judged .ensures) (search) (opening .start .ensures) (moved .move-to .ensures) (fetched .fetch .ensures) in
-    (c .number2 .ensures ∙ ap numberOf (answer .judged .ensures), left)
+    let call : tie.After-walk = search in
+    (numbered (c .number .ensures) (call .walk .ensures .0), call .walk .ensures .1)
 
 -- ---- the needs that the search closes
-judged-requires : tie.Need-judged-requires
-judged-requires c κs = search needs
-
-enum-told : tie.Need-enum-told
-enum-told c = search needs
-
-start-requires : tie.Need-start-requires
-start-requires c κs = search needs
-
-move-to-requires : tie.Need-move-to-requires
-move-to-requires c κs = search needs
-
-fetch-requires : tie.Need-fetch-requires
-fetch-requires c κs = search needs
+walk-requires : tie.Need-walk-requires
+walk-requires c κs = search needs
 
 number-requires : tie.Need-number-requires
 number-requires c κs = search needs
-
-enum-told-2 : tie.Need-enum-told-2
-enum-told-2 c = search needs
-
-number-requires-2 : tie.Need-number-requires-2
-number-requires-2 c κs = search needs
 
 same-length : tie.Need-same-length
 same-length c = search needs
 
 pub tazhikko-walk-spec : {M : Type 1} → statement M
 tazhikko-walk-spec =
-    tie.close
-    (tie.spec
-    judged-requires
-    enum-told
-    enum-told-2
-    number-requires
-    returns
-    start-requires
-    move-to-requires
-    fetch-requires
-    number-requires-2
-    same-length
-    returns-2)
+    tie.close (tie.spec walk-requires number-requires same-length returns)

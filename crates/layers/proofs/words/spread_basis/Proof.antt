@@ -6,7 +6,7 @@
 use Prim.Native.Nat.{_-_, _*_, _^_}
 use Rattle.matrices.specs.Rows.{rowsOf}
 use Rattle.matrices.proofs.laws.Rows.{Stored, stored-none, stored-more, stored-all}
-use Rattle.layers.proofs.laws.Code.{frame-of}
+use Rattle.inverse_matrices.proofs.laws.Code.{frame-of}
 use Rattle.layers.proofs.laws.Bases.{byte-count, byte-section-long, spread-row}
 use Rattle.layers.specs.Layers.{spreadWord}
 use native.Mathlib.Omega.{arith}

@@ -1,16 +1,20 @@
--- `lookups::area::xor` meets its contract. The code reads two nibbles, looks their entry up and writes it over the first: `setNibble` and `nibble`,
--- written out, so the area is the calls' equations put together, and the entry is the one that `index_of` ensures.
+-- `lookups::area::xor` meets its contract. The code reads two nibbles, looks their entry up and writes it over the first: `setNibble` and `nibble`, by what the calls
+-- ensure (`xor-read` of `laws.Area`).
 -- Assumes nothing.
-use Rattle.bits.specs.Nibbles.{nibble, setNibble}
+use Rattle.lookups.proofs.laws.Area.{xor-read}
 use borrow.Author.Needs.{needs}
 use Rattle.lookups.proofs.area.xor.Statement.{statement}
 use Rattle.lookups.proofs.area.xor.Tie as tie
 
 returns : tie.Need-returns
-unfolding nibble setNibble
 returns c =
+    let byte : tie.After-with-half = search in
+    let read : tie.After-xor-entry = search in
     let index : tie.After-index-of = search in
-    record { entry = cc; below = index .index-of .ensures .1; area = cc }
+    let added : tie.After-half-of2 = search in
+    let sum : tie.After-half-of = search in
+    xor-read (sum .half-of .ensures .0) (added .half-of2 .ensures .0) (index .index-of .ensures .0) (index .index-of .ensures .1)
+    (read .xor-entry .ensures .0) (byte .with-half .ensures)
 
 -- ---- the needs that the search closes
 element-copy-out-half-of : tie.Need-element-copy-out-half-of

@@ -46,13 +46,11 @@ lookups-of-requires c κs = search xor-width
 returns-2 : tie.Need-returns-2
 returns-2 c = search by-xor
 
-take-sums-requires : tie.Need-take-sums-requires
-take-sums-requires c κs = search xor-width
-
-clear-requires : tie.Need-clear-requires
-clear-requires c κs =
+finish-requires : tie.Need-finish-requires
+finish-requires c κs =
     let summed : tie.After-xor-in = search in
-    length-after-xor _ _ _ _ _ _ (summed .xor-in .ensures .area) (search)
+    let entry : tie.Start = search in
+    (record { standing = entry .pre .1 .standing; area = length-after-xor _ _ _ _ _ _ (summed .xor-in .ensures .area) (entry .pre .1 .area) }, search xor-width)
 
 returns-3 : tie.Need-returns-3
 returns-3 c = search by-last
@@ -79,6 +77,5 @@ lookup-in-spec =
     add-if2
     lookups-of-requires
     returns-2
-    take-sums-requires
-    clear-requires
+    finish-requires
     returns-3)

@@ -5,9 +5,9 @@
 -- Assumes nothing.
 use Rattle.whitebox.specs.Parts.{partsFor}
 use Rattle.whitebox.proofs.laws.Ciphers.{parts-mix}
-use Rattle.layers.proofs.laws.Code.{frame-of, column-part-long, output-part-long}
-use Rattle.layers.proofs.laws.Inverses.{begins-entry, begins-second}
-use Rattle.layers.proofs.laws.Inverses.{column-below}
+use Rattle.inverse_matrices.proofs.laws.Code.{frame-of, column-part-long, output-part-long}
+use Rattle.inverse_matrices.proofs.laws.Inverses.{begins-entry, begins-second}
+use Rattle.inverse_matrices.proofs.laws.Inverses.{column-below}
 use Rattle.layout.proofs.laws.Numbers.{round-first, round-second, never-beyond}
 use Rattle.stages.proofs.laws.Words.{based-entry, based-first, based-second, based-exit}
 use native.Mathlib.Omega.{arith}

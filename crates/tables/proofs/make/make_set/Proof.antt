@@ -2,8 +2,9 @@
 -- length is refused (`set-length`), both with the memory left as it was; else the set is written (`set-done`). What `fill_set` asks is that
 -- there was no refusal: `lent-key`, `lent-bundle`. `refused-leaves` and `accepted-leaves` of crate answers say what the memory holds then.
 -- Assumes nothing.
-use mathlib.Core.Path.{refl}
+use mathlib.Core.Path.{refl, sym, _∙_}
 use Rattle.answers.proofs.laws.Tests.{refused-leaves, accepted-leaves}
+use Rattle.rounds.proofs.laws.Known.{ten-rounds}
 use Rattle.layout.proofs.laws.Ten.{ten}
 use Rattle.tables.proofs.laws.Calls.{lent-key, lent-bundle, set-refused, set-length, set-done}
 use borrow.Author.Needs.{needs}
@@ -19,7 +20,9 @@ returns-2 : tie.Need-returns-2
 returns-2 c = refused-leaves (search (set-length, ten)) _ _ refl
 
 fill-set-requires : tie.Need-fill-set-requires
-fill-set-requires c κs = search (lent-key 4, lent-bundle 4)
+fill-set-requires c κs =
+    let fits : tie.Else1 = search in
+    (fits .if1 .left ∙ sym (ten .all-bytes), record { long = search (lent-key 4); accepted = search (lent-bundle 4); rounds = ten-rounds })
 
 returns-3 : tie.Need-returns-3
 returns-3 c =

@@ -6,6 +6,7 @@
 -- Assumes nothing.
 use mathlib.Core.Path.{refl, _∙_}
 use Rattle.answers.proofs.laws.Tests.{refused-leaves, accepted-leaves}
+use Rattle.rounds.proofs.laws.Known.{ten-rounds}
 use Rattle.layout.proofs.laws.Lookup.{stands}
 use Rattle.layout.proofs.laws.Numbers.{round-at}
 use Rattle.layout.proofs.laws.Ten.{ten, in-set}
@@ -33,8 +34,10 @@ fill-table-requires c κs =
     let start : tie.Start = search in
     let inside = in-set (start .args .number) (search) in
     let at = stands inside (place .place-of .ensures) in
-    let round = round-at 10 _ _ (place .place-of .ensures) (omega arith) inside in
-    (search (lent-key 4), search (lent-bundle 4), record { stage = round; index = at .index; size = fits .if2 .left ∙ at .kind })
+    let round = round-at 10 _ _ (place .place-of .ensures) (omega arith) inside in (
+      record { stage = round; index = at .index; size = fits .if2 .left ∙ at .kind },
+      record { long = search (lent-key 4); accepted = search (lent-bundle 4); rounds = ten-rounds },
+    )
 
 returns-4 : tie.Need-returns-4
 returns-4 c =

@@ -1,4 +1,0 @@
-pub mod Encodings
-pub mod Spread
-pub mod Words
-pub mod Xors

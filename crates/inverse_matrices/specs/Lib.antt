@@ -1,0 +1,3 @@
+pub mod InverseWords
+pub mod Inverses
+pub mod Asked

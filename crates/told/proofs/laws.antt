@@ -1,0 +1,4 @@
+pub mod Pointers
+pub mod Told
+pub mod Bits
+pub mod Entries
