@@ -1,6 +1,6 @@
-// The crate aes on vectors: for each key and block of standard input it writes the key expansion, the enciphered block and
-// the deciphered block. First come keys of 24 and of 32 bytes in turn, and then keys of 16, until the input ends; then what
-// both calls answer to keys and blocks of wrong lengths, and what they leave.
+// The crate aes on vectors: for each key and block of standard input it writes the key expansion, the enciphered block
+// and the deciphered block. First come keys of 24 and of 32 bytes in turn, and then keys of 16, until the input ends;
+// then what both calls answer to keys and blocks of wrong lengths, and what they leave.
 use answers::Answer;
 use libc::STDOUT_FILENO;
 ghost use mathlib.Core.Path.{_≡_};
@@ -100,7 +100,8 @@ fn vector(key: [u8; 16], block: [u8; 16]) {
     show(&deciphered);
 }
 
-// Both calls on the same key and block, each with a block of its own to write: the answer, and what is left in that block.
+// Both calls on the same key and block, each with a block of its own to write: the answer, and what is left in that
+// block.
 fn both(key: &[u8], block: &[u8], enciphered: &mut [u8], deciphered: &mut [u8])
     requires { ⌜ (length (now enciphered) ≤ 32) × (length (now deciphered) ≤ 32) ⌝ }
 {

@@ -1,5 +1,6 @@
-// The catalogue of small matrices: the 4 by 4 bit matrices that have an inverse, in rising order of the number that their rows make (document 02, Ticket 4). The
-// one at a position is found row by row: no scan over all numbers. And the test of one matrix, by its number.
+// The catalogue of small matrices: the 4 by 4 bit matrices that have an inverse, in rising order of the number that
+// their rows make (document 02, Ticket 4). The one at a position is found row by row: no scan over all numbers. And the
+// test of one matrix, by its number.
 ghost use mathlib.Core.Path.{_≡_};
 ghost use Prim.Native.Nat.{_<_};
 ghost use Rattle.bits.specs.Counts.{sumBelow};
@@ -47,8 +48,8 @@ const KERNELS: [u16; VECTORS] = [
     0x9669,
 ];
 
-// How many matrices begin with the same rows, where 0, 1, 2 or 3 rows are still to choose: outside the span of the rows before it, the last row has 8 choices, the
-// third 12, the second 14.
+// How many matrices begin with the same rows, where 0, 1, 2 or 3 rows are still to choose: outside the span of the rows
+// before it, the last row has 8 choices, the third 12, the second 14.
 const WAYS: [usize; SIDE] = [1, 8, 96, 1344];
 
 // The kernel of some rows and one row more.
@@ -80,7 +81,8 @@ fn ways_at(left: usize) -> usize
     WAYS[left]
 }
 
-// How many matrices go on with a row, where some rows have this kernel: none where it narrows nothing, for then it is in their span; else `each`.
+// How many matrices go on with a row, where some rows have this kernel: none where it narrows nothing, for then it is
+// in their span; else `each`.
 fn completions_with(kernel: u16, each: usize, row: usize) -> usize
     requires { ⌜ row < vectors ⌝ }
     ensures { λ r. ⌜ r ≡ completions kernel each row ⌝ }

@@ -1,5 +1,5 @@
-// The calls for a host program in C: numbers and byte slices, each slice a pointer and a length. A call returns 0 where it is accepted,
-// else cause * 2^32 + the number returned with it.
+// The calls for a host program in C: numbers and byte slices, each slice a pointer and a length. A call returns 0 where
+// it is accepted, else cause * 2^32 + the number returned with it.
 pub mod make;
 pub mod tell;
 pub mod walk;

@@ -1,5 +1,5 @@
-// The calls for C that tell more than an answer, through a pointer, which a refused call leaves as it was. Where there is nothing to tell, it gets
-// TAZHIKKO_NONE of the header, the largest number of 64 bits.
+// The calls for C that tell more than an answer, through a pointer, which a refused call leaves as it was. Where there
+// is nothing to tell, it gets TAZHIKKO_NONE of the header, the largest number of 64 bits.
 ghost use mathlib.Core.Path.{_≡_};
 ghost use lib.ListN.{length};
 ghost use Rattle.answers.specs.Numbers.{numberOf};

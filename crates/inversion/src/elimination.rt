@@ -1,5 +1,5 @@
-// Gauss-Jordan elimination on a work area: row i of the matrix that is reduced is its row 2 i, and row i of the matrix that becomes
-// the inverse its row 2 i + 1.
+// Gauss-Jordan elimination on a work area: row i of the matrix that is reduced is its row 2 i, and row i of the matrix
+// that becomes the inverse its row 2 i + 1.
 ghost use mathlib.Core.Path.{_≡_};
 ghost use Prim.Native.Nat.{_+_, _-_, _*_, _<_, _≤_};
 ghost use lib.ListN.{length};
@@ -48,7 +48,8 @@ fn add_row(work: &mut [u64], i: usize, c: u64, l: Vector, r: Vector)
     put(work, i, left, right);
 }
 
-// Row k clears bit k in every other row. No row is left out of the loop, which so has no branch: row k, which is lost in it, is put back.
+// Row k clears bit k in every other row. No row is left out of the loop, which so has no branch: row k, which is lost
+// in it, is put back.
 fn clear(work: &mut [u64], n: usize, k: usize)
     requires { ⌜ (n ≤ 128) × (4 * n ≤ length (now work)) × (k < n) ⌝ }
     ensures left { λ _. ⌜ lefts n (now (work .exit))

@@ -1,5 +1,6 @@
-// Whether a bit matrix of up to 128 rows has an inverse, with none made: the elimination of crate inversion on the matrix alone, and in column k only of the rows
-// behind row k, as no other is looked at again. The definitions are those of crate inversion and of specs/.
+// Whether a bit matrix of up to 128 rows has an inverse, with none made: the elimination of crate inversion on the
+// matrix alone, and in column k only of the rows behind row k, as no other is looked at again. The definitions are
+// those of crate inversion and of specs/.
 mod long;
 mod short;
 
@@ -9,8 +10,8 @@ ghost use lib.ListN.{length};
 ghost use Rattle.inversion.specs.Elimination.{invert, hasInverse};
 ghost use Rattle.matrices.specs.Matrices.{matrixOf};
 
-// The matrix of 8 w rows that bytes write has an inverse. A bundle's byte and column matrices have a row to a word; their widths are named, so that the compiler
-// makes a version for each.
+// The matrix of 8 w rows that bytes write has an inverse. A bundle's byte and column matrices have a row to a word;
+// their widths are named, so that the compiler makes a version for each.
 pub fn has_inverse(p: &[u8], w: usize) -> bool
     requires { ⌜ (w ≤ 16) × (8 * w * w ≤ length (now p)) ⌝ }
     ensures { λ r. ⌜ r ≡ hasInverse (invert (8 * w) (matrixOf w (now (p .entry)))) ⌝ }

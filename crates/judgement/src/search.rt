@@ -34,7 +34,8 @@ fn image(lists: &[u8], q: usize) -> u8
     if q % 2 == 0 { b / 16 } else { b % 16 }
 }
 
-// The first of the encodings that a section holds that repeats an image. The images that a list has met are marked in a word.
+// The first of the encodings that a section holds that repeats an image. The images that a list has met are marked in a
+// word.
 pub fn first_bad_encoding(lists: &[u8], count: usize) -> Found
     requires { ⌜ (count ≤ mostEncodings) × (count * 8 ≤ length (now lists)) ⌝ }
     ensures { λ r. ⌜ r ≡ first count (λ n. noPermutation (partOf 8 (now (lists .entry)) n)) ⌝ }

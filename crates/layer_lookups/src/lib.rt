@@ -1,5 +1,5 @@
-// All lookups of a stage or half over a set, in place: what a walk makes at once where it may. The definitions are those
-// of specs/ and of crate lookups.
+// All lookups of a stage or half over a set, in place: what a walk makes at once where it may. The definitions are
+// those of specs/ and of crate lookups.
 ghost use mathlib.Core.Logic.{_⊎_};
 ghost use mathlib.Core.Path.{_≡_};
 ghost use Prim.Native.Nat.{_+_, _*_, _/_, _≤_, _<_};

@@ -1,5 +1,5 @@
-// The lookups of a stage or half over a set, made in place, with what is recorded of each written into lent memory as it
-// is made: document 02, Ticket 3. The definitions are those of specs/ and of crate lookups.
+// The lookups of a stage or half over a set, made in place, with what is recorded of each written into lent memory as
+// it is made: document 02, Ticket 3. The definitions are those of specs/ and of crate lookups.
 ghost use mathlib.Core.List.{_∷_, _++_, []};
 ghost use mathlib.Core.Path.{_≡_};
 ghost use Prim.Native.Nat.{_+_, _*_, _/_, _%_, _<_, _≤_};
@@ -95,9 +95,9 @@ fn note_entry(set: &[u8], from: usize, e: usize, part: &mut [u8]) -> usize
     xor_entry(&set[from..end], e)
 }
 
-// The two XOR lookups of the byte at `sum`, over two tables, one behind the other from byte `high` of the set. The order
-// is for speed: the compiler makes one store of the four of an offset only where a read stands between them and the
-// stores before.
+// The two XOR lookups of the byte at `sum`, over two tables, one behind the other from byte `high` of the set. The
+// order is for speed: the compiler makes one store of the four of an offset only where a read stands between them and
+// the stores before.
 fn record_byte(
     area: &mut [u8; 256],
     set: &[u8],

@@ -76,9 +76,9 @@ pub fn xor_place(from: usize, e: usize) -> EntryPlace
     }
 }
 
-// Lookup j of a stage or half, of a walk for a cipher, over its table, which begins at byte `from` of the set. "The last
-// XOR of a stage or half copies the sums to the standing bytes and zeroes the area." Hands back the place of the entry
-// that was read (document 02, Ticket 2).
+// Lookup j of a stage or half, of a walk for a cipher, over its table, which begins at byte `from` of the set. "The
+// last XOR of a stage or half copies the sums to the standing bytes and zeroes the area." Hands back the place of the
+// entry that was read (document 02, Ticket 2).
 pub fn lookup_in(
     cipher: u64,
     standing: &mut [u8; 16],
@@ -111,8 +111,8 @@ pub fn lookup_in(
     read
 }
 
-// Spread lookup p of a stage or half, whose tables begin at byte `from` of the set. Hands back the byte of the set where
-// the word begins that was read.
+// Spread lookup p of a stage or half, whose tables begin at byte `from` of the set. Hands back the byte of the set
+// where the word begins that was read.
 pub fn spread_in(
     cipher: u64,
     standing: &[u8; 16],

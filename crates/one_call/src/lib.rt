@@ -26,7 +26,8 @@ fn judged(rounds: usize, set: usize, block: usize, answer: usize) -> Answer
     Answer::Accepted
 }
 
-// From a block under the input coding to the answer under the output coding, over a whole set, by a walk for a cipher: 0 forward, any other number inverse.
+// From a block under the input coding to the answer under the output coding, over a whole set, by a walk for a cipher:
+// 0 forward, any other number inverse.
 pub fn walk(cipher: u64, set: &[u8], block: &[u8], answer: &mut [u8]) -> Answer
     ensures answer { λ r. ⌜ r ≡ walkAnswer (length (now (set .entry))) (length (now (block .entry))) (length (now (answer .entry))) ⌝ }
     ensures block { λ _. ⌜ now (answer .exit) ≡ walkLeaves cipher (now (set .entry)) (now (block .entry)) (now (answer .entry)) ⌝ }

@@ -56,8 +56,8 @@ fn compare_layer(
     first_other(recorded, own, all)
 }
 
-// Compares a record with the walk, a stage or half at a time, up to the first lookup that differs, where the lengths are
-// right.
+// Compares a record with the walk, a stage or half at a time, up to the first lookup that differs, where the lengths
+// are right.
 fn compare_all(rounds: usize, cipher: u64, set: &[u8], block: &[u8], recorded: &[u8]) -> Verdict
     requires { ⌜ RecordAsked rounds (now set) (now block) (now recorded) ⌝ }
     ensures { λ r. ⌜ r

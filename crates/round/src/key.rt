@@ -104,7 +104,8 @@ fn lay(key: &[u8], w: &mut [u8])
     }
 }
 
-// The round keys of a key of so many words, one after the other: 4 (Nr + 1) words, where Nr is six more than the words of the key.
+// The round keys of a key of so many words, one after the other: 4 (Nr + 1) words, where Nr is six more than the words
+// of the key.
 pub fn expand(words: usize, key: &[u8], w: &mut [u8])
     requires { ⌜ (length (now key) ≡ 4 * words) × (length (now w) ≡ 16 * (roundsOf words + 1)) × Rounds (roundsOf words) ⌝ }
     ensures { λ _. ⌜ now (w .exit) ≡ KeyExpansion words (now (key .entry)) ⌝ }

@@ -19,7 +19,8 @@ const BLOCK_WORD: usize = 16;
 
 const ROUND_WORD: usize = 4;
 
-// Byte b at place k of a word, encoded nibble by nibble: the images of its two nibbles, joined. `images` has 16 images for each nibble of a word.
+// Byte b at place k of a word, encoded nibble by nibble: the images of its two nibbles, joined. `images` has 16 images
+// for each nibble of a word.
 fn encoded_byte(images: &[u8], k: usize, b: u8) -> u8
     requires { ⌜ (k < 16) × Nibbles (32 * k + 32) (now images) ⌝ }
     ensures { λ r. ⌜ r ≡ encodedByte (at (now (images .entry))) k b ⌝ }
@@ -29,7 +30,8 @@ fn encoded_byte(images: &[u8], k: usize, b: u8) -> u8
     high * 16 + low
 }
 
-// The word's writer: the word v, encoded, straight into the m bytes of word x of the part, and every other byte of the part as it was.
+// The word's writer: the word v, encoded, straight into the m bytes of word x of the part, and every other byte of the
+// part as it was.
 fn write_word(v: Vector, images: &[u8], m: usize, x: usize, dst: &mut [u8])
     requires { ⌜ ForWord m x (now images) (now dst) ⌝ }
     ensures word { λ _. ⌜ now (dst .exit) ≡ withWord m x (encodedWord (at (now (images .entry))) m (value v)) (now (dst .entry)) ⌝ }
@@ -56,8 +58,8 @@ fn write_words(values: &[u8], words: &[u64], images: &[u8], m: usize, dst: &mut 
     }
 }
 
-// The 256 words of m bytes, each in its place: `values` has the byte whose word stands at x. Each width is named, so that the compiler unrolls the
-// loop over a word's bytes.
+// The 256 words of m bytes, each in its place: `values` has the byte whose word stands at x. Each width is named, so
+// that the compiler unrolls the loop over a word's bytes.
 pub fn write(values: &[u8], basis: &[u64], images: &[u8], m: usize, dst: &mut [u8])
     requires { ⌜ ForTable m (now values) (now basis) (now images) (now dst) ⌝ }
     ensures { λ _. ⌜ now (dst .exit) ≡ concat 256 (λ x.

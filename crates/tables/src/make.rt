@@ -1,4 +1,5 @@
-// The maker's calls on slices of any length, for a cipher: "0 forward, any other number inverse" (document 02, Ticket 1).
+// The maker's calls on slices of any length, for a cipher: "0 forward, any other number inverse" (document 02, Ticket
+// 1).
 ghost use mathlib.Core.Path.{_≡_};
 ghost use lib.ListN.{length};
 ghost use Rattle.rounds.specs.Rounds.{Rounds};

@@ -1,5 +1,5 @@
-// Results that are more than an answer, told to C: the answer's number is returned, and what else there is to say is put
-// behind a pointer, which a refused call leaves as it was.
+// Results that are more than an answer, told to C: the answer's number is returned, and what else there is to say is
+// put behind a pointer, which a refused call leaves as it was.
 ghost use mathlib.Core.Path.{_≡_};
 ghost use lib.ListN.{length};
 ghost use Rattle.answers.specs.Numbers.{numberOf};

@@ -20,8 +20,8 @@ fn image_of_sum(result: &[u8], a: u8, b: u8) -> u8
     result[encoding::widened(a ^ b)]
 }
 
-// The entries for one nibble `a` of the sum so far, decoded: `added` undoes the encoding of the nibble that is added, and `result` has
-// the images of the sum. "Entry e stands in byte e/2, even e in the high half."
+// The entries for one nibble `a` of the sum so far, decoded: `added` undoes the encoding of the nibble that is added,
+// and `result` has the images of the sum. "Entry e stands in byte e/2, even e in the high half."
 fn write_row(a: u8, added: &[u8], result: &[u8], dst: &mut [u8])
     requires { ⌜ (a < 16) × ForSums (now added) (now result) × (length (now dst) ≡ 8) ⌝ }
     ensures { λ _. ⌜ now (dst .exit) ≡ packed 8 (λ j. at (now (result .entry)) (bitXor a (at (now (added .entry)) j))) ⌝ }

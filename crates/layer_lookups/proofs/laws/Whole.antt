@@ -2,8 +2,8 @@
 -- Assumes nothing.
 use mathlib.Core.List.{List}
 use mathlib.Core.Logic.{⊎-elim, _⊎_}
-use mathlib.Core.Path.{_≡_, refl, sym, ap, ap₂, _∙_, subst}
-use Prim.Native.Nat.{ℕ, _+_, _-_, _*_, _/_, _≤_, _<_, min}
+use mathlib.Core.Path.{_≡_, refl, sym, ap, ap₂, _∙_}
+use Prim.Native.Nat.{ℕ, _+_, _-_, _*_, _≤_, _<_, min}
 use native.Mathlib.Numerals.{add-one}
 use native.Mathlib.Omega.{arith}
 use lib.ListN.{length}
@@ -72,21 +72,6 @@ module _ {m : ℕ} {set : List ℕ} {from g : ℕ} {a₀ : List ℕ} {e : ℕ} {
 
   pub words-all : m ≤ t → XorsMade m set from (g * groupXors m) (groupXors m) a₀ e a
   words-all h = turns-all (I .turns) (omega arith) refl
-
--- All groups of a layer have all of its XOR lookups.
-pub all-groups : {m : ℕ} → (m ≡ 4) ⊎ (m ≡ 16) → xors m ≡ 16 / m * groupXors m
-all-groups k =
-    ⊎-elim (λ e. subst (λ (m : ℕ). xors m ≡ 16 / m * groupXors m) (sym e) xors-4) (λ e. subst (λ (m : ℕ). xors m ≡ 16 / m * groupXors m) (sym e) xors-16) k
-
--- A layer has few groups, and a width.
-pub few-groups : {m : ℕ} → (m ≡ 4) ⊎ (m ≡ 16) → (0 < m) × (16 / m ≤ 4)
-few-groups k =
-    ⊎-elim (λ e. subst (λ (m : ℕ). (0 < m) × (16 / m ≤ 4)) (sym e) (omega arith)) (λ e. subst (λ (m : ℕ). (0 < m) × (16 / m ≤ 4)) (sym e) (omega arith)) k
-
--- A group has some lookups.
-pub some-xors : {m : ℕ} → (m ≡ 4) ⊎ (m ≡ 16) → 0 < groupXors m
-some-xors k =
-    ⊎-elim (λ e. subst (λ (m : ℕ). 0 < groupXors m) (sym e) (omega arith)) (λ e. subst (λ (m : ℕ). 0 < groupXors m) (sym e) (omega arith)) k
 
 -- ---- all lookups of a stage or half: 16 spread lookups, and the XOR lookups
 pub record Count (m all : ℕ) : Type 0 where

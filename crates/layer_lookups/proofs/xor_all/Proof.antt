@@ -5,8 +5,8 @@ use mathlib.Core.Path.{sym}
 use Prim.Native.Nat.{_-_}
 use native.Mathlib.Nat.{add-zero}
 use Rattle.lookups.specs.Layer.{groupXors}
+use Rattle.lookups.proofs.laws.Words.{some-width, few-groups, some-xors, all-groups}
 use Rattle.layer_lookups.proofs.laws.Turns.{Turns, turns-none, turns-more, turns-all}
-use Rattle.layer_lookups.proofs.laws.Whole.{all-groups, few-groups, some-xors}
 use native.Mathlib.Omega.{arith}
 use Rattle.layer_lookups.proofs.xor_all.Statement.{statement}
 use Rattle.layer_lookups.proofs.xor_all.Tie as tie
@@ -44,7 +44,7 @@ returns c =
 div-groups : tie.Need-div-groups Inv-loop μ-loop
 div-groups c =
     let entry : tie.Start Inv-loop μ-loop = search in
-    omega (arith, few-groups (entry .pre .2))
+    omega (arith, some-width (entry .pre .2))
 
 add-g : tie.Need-add-g Inv-loop μ-loop
 add-g c =

@@ -1,8 +1,8 @@
 -- Laws, not definitions: the loops over the XOR lookups of a stage or half, with what is recorded of each.
 -- Assumes nothing.
 use mathlib.Core.List.{List, _++_}
-use mathlib.Core.Logic.{⊎-elim, _⊎_}
-use mathlib.Core.Path.{_≡_, refl, sym, ap, ap₂, _∙_, subst}
+use mathlib.Core.Logic.{_⊎_}
+use mathlib.Core.Path.{_≡_, refl, sym, ap, ap₂, _∙_}
 use Prim.Native.Nat.{ℕ, _+_, _-_, _*_, _/_, _≤_, _<_}
 use native.Mathlib.Nat.{zero-mul}
 use native.Mathlib.Omega.{arith}
@@ -13,12 +13,11 @@ use Rattle.bits.specs.Lists.{concat}
 use Rattle.bits.proofs.laws.Lists.{concat-same, cut, length-cut, take-put, concat-split}
 use Rattle.bits.proofs.laws.Multiples.{row-inside}
 use Rattle.network.specs.Lookups.{xorIndex, xorArea}
-use Rattle.network.specs.Order.{xors}
 use Rattle.network.specs.Read.{nibblePlace}
 use Rattle.network.specs.Sizes.{offsetOf, layerBytes}
 use Rattle.lookups.specs.Layer.{WordIn, WordAt, tableFrom, xorsIn, wordXors, wordFirst, groupXors}
 use Rattle.lookups.specs.declared.layer.Word.{Word}
-use Rattle.lookups.proofs.laws.Words.{pair-first, pair-second, pair-area, high-table, low-table, length-xors, xors-split}
+use Rattle.lookups.proofs.laws.Words.{by-width, pair-first, pair-second, pair-area, high-table, low-table, length-xors, xors-split}
 use Rattle.layer_record.specs.Entries.{entrySize, written, entryRead}
 use Rattle.layer_record.specs.Layer.{xorEntry}
 use Rattle.layer_record.specs.Parts.{tableAt, ByteRecorded, XorsRecorded}
@@ -75,29 +74,15 @@ abbrev pub pairSize : ℕ
 pairSize = 2 * entrySize
 
 module _ {m : ℕ} (k : (m ≡ 4) ⊎ (m ≡ 16)) where
-  by-width : (P : ℕ → Type 0) → P 4 → P 16 → P m
-  by-width P p q = ⊎-elim (λ e. subst P (sym e) p) (λ e. subst P (sym e) q) k
-
-  pub some-width : (0 < m) × (m ≤ 16)
-  some-width = by-width (λ m. (0 < m) × (m ≤ 16)) (omega arith) (omega arith)
-
-  pub few-groups : 16 / m ≤ 4
-  few-groups = by-width (λ m. 16 / m ≤ 4) (omega arith) (omega arith)
-
   pub group-most : groupXors m ≤ 480
-  group-most = by-width (λ m. groupXors m ≤ 480) (omega arith) (omega arith)
+  group-most = by-width k (λ m. groupXors m ≤ 480) (omega arith) (omega arith)
 
   pub groups-most : 16 / m * groupXors m ≤ 480
-  groups-most = by-width (λ m. 16 / m * groupXors m ≤ 480) (omega arith) (omega arith)
-
-  -- All groups have all XOR lookups.
-  pub all-groups : xors m ≡ 16 / m * groupXors m
-  unfolding xors
-  all-groups = by-width (λ m. xors m ≡ 16 / m * groupXors m) refl refl
+  groups-most = by-width k (λ m. 16 / m * groupXors m ≤ 480) (omega arith) (omega arith)
 
   -- The bytes of the entries of a group, as the code works them out.
   pub group-size : pairSize * m * (m - 1) ≡ groupXors m * entrySize
-  group-size = by-width (λ m. pairSize * m * (m - 1) ≡ groupXors m * entrySize) refl refl
+  group-size = by-width k (λ m. pairSize * m * (m - 1) ≡ groupXors m * entrySize) refl refl
 
 -- ---- the loops over XOR lookups, those of a word, of a group and of all groups: of n turns of w lookups each, i are made, from lookup x on. The area a₀ has become
 -- a, and the first entries of the memory d are theirs

@@ -2,7 +2,8 @@
 -- recorded. A turn adds word t (`words-more`); behind the last word all lookups of the group are made (`words-all`).
 -- Assumes nothing.
 use Prim.Native.Nat.{_-_}
-use Rattle.layer_record.proofs.laws.Turns.{Words, words-none, words-more, words-all, word-lent, word-inside, word-most, some-width}
+use Rattle.lookups.proofs.laws.Words.{some-width}
+use Rattle.layer_record.proofs.laws.Turns.{Words, words-none, words-more, words-all, word-lent, word-inside, word-most}
 use native.Mathlib.Omega.{arith}
 use Rattle.layer_record.proofs.record_group.Statement.{statement}
 use Rattle.layer_record.proofs.record_group.Tie as tie

@@ -6,8 +6,9 @@ use Prim.Native.Nat.{ℕ, _-_, _*_}
 use native.Mathlib.Nat.{add-zero}
 use Rattle.lookups.specs.Layer.{groupXors}
 use Rattle.layer_record.specs.Entries.{entrySize}
+use Rattle.lookups.proofs.laws.Words.{some-width, few-groups, all-groups}
 use Rattle.layer_record.proofs.laws.Turns.{Turns, turns-none, turns-more, turns-all, part-inside, part-long, part-most}
-use Rattle.layer_record.proofs.laws.Turns.{some-width, few-groups, group-most, groups-most, all-groups, group-size}
+use Rattle.layer_record.proofs.laws.Turns.{group-most, groups-most, group-size}
 use native.Mathlib.Omega.{arith}
 use Rattle.layer_record.proofs.record_xors.Statement.{statement}
 use Rattle.layer_record.proofs.record_xors.Tie as tie

@@ -18,7 +18,7 @@ use Rattle.network.specs.Order.{xors, sumPlace, addedPlace}
 use Rattle.network.specs.Sizes.{layerBytes}
 use Rattle.network.proofs.laws.Order.{at-div, at-mod}
 use Rattle.lookups.specs.InPlace.{SpreadIn, SpreadRead, xorByte}
-use Rattle.lookups.specs.Layer.{WordIn, WordAt, SpreadMade, tableFrom, xorsIn, sumsIn, wordFirst}
+use Rattle.lookups.specs.Layer.{WordIn, WordAt, SpreadMade, tableFrom, xorsIn, sumsIn, wordFirst, groupXors}
 use Rattle.lookups.specs.declared.layer.Word.{Word}
 use Rattle.lookups.proofs.laws.Area.{both-entry, xor-both}
 use Rattle.lookups.proofs.laws.Layers.{xor-at, length-xor, length-sums}
@@ -140,9 +140,28 @@ half-shifted x q h = go (q % 2) (omega arith)
     go (suc zero) k = let e : x / 1 % 16 ≡ x % 16 = omega arith in e
     go (suc (suc r)) k = absurd (omega arith)
 
--- ---- a width that is not 16
-pub is-four : {m : ℕ} → (m ≡ 4) ⊎ (m ≡ 16) → (m ≡ 16 → ⊥) → m ≡ 4
-is-four k n = ⊎-elim (λ e. e) (λ e. absurd (n e)) k
+-- ---- the two widths
+module _ {m : ℕ} (k : (m ≡ 4) ⊎ (m ≡ 16)) where
+  -- What holds at both.
+  pub by-width : (P : ℕ → Type 0) → P 4 → P 16 → P m
+  by-width P p q = ⊎-elim (λ e. subst P (sym e) p) (λ e. subst P (sym e) q) k
+
+  pub is-four : (m ≡ 16 → ⊥) → m ≡ 4
+  is-four n = ⊎-elim (λ e. e) (λ e. absurd (n e)) k
+
+  pub some-width : (0 < m) × (m ≤ 16)
+  some-width = by-width (λ m. (0 < m) × (m ≤ 16)) (omega arith) (omega arith)
+
+  -- A layer has few groups, a group has some XOR lookups, and all groups have all of them.
+  pub few-groups : 16 / m ≤ 4
+  few-groups = by-width (λ m. 16 / m ≤ 4) (omega arith) (omega arith)
+
+  pub some-xors : 0 < groupXors m
+  some-xors = by-width (λ m. 0 < groupXors m) (omega arith) (omega arith)
+
+  pub all-groups : xors m ≡ 16 / m * groupXors m
+  unfolding xors
+  all-groups = by-width (λ m. xors m ≡ 16 / m * groupXors m) refl refl
 
 -- ---- the two XOR lookups of byte i of word t of group g, of which x is the first
 module _ {m g t : ℕ} {r : Word} (w : WordIn m g t) (W : WordAt m g t r) (i : ℕ) (h : i < m) where
