@@ -1,4 +1,7 @@
 // AES with a key of 128 bits, FIPS 197: the calls on slices of any length.
+
+#![tactic(auto)]
+
 pub mod turns;
 
 ghost use Rattle.std.specs.Prelude.{◌≡◌};

@@ -1,6 +1,9 @@
 // The crate aes on vectors: for each key and block of standard input it writes the key expansion, the enciphered block
 // and the deciphered block. First come keys of 24 and of 32 bytes in turn, and then keys of 16, until the input ends;
 // then what both calls answer to keys and blocks of wrong lengths, and what they leave.
+
+#![tactic(auto)]
+
 ghost use Rattle.std.specs.Prelude.{◌≡◌, ◌+◌, ◌*◌, ◌≤◌, length};
 ghost use Rattle.rounds.specs.Rounds.{Rounds};
 ghost use Rattle.round.specs.Key.{rounds_of};

@@ -1,5 +1,5 @@
 // What a search finds: the first number that it looks for, or nothing.
-#[derive(Drop)]
+#[derive(Clone, Copy)]
 pub enum Found {
     At(u32),
     Nothing,

@@ -1,12 +1,15 @@
 // The answer of a call that only accepts or refuses, and the refusals of every call: a cause of document 01's table "Turned down" or of document 02. In code the numbers of each cause stand
 // here alone.
+
+#![tactic(auto)]
+
 pub mod found;
 
 ghost use Rattle.std.specs.Prelude.{◌≡◌};
 ghost use Rattle.answers.specs.Numbers.{cause_of, second_of, cause_in, second_in, joined, number_of};
 
 // Why a call is refused, in the order of the documents' numbers: `cause_of` and `second_of` of specs/ give the two numbers of each.
-#[derive(Drop)]
+#[derive(Clone, Copy)]
 pub enum Refusal {
     KeyLength,
     BundleLength,
@@ -25,7 +28,7 @@ pub enum Refusal {
     CataloguePosition,
 }
 
-#[derive(Drop)]
+#[derive(Clone, Copy)]
 pub enum Answer {
     Accepted,
     Refused(Refusal),

@@ -7,7 +7,7 @@ ghost use Rattle.bits.specs.Vectors.{dot};
 ghost use Rattle.bits.specs.Words.{value};
 
 // A vector as the number hi * 2^64 + lo; `value` of specs/ gives it.
-#[derive(Drop)]
+#[derive(Clone, Copy)]
 pub struct Vector {
     pub hi: u64,
     pub lo: u64,

@@ -1,4 +1,7 @@
 // The test of the aligned 4 by 4 blocks of a bit matrix (document 02, Ticket 5). The definitions are those of specs/.
+
+#![tactic(auto)]
+
 ghost use Rattle.std.specs.Prelude.{◌≡◌, ◌*◌, ◌<◌, ◌≤◌};
 ghost use Rattle.matrices.specs.Matrices.{matrix_of};
 ghost use Rattle.catalogue.specs.Catalogue.{side, number_of_rows};

@@ -1,5 +1,8 @@
 // Reads orders from standard input, and writes what the bundle's calls answer. An order is 8 bytes: its kind, a small number k, and two
 // numbers a and n of three bytes. The expected output is made by a program of other authorship (tests/bundle_cases.py).
+
+#![tactic(auto)]
+
 use answers::{Answer, cause, second};
 use bits::encoding;
 use bundle::parts;

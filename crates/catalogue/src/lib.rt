@@ -1,6 +1,9 @@
 // The catalogue of small matrices: the 4 by 4 bit matrices that have an inverse, in rising order of the number that
 // their rows make (document 02, Ticket 4). The one at a position is found row by row: no scan over all numbers. And the
 // test of one matrix, by its number.
+
+#![tactic(auto)]
+
 ghost use Rattle.std.specs.Prelude.{◌≡◌, ◌<◌};
 ghost use Rattle.bits.specs.Counts.{sum_below};
 ghost use Rattle.bits.specs.Lists.{at};
@@ -11,7 +14,7 @@ ghost use Rattle.catalogue.specs.Kernels.{vectors, kernel_with, completions, way
 use answers::Refusal;
 
 // What the call at a position answers: the number that the rows of the matrix make, or why it is refused.
-#[derive(Drop)]
+#[derive(Clone, Copy)]
 pub enum Entry {
     Matrix(u16),
     Refused(Refusal),
@@ -81,7 +84,7 @@ fn completions_with(kernel: u16, each: usize, row: usize) -> usize
 }
 
 // A row, the kernel of the rows up to it, and the position among the matrices that begin with these rows.
-#[derive(Drop)]
+#[derive(Clone, Copy)]
 struct Choice {
     row: usize,
     kernel: u16,

@@ -1,4 +1,7 @@
 // The catalogue's program: writes every entry in order, a line each. It reads nothing.
+
+#![tactic(auto)]
+
 ghost use Rattle.std.specs.Prelude.{◌≡◌, length};
 ghost use Rattle.catalogue.specs.Catalogue.{catalogue};
 ghost use Rattle.catalogue_list.specs.Lines.{list_bytes, lines_of};

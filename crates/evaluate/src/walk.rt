@@ -17,7 +17,7 @@ use rounds::TEN;
 // "A held walk is a count, 16 standing bytes and a spread area of 256 bytes, all by value." It keeps the cipher that it
 // was started for, "as 0 or 1 (any other number there acts as 1, which an accepted move hands back)" (document 02,
 // Ticket 1).
-#[derive(Drop)]
+#[derive(Clone, Copy)]
 pub struct Walk {
     pub cipher: u64,
     pub count: usize,
@@ -26,7 +26,7 @@ pub struct Walk {
 }
 
 // What a start hands back.
-#[derive(Drop)]
+#[derive(Clone, Copy)]
 pub struct Opening {
     pub answer: Answer,
     pub walk: Walk,
@@ -34,7 +34,7 @@ pub struct Opening {
 
 // What a move hands back: its answer, the walk, and the byte offset within the set of the entry that its last lookup
 // read, behind all tables if it made none (document 02, Ticket 2).
-#[derive(Drop)]
+#[derive(Clone, Copy)]
 pub struct Move {
     pub answer: Answer,
     pub walk: Walk,

@@ -1,4 +1,7 @@
 // FIPS 197's field of 256 elements (section 4.2) and its two S-boxes.
+
+#![tactic(auto)]
+
 mod inv_sbox;
 mod sbox;
 

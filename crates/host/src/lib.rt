@@ -1,5 +1,8 @@
 // The calls for a host program in C: numbers and byte slices, each slice a pointer and a length. A call returns 0 where
 // it is accepted, else cause * 2^32 + the number returned with it.
+
+#![tactic(auto)]
+
 pub mod make;
 pub mod tell;
 pub mod walk;

@@ -1,4 +1,7 @@
 // The inverse of a bit matrix of up to 128 rows, by elimination. The definitions are those of specs/.
+
+#![tactic(auto)]
+
 mod elimination;
 pub mod search;
 

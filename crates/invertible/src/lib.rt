@@ -1,6 +1,9 @@
 // Whether a bit matrix of up to 128 rows has an inverse, with none made: the elimination of crate inversion on the
 // matrix alone, and in column k only of the rows behind row k, as no other is looked at again. The definitions are
 // those of crate inversion and of specs/.
+
+#![tactic(auto)]
+
 mod long;
 mod short;
 

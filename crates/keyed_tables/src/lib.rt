@@ -1,3 +1,6 @@
 // The tables of a key and an accepted bundle: all of them, as the set, or one.
+
+#![tactic(auto)]
+
 pub mod single;
 pub mod whole;

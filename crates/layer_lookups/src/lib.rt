@@ -1,5 +1,8 @@
 // All lookups of a stage or half over a set, in place: what a walk makes at once where it may. The definitions are
 // those of specs/ and of crate lookups.
+
+#![tactic(auto)]
+
 ghost use Rattle.std.specs.Prelude.{◌⊎◌, ◌≡◌, ◌+◌, ◌*◌, ◌/◌, ◌≤◌, ◌<◌, length};
 ghost use Rattle.network.specs.Order.{xors};
 ghost use Rattle.network.specs.Sizes.{layer_bytes};

@@ -1,5 +1,8 @@
 // The lookups of a stage or half over a set, made in place, with what is recorded of each written into lent memory as
 // it is made: document 02, Ticket 3. The definitions are those of specs/ and of crate lookups.
+
+#![tactic(auto)]
+
 ghost use Rattle.std.specs.Prelude.{◌∷◌, ◌++◌, [], ◌≡◌, ◌+◌, ◌*◌, ◌/◌, ◌%◌, ◌<◌, ◌≤◌, length};
 ghost use Rattle.bits.specs.Bytes.{bytes_of};
 ghost use Rattle.bits.specs.Nibbles.{half, pack};

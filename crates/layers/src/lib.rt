@@ -1,2 +1,5 @@
 // The words of the spread tables of the cipher's layers, from the bundle.
+
+#![tactic(auto)]
+
 pub mod words;

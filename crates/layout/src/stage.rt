@@ -10,7 +10,7 @@ ghost use Rattle.layout.specs.Ciphers.{reads_of};
 use crate::cipher::reads_of;
 
 // The entry, the first and the second half of a round, the exit; or beyond the last lookup.
-#[derive(Drop)]
+#[derive(Clone, Copy)]
 pub enum Stage {
     Entry,
     First(usize),
@@ -96,7 +96,7 @@ pub fn exit_start(rounds: usize) -> usize
 }
 
 // A lookup's stage or half, its number there, and the size and the offset of its table.
-#[derive(Drop)]
+#[derive(Clone, Copy)]
 pub struct Place {
     pub stage: Stage,
     pub index: usize,

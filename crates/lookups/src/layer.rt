@@ -25,7 +25,7 @@ pub const PAIR_BYTES: usize = 2 * XOR_BYTES;
 
 // Where the bytes of a word of a group stand that are added to the group's sum: the first byte of the sum and of the
 // word in the area, and the first byte of their tables behind where those of the stage or half begin.
-#[derive(Drop)]
+#[derive(Clone, Copy)]
 pub struct Word {
     pub sum: usize,
     pub added: usize,

@@ -1,4 +1,7 @@
 // The maker: reads a key and then a bundle to the end of the input, and writes the tables of their set in order, or the refusal.
+
+#![tactic(auto)]
+
 ghost use Rattle.std.specs.Prelude.{◌≡◌, length};
 ghost use Rattle.layout.specs.Stages.{ten_set_bytes};
 ghost use Rattle.streams.specs.Written.{Written};

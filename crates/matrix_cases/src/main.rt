@@ -1,5 +1,8 @@
 // Reads records to the end of the input: a byte w of 1, 4 or 16, a matrix of 8 w rows of w bytes, a vector of w bytes. Writes for each
 // the product in hex, and the inverse's bytes in hex or `singular`. The expected output was made by a program of other authorship.
+
+#![tactic(auto)]
+
 ghost use Rattle.std.specs.Prelude.{◌≡◌, ◌*◌, ◌≤◌, length};
 
 use bits::vector;

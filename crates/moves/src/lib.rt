@@ -1,4 +1,7 @@
 // The lookups of a move to a stop over a whole set, in place: all those of a stage or half at once where that can be.
+
+#![tactic(auto)]
+
 ghost use Rattle.std.specs.Prelude.{◌<◌};
 ghost use Rattle.layout.specs.Ciphers.{reads_of};
 ghost use Rattle.moves.specs.Advanced.{MoveAsked, Advanced, PartMade};
@@ -9,7 +12,7 @@ use lookups::layer::lookups_of;
 use passes::look_up_at;
 
 // What a part of a move reached: a count, and the offset of the last lookup up to it.
-#[derive(Drop)]
+#[derive(Clone, Copy)]
 struct Reached {
     count: usize,
     offset: usize,

@@ -1,5 +1,8 @@
 // The inverse of a bit matrix of up to 32 rows, by elimination with a row of the matrix and the row of its future inverse side by side in one word: what
 // crate inversion makes of such a matrix, in a quarter of the words. The definitions are those of crate inversion.
+
+#![tactic(auto)]
+
 mod elimination;
 mod halves;
 

@@ -24,7 +24,7 @@ const BYTE_BITS: usize = 8;
 const NIBBLE_BITS: usize = 4;
 
 // The smallest bit at or after a given one that the walk reads, or that none is left; or why the call is refused.
-#[derive(Drop)]
+#[derive(Clone, Copy)]
 pub enum NextBit {
     Bit(usize),
     NoneLeft,

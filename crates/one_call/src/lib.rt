@@ -1,4 +1,7 @@
 // The walk as one call, from a block to its answer: start, one move over a whole set to the last count, fetch.
+
+#![tactic(auto)]
+
 ghost use Rattle.std.specs.Prelude.{◌≡◌, length};
 ghost use Rattle.rounds.specs.Rounds.{Rounds};
 ghost use Rattle.one_call.specs.Walks.{walk_answer_for, walk_answer, walk_leaves};

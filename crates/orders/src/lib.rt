@@ -1,4 +1,7 @@
 // A list of calls as numbers: orders, served one after the other from a held walk over one lent memory.
+
+#![tactic(auto)]
+
 ghost use Rattle.std.specs.Prelude.{◌≡◌};
 ghost use Rattle.calls.specs.Calls.{table_part};
 ghost use Rattle.orders.specs.Orders.{OneServed, AllServed};

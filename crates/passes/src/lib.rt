@@ -1,5 +1,8 @@
 // One lookup over a whole set, by its place or by its number, for calls that walk over one; and the lengths that calls
 // ask for which look at each lookup.
+
+#![tactic(auto)]
+
 ghost use Rattle.std.specs.Prelude.{◌≡◌, length};
 ghost use Rattle.layout.specs.Ciphers.{reads_of};
 ghost use Rattle.rounds.specs.Rounds.{Rounds};
@@ -13,7 +16,7 @@ use lookups::layer;
 
 // What is told of a lookup: the place of the set that it read, as an `EntryPlace` has it, its number in its stage or
 // half, and the bytes of a word there.
-#[derive(Drop)]
+#[derive(Clone, Copy)]
 pub struct Lookup {
     pub offset: usize,
     pub index: usize,

@@ -22,7 +22,7 @@ const STAGE_BYTES: usize = ENTRY_LOOKUPS * ENTRY_BYTES;
 
 // What a replay says of a record: that it is the walk's own, or the first lookup of which it has other bytes; or why
 // the call is refused.
-#[derive(Drop)]
+#[derive(Clone, Copy)]
 pub enum Verdict {
     Own,
     Differs(usize),

@@ -1,4 +1,7 @@
 // The numbers of rounds that there are: FIPS 197's 10, 12 and 14. The definitions are those of specs/.
+
+#![tactic(auto)]
+
 ghost use Rattle.std.specs.Prelude.{◌≡◌};
 ghost use Rattle.rounds.specs.Rounds.{known};
 

@@ -1,5 +1,8 @@
 // Spread tables, word by word, each word straight into its bytes of the lent part. The word of a byte is the xor of
 // eight words, at the bits that the byte has, which `matrices::nibbles` adds up by the byte's two nibbles.
+
+#![tactic(auto)]
+
 ghost use Rattle.std.specs.Prelude.{◌≡◌, ◌+◌, ◌*◌, ◌<◌};
 ghost use Rattle.bits.specs.Lists.{at, concat};
 ghost use Rattle.bits.specs.Words.{value};

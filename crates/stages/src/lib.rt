@@ -1,2 +1,5 @@
 // One table of a stage or half, spread or XOR, from the key and the bundle.
+
+#![tactic(auto)]
+
 pub mod table;

@@ -1,5 +1,8 @@
 // Results that are more than an answer, told to C: the answer's number is returned, and what else there is to say is
 // put behind a pointer, which a refused call leaves as it was.
+
+#![tactic(auto)]
+
 ghost use Rattle.std.specs.Prelude.{◌≡◌, length};
 ghost use Rattle.answers.specs.Numbers.{number_of};
 ghost use Rattle.calls.specs.Calls.{judge_whole};

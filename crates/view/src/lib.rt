@@ -1,6 +1,9 @@
 // A view of a bundle: the lent bytes with the five sections' starts, found once, and the parts that it serves by number. The borrow
 // checker covers no function over a struct that holds a reference, so the three functions here are thin and proved by hand; the work is
 // in the other files.
+
+#![tactic(auto)]
+
 ghost use Rattle.std.specs.Prelude.{◌≡◌};
 ghost use Rattle.view.specs.Views.{view_of_of, served_by, part_in};
 
@@ -12,7 +15,7 @@ use crate::part::Part;
 use crate::starts::Starts;
 
 // The lent bytes, and where the sections start: encodings, byte matrices, column matrices, input matrix and output matrix.
-#[derive(Drop)]
+#[derive(Clone, Copy)]
 pub struct View<'a> {
     pub bundle: &'a [u8],
     pub encodings: usize,

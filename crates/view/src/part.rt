@@ -9,7 +9,7 @@ use bundle::layout;
 use rounds::TEN;
 
 // What a part of a bundle holds: an encoding or a matrix, by its number.
-#[derive(Drop)]
+#[derive(Clone, Copy)]
 pub enum Part {
     Encoding(usize),
     ByteMatrix(usize),

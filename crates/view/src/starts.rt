@@ -7,7 +7,7 @@ use bits::slices;
 use bundle::frame;
 use rounds::TEN;
 
-#[derive(Drop)]
+#[derive(Clone, Copy)]
 pub struct Starts {
     pub encodings: usize,
     pub bytes: usize,

@@ -3,6 +3,9 @@
 // kinds: 0 a start and 1 a given walk, behind which stand 8 bytes of a cipher's number and the content; 2 and 3 a move
 // to a stop, near or far; 4 a move of one lookup; 5 a fetch; 6 moves to every stop; 7 a lookup alone; 8 a memory, behind
 // which stand its n bytes. The expected output is made by a program of other authorship (tests/walk_cases.py).
+
+#![tactic(auto)]
+
 ghost use Rattle.std.specs.Prelude.{◌<◌};
 
 use answers::{Answer, cause};

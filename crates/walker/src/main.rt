@@ -1,4 +1,7 @@
 // The walker: reads a block and then a set to the end of the input, and holds one table of it. It prints the answer in hex, or the refusal.
+
+#![tactic(auto)]
+
 ghost use Rattle.std.specs.Prelude.{◌≡◌, ◌≤◌, length};
 ghost use Rattle.evaluate.specs.Promises.{Opens};
 ghost use Rattle.evaluate.specs.Held.{held};
@@ -38,7 +41,7 @@ fn over_next(walk: Walk, table: &mut [u8]) -> Move
 }
 
 // A walk over the input: the answer of the last move, and the walk that it reached.
-#[derive(Drop)]
+#[derive(Clone, Copy)]
 struct Walked {
     answer: Answer,
     walk: Walk,

@@ -1,4 +1,7 @@
 // XOR tables: "index 16a+b, a the sum so far and b the next word's half-byte, both encoded".
+
+#![tactic(auto)]
+
 ghost use Rattle.std.specs.Prelude.{◌≡◌, ◌/◌, ◌%◌, ◌≤◌, ◌<◌, length};
 ghost use Rattle.std.specs.Int.Bits.{bit_xor};
 ghost use Rattle.bits.specs.Encodings.{encode, decode};

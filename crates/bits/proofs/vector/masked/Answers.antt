@@ -4,14 +4,10 @@
 use native.Mathlib.Omega.{arith}
 use Rattle.bits.proofs.laws.Words.{masked_is, scaled}
 use lib.Dec.{lit<}
-use Rattle.bits.proofs.vector.masked.Statement.{statement}
-use Rattle.bits.proofs.vector.masked.Tie as tie
+use Rattle.bits.proofs.vector.masked.Goals as goal
 
-mul-result : tie.Need-overflow-mul-result
-mul-result c = record { fits = scaled _ 18446744073709551615 (lit< tt) }
+pub overflow_mul-result : goal.overflow_mul-result
+overflow_mul-result c = record { fits = scaled _ 18446744073709551615 (lit< tt) }
 
-returns : tie.Need-returns
+pub returns : goal.returns
 returns c = masked_is _ _ (omega arith)
-
-pub masked_spec : {M : Type 1} → statement M
-masked_spec = tie.close (tie.spec mul-result returns)

@@ -3,18 +3,13 @@
 -- Assumes nothing.
 use native.Mathlib.Omega.{arith}
 use Rattle.bits.proofs.laws.Words.{dot_wide, ones_both}
-use Rattle.bits.proofs.vector.parity.Statement.{statement}
-use Rattle.bits.proofs.vector.parity.Tie as tie
+use Rattle.bits.proofs.vector.parity.Goals as goal
 
-cast-result : tie.Need-overflow-cast-result
-cast-result c =
-    let entry : tie.Start = search in
-    let a = entry.args.a in
-    let b = entry.args.b in
+pub overflow_cast-result : goal.overflow_cast-result
+overflow_cast-result c =
+    let a = c.args.a in
+    let b = c.args.b in
     omega (arith, ones_both a.hi a.lo b.hi b.lo (omega arith) (omega arith) (omega arith) (omega arith))
 
-returns : tie.Need-returns
+pub returns : goal.returns
 returns c = dot_wide _ _ _ _ (omega arith) (omega arith)
-
-pub parity_spec : {M : Type 1} → statement M
-parity_spec = tie.close (tie.spec cast-result returns)
