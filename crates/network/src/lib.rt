@@ -2,7 +2,6 @@
 
 #![tactic(auto)]
 
-
 // The place of a table's entry in a set: the byte that it begins in, and its half of that byte, 0 high or 1 low. A spread entry has whole bytes, and 0.
 #[derive(Clone, Copy)]
 pub struct EntryPlace {

@@ -1,0 +1,10 @@
+-- `layout::cipher::inv_shifted` meets its contract. The result is the definition's expression, and a column below 4 times 4 plus a row below 4 is below 16.
+-- Assumes nothing.
+use mathlib.Core.Path.{refl}
+use Rattle.layout.specs.Ciphers.{inv_shifted}
+use native.Mathlib.Omega.{arith}
+use Rattle.layout.proofs.cipher.inv_shifted.Goals as goal
+
+pub returns : goal.returns
+unfolding inv_shifted
+returns c = (refl, omega arith)

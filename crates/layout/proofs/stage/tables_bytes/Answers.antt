@@ -1,0 +1,14 @@
+-- `layout::stage::tables_bytes` meets its contract: the number for each of 10, 12 and 14 rounds is the one that the stages add up to (`table_bytes` of `laws.Rounds`).
+-- Assumes nothing.
+use Rattle.layout.proofs.laws.Rounds.{table_bytes}
+use native.Mathlib.Omega.{arith}
+use Rattle.layout.proofs.stage.tables_bytes.Goals as goal
+
+pub returns-in-10 : goal.returns-in-10
+returns-in-10 c = table_bytes _ (omega arith)
+
+pub returns-in-12 : goal.returns-in-12
+returns-in-12 c = table_bytes _ (omega arith)
+
+pub returns-in_default : goal.returns-in_default
+returns-in_default c = table_bytes _ (omega arith)
