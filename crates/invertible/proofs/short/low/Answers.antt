@@ -2,11 +2,7 @@
 -- Assumes nothing.
 use native.Mathlib.Omega.{arith}
 use Rattle.invertible.proofs.laws.Short.{low_word}
-use Rattle.invertible.proofs.short.low.Statement.{statement}
-use Rattle.invertible.proofs.short.low.Tie as tie
+use Rattle.invertible.proofs.short.low.Goals as goal
 
-returns : tie.Need-returns
+pub returns : goal.returns
 returns c = low_word _ _ (omega arith) c.requires
-
-pub low_spec : {M : Type 1} → statement M
-low_spec = tie.close (tie.spec returns)
