@@ -30,13 +30,15 @@ overflow_sub-table c =
 pub overflow_mul-table-2 : goal.overflow_mul-table-2
 overflow_mul-table-2 c =
     let width : (c.width_of-width.result ≡ 4) ⊎ (c.width_of-width.result ≡ 16) = rw c.width_of-width.ensures.0 c.requires.0.width in
-    let ends : c.args.from + 4096 * c.width_of-width.result + (c.lookups_of-last.result - 1 - 16) * 128 + 128 ≤ length c.args.set.now = last_ends _ _ _ _ width c.lookups_of-last.ensures (rw c.width_of-width.ensures.0 c.requires.0.room) in
+    let ends : c.args.from + 4096 * c.width_of-width.result + (c.lookups_of-last.result - 1 - 16) * 128 + 128 ≤ length c.args.set.now =
+    last_ends _ _ _ _ width c.lookups_of-last.ensures (rw c.width_of-width.ensures.0 c.requires.0.room) in
     omega (arith, ends)
 
 pub overflow_add-table-2 : goal.overflow_add-table-2
 overflow_add-table-2 c =
     let width : (c.width_of-width.result ≡ 4) ⊎ (c.width_of-width.result ≡ 16) = rw c.width_of-width.ensures.0 c.requires.0.width in
-    let ends : c.args.from + 4096 * c.width_of-width.result + (c.lookups_of-last.result - 1 - 16) * 128 + 128 ≤ length c.args.set.now = last_ends _ _ _ _ width c.lookups_of-last.ensures (rw c.width_of-width.ensures.0 c.requires.0.room) in
+    let ends : c.args.from + 4096 * c.width_of-width.result + (c.lookups_of-last.result - 1 - 16) * 128 + 128 ≤ length c.args.set.now =
+    last_ends _ _ _ _ width c.lookups_of-last.ensures (rw c.width_of-width.ensures.0 c.requires.0.room) in
     omega (arith, ends)
 
 pub xor_all-e-requires : goal.xor_all-e-requires
@@ -52,7 +54,8 @@ finish-requires c =
 pub xor_place-requires : goal.xor_place-requires
 xor_place-requires c =
     let width : (c.width_of-width.result ≡ 4) ⊎ (c.width_of-width.result ≡ 16) = rw c.width_of-width.ensures.0 c.requires.0.width in
-    let ends : c.args.from + 4096 * c.width_of-width.result + (c.lookups_of-last.result - 1 - 16) * 128 + 128 ≤ length c.args.set.now = last_ends _ _ _ _ width c.lookups_of-last.ensures (rw c.width_of-width.ensures.0 c.requires.0.room) in
+    let ends : c.args.from + 4096 * c.width_of-width.result + (c.lookups_of-last.result - 1 - 16) * 128 + 128 ≤ length c.args.set.now =
+    last_ends _ _ _ _ width c.lookups_of-last.ensures (rw c.width_of-width.ensures.0 c.requires.0.room) in
     (omega (arith, ends, c.requires.0.short), c.xor_all-e.ensures.below)
 
 pub returns : goal.returns

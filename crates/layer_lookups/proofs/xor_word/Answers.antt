@@ -16,7 +16,8 @@ loop-i-init c =
 
 pub xor_byte-last-requires : goal.xor_byte-last-requires
 xor_byte-last-requires c =
-    let ends : c.args.from + c.word_in-word.result.tables + c.loop-i.i * 256 + 256 ≤ length c.args.set.now = pair_ends c.requires.0 c.word_in-word.ensures c.loop-i.i c.loop-i-test.true c.args.set.now _ _ refl c.requires.1 in
+    let ends : c.args.from + c.word_in-word.result.tables + c.loop-i.i * 256 + 256 ≤ length c.args.set.now =
+    pair_ends c.requires.0 c.word_in-word.ensures c.loop-i.i c.loop-i-test.true c.args.set.now _ _ refl c.requires.1 in
     (omega (arith, c.word_in-word.ensures), omega (arith, c.word_in-word.ensures), pair_asked _ _ ends)
 
 pub loop-i-preserved : goal.loop-i-preserved
@@ -35,32 +36,38 @@ overflow_add-start c =
 
 pub overflow_mul-high : goal.overflow_mul-high
 overflow_mul-high c =
-    let ends : c.args.from + c.word_in-word.result.tables + c.loop-i.i * 256 + 256 ≤ length c.args.set.now = pair_ends c.requires.0 c.word_in-word.ensures c.loop-i.i c.loop-i-test.true c.args.set.now _ _ refl c.requires.1 in
+    let ends : c.args.from + c.word_in-word.result.tables + c.loop-i.i * 256 + 256 ≤ length c.args.set.now =
+    pair_ends c.requires.0 c.word_in-word.ensures c.loop-i.i c.loop-i-test.true c.args.set.now _ _ refl c.requires.1 in
     omega (arith, ends)
 
 pub overflow_add-high : goal.overflow_add-high
 overflow_add-high c =
-    let ends : c.args.from + c.word_in-word.result.tables + c.loop-i.i * 256 + 256 ≤ length c.args.set.now = pair_ends c.requires.0 c.word_in-word.ensures c.loop-i.i c.loop-i-test.true c.args.set.now _ _ refl c.requires.1 in
+    let ends : c.args.from + c.word_in-word.result.tables + c.loop-i.i * 256 + 256 ≤ length c.args.set.now =
+    pair_ends c.requires.0 c.word_in-word.ensures c.loop-i.i c.loop-i-test.true c.args.set.now _ _ refl c.requires.1 in
     omega (arith, ends)
 
 pub overflow_add-low : goal.overflow_add-low
 overflow_add-low c =
-    let ends : c.args.from + c.word_in-word.result.tables + c.loop-i.i * 256 + 256 ≤ length c.args.set.now = pair_ends c.requires.0 c.word_in-word.ensures c.loop-i.i c.loop-i-test.true c.args.set.now _ _ refl c.requires.1 in
+    let ends : c.args.from + c.word_in-word.result.tables + c.loop-i.i * 256 + 256 ≤ length c.args.set.now =
+    pair_ends c.requires.0 c.word_in-word.ensures c.loop-i.i c.loop-i-test.true c.args.set.now _ _ refl c.requires.1 in
     omega (arith, ends)
 
 pub overflow_add-end : goal.overflow_add-end
 overflow_add-end c =
-    let ends : c.args.from + c.word_in-word.result.tables + c.loop-i.i * 256 + 256 ≤ length c.args.set.now = pair_ends c.requires.0 c.word_in-word.ensures c.loop-i.i c.loop-i-test.true c.args.set.now _ _ refl c.requires.1 in
+    let ends : c.args.from + c.word_in-word.result.tables + c.loop-i.i * 256 + 256 ≤ length c.args.set.now =
+    pair_ends c.requires.0 c.word_in-word.ensures c.loop-i.i c.loop-i-test.true c.args.set.now _ _ refl c.requires.1 in
     omega (arith, ends)
 
 pub slice_bounds-xor_byte-end : goal.slice_bounds-xor_byte-end
 slice_bounds-xor_byte-end c =
-    let ends : c.args.from + c.word_in-word.result.tables + c.loop-i.i * 256 + 256 ≤ length c.args.set.now = pair_ends c.requires.0 c.word_in-word.ensures c.loop-i.i c.loop-i-test.true c.args.set.now _ _ refl c.requires.1 in
+    let ends : c.args.from + c.word_in-word.result.tables + c.loop-i.i * 256 + 256 ≤ length c.args.set.now =
+    pair_ends c.requires.0 c.word_in-word.ensures c.loop-i.i c.loop-i-test.true c.args.set.now _ _ refl c.requires.1 in
     omega (arith, ends)
 
 pub slice_bounds-xor_byte-end-in-loop-i : goal.slice_bounds-xor_byte-end-in-loop-i
 slice_bounds-xor_byte-end-in-loop-i c =
-    let ends : c.args.from + c.word_in-word.result.tables + c.loop-i.i * 256 + 256 ≤ length c.args.set.now = pair_ends c.requires.0 c.word_in-word.ensures c.loop-i.i c.loop-i-test.true c.args.set.now _ _ refl c.requires.1 in
+    let ends : c.args.from + c.word_in-word.result.tables + c.loop-i.i * 256 + 256 ≤ length c.args.set.now =
+    pair_ends c.requires.0 c.word_in-word.ensures c.loop-i.i c.loop-i-test.true c.args.set.now _ _ refl c.requires.1 in
     omega (arith, ends)
 
 pub overflow_add-sum : goal.overflow_add-sum
