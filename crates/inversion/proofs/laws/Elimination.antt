@@ -5,7 +5,7 @@ use mathlib.Core.Logic.{◌≢◌, ⊎_elim}
 use mathlib.Core.Path.{◌≡◌, refl, sym, ap, ap₂, ◌∙◌, subst}
 use Prim.Native.Nat.{ℕ, zero, suc, ◌+◌, ◌-◌, ◌*◌, ◌%◌, ◌^◌, ◌≤◌, ◌<◌}
 use native.Mathlib.Decide.{dec_lt, ℕ_discrete}
-use native.Mathlib.Nat.{zero-mul, mul-zero, mul_one, one-mul, eq-zero-or-pos}
+use native.Mathlib.Nat.{zero-mul, mul-zero, mul-one, one-mul, eq-zero-or-pos}
 use native.Mathlib.Omega.{arith}
 use lib.Bits.{bit_xor, xor_lt}
 use lib.Pow.{pow_pos}
@@ -159,7 +159,7 @@ cleared n k f hk e S j i hj hi =
             | no r ↦
                 bit_add_row n (clear_by n k f) k f i k (clear_by_lt n k f i)
                 ∙ ap₂ (λ (x y : ℕ). (b + (1 - x) * b * y) % 2) (delta_other i k r) e
-                ∙ ap (λ (x : ℕ). (b + x) % 2) (mul_one (1 * b) ∙ one-mul b)
+                ∙ ap (λ (x : ℕ). (b + x) % 2) (mul-one (1 * b) ∙ one-mul b)
                 ∙ twice b ∙ sym (delta_other i k r)
           ])
     ]
@@ -249,7 +249,7 @@ module _ (n k : ℕ) (f : ℕ → ℕ) (hk : k < n) where
               ap₂ (λ (x y : ℕ). (x + bit n k (f t) * y) % 2)
               (kern_above t i (omega arith) (omega arith) hi ∙ ap (λ (x : ℕ). bit n k (f x)) q)
               (S t i (omega arith) hi ∙ delta_eq i t q)
-              ∙ ap (λ (x : ℕ). (bit n k (f t) + x) % 2) (mul_one (bit n k (f t)))
+              ∙ ap (λ (x : ℕ). (bit n k (f t) + x) % 2) (mul-one (bit n k (f t)))
               ∙ twice (bit n k (f t))
           | no q ↦
               drop_mul (dot (f i) (kern n k f t)) (bit n k (f t)) (bit n t (f i)) (dot_lt (f i) (kern n k f t)) (S t i (omega arith) hi ∙ delta_other i t q)

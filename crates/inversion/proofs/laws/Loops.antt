@@ -235,12 +235,12 @@ module _ (n : ℕ) (rows a b : List ℕ) (g : ℕ → ℕ) (t : Bool) (l : a ≡
   answer = ap₂ (columns n n 0) (sym l) (sym r) ∙ e
 
   pub inverted : (m m' : List ℕ) → t ≡ true → m' ≡ stored n g m → (true ≡ has_inverse (invert n rows)) × (m' ≡ with_inverse n (invert n rows) m)
-  inverted m m' yes-found taken =
-      let is : inverse (tabulate n g) ≡ invert n rows = sym (answer ∙ ap (λ (z : Bool). ended z (tabulate n g)) yes-found) in
+  inverted m m' found taken =
+      let is : inverse (tabulate n g) ≡ invert n rows = sym (answer ∙ ap (λ (z : Bool). ended z (tabulate n g)) found) in
       let rows_same = stored_same n g (at (tabulate n g)) m (λ i h. sym (at_tabulate n g i h)) in
       (ap has_inverse is, taken ∙ rows_same ∙ ap (λ (z : Inversion). with_inverse n z m) is)
 
   pub not_inverted : (m : List ℕ) → t ≡ false → (false ≡ has_inverse (invert n rows)) × (m ≡ with_inverse n (invert n rows) m)
-  not_inverted m None-found =
-      let is : singular ≡ invert n rows = sym (answer ∙ ap (λ (z : Bool). ended z (tabulate n g)) None-found) in
+  not_inverted m none_found =
+      let is : singular ≡ invert n rows = sym (answer ∙ ap (λ (z : Bool). ended z (tabulate n g)) none_found) in
       (ap has_inverse is, ap (λ (z : Inversion). with_inverse n z m) is)

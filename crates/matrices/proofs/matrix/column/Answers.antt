@@ -2,7 +2,6 @@
 -- rows and 2^s. A turn pushes digit s of row i, which is that parity (`column_bit` of `laws.Rows`), and there is room for it, since there are
 -- at most 128 rows (`joined_bit`); behind the last row c is the product (`multiplied`). The measure is the number of rows left.
 -- Assumes nothing.
-use Prim.Native.Nat.{◌-◌}
 use Rattle.bits.proofs.laws.Joined.{joined_none, joined_bit}
 use Rattle.bits.proofs.laws.Vectors.{dot_lt}
 use Rattle.bits.proofs.laws.Words.{wide_zero}

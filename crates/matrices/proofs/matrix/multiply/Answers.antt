@@ -2,7 +2,6 @@
 -- rows and v. A turn pushes the parity of row i, for which there is room, since there are at most 128 rows (`joined_bit`); behind the last row
 -- p is the product (`multiplied` of `laws.Rows`). The measure is the number of rows left.
 -- Assumes nothing.
-use Prim.Native.Nat.{◌-◌}
 use Rattle.bits.proofs.laws.Joined.{joined_none, joined_bit}
 use Rattle.bits.proofs.laws.Vectors.{dot_lt}
 use Rattle.bits.proofs.laws.Words.{wide_zero}

@@ -3,7 +3,6 @@
 -- (`stored_more`); behind the last row all are (`stored_all`). The bytes of a row lie within those of the matrix (`row_within`), at most 2048
 -- of them, so no index wraps. The measure is the number of rows left.
 -- Assumes nothing.
-use Prim.Native.Nat.{◌-◌}
 use Rattle.matrices.proofs.laws.Rows.{stored_none, stored_more, stored_all}
 use Rattle.matrices.proofs.laws.Stored.{row_within, row_read}
 use native.Mathlib.Omega.{arith}

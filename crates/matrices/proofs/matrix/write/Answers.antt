@@ -3,7 +3,6 @@
 -- part the bytes are those of the matrix (`matrix_written`). A part lies within the bytes, at most 2048 of them, so no index wraps, and is w
 -- bytes long (`part_lent`). The measure is the number of rows left.
 -- Assumes nothing.
-use Prim.Native.Nat.{◌-◌}
 use Rattle.bits.proofs.laws.Parts.{Part, parts_none, part_lent, parts_more}
 use Rattle.matrices.proofs.laws.Stored.{row_written, matrix_written}
 use native.Mathlib.Omega.{arith}
@@ -35,7 +34,7 @@ write-requires c =
 pub loop-i-preserved : goal.loop-i-preserved
 loop-i-preserved c =
     let part : Part c.loop-i.invariant = part_lent c.loop-i.invariant c.loop-i-test.true in
-    parts_more c.loop-i.invariant c.loop-i-test.true c.write.kept.1.0
+    parts_more c.loop-i.invariant c.loop-i-test.true c.write.auto.dst
     (row_written _ _ _ _ _ _ c.row-v.ensures part.long c.write.ensures)
 
 pub returns : goal.returns

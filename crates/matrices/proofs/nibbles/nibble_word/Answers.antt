@@ -3,7 +3,6 @@
 -- (`summed_more`); behind the last w is the word (`summed_all`).
 -- Assumes nothing.
 use mathlib.Core.Path.{refl}
-use Prim.Native.Nat.{◌-◌}
 use Rattle.bits.specs.Words.{wide}
 use Rattle.bits.proofs.laws.Summed.{summed_none, summed_more, summed_all}
 use native.Mathlib.Nat.{mod-eq_of_lt}

@@ -3,7 +3,6 @@
 -- `nibble_combined` of `laws.ByNibbles`.
 -- Assumes nothing.
 use mathlib.Core.Path.{refl}
-use Prim.Native.Nat.{◌-◌}
 use Rattle.matrices.proofs.laws.Rows.{stored_none, stored_more, stored_all}
 use Rattle.matrices.proofs.laws.ByNibbles.{nibble_combined}
 use native.Mathlib.Omega.{arith}
