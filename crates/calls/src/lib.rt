@@ -2,4 +2,3 @@
 // its own; crate evaluate has the calls.
 
 #![tactic(auto)]
-

@@ -56,7 +56,7 @@ sum_number-requires-in-Second c =
 pub returns-else-r-eq1 : goal.returns-else-r-eq1
 returns-else-r-eq1 c =
     let round : Round c.args.rounds c.in-First.r = round_first _ c.in-First.is c.requires.1 in
-    (standing_first _ _ c.in-First.is c.if-r-eq1.false round.Sum-Number.ensures.0, number_below _ (omega (arith, c.Sum-Number.ensures.1, round)))
+    (standing_first _ _ c.in-First.is c.if-r-eq1.false round c.sum_number.ensures.0, number_below _ (omega (arith, c.sum_number.ensures.1, round)))
 
 pub returns-in-Second : goal.returns-in-Second
 returns-in-Second c =
