@@ -1,7 +1,6 @@
 -- `bits::block::store` meets its contract. The invariant, `Filled` of `laws.Filled`: the first i bytes of the slice are those of s. A turn copies one more
 -- (`filled_more`), and behind the last it is s (`copied`), since both have 16 bytes.
 -- Assumes nothing.
-use Prim.Native.Nat.{◌-◌}
 use Rattle.bits.proofs.laws.Filled.{filled_none, filled_more, copied}
 use Rattle.bits.proofs.block.store.Goals as goal
 

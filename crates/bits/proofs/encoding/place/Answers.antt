@@ -2,7 +2,6 @@
 -- image i: where it is y, i is the nibble sought (`passed_here`), else it is passed too (`passed_more`); behind the last image there is none
 -- (`passed_all`). The measure is the number of images left.
 -- Assumes nothing.
-use Prim.Native.Nat.{◌-◌}
 use Rattle.bits.proofs.laws.Images.{passed_none, passed_more, passed_here, passed_all}
 use Rattle.bits.proofs.encoding.place.Goals as goal
 

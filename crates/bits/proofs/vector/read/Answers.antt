@@ -2,7 +2,6 @@
 -- starts with no byte (`joined_none`), a turn pushes byte j at the bottom (`joined_more`), and behind the last byte the number is whole
 -- (`joined_all`). Before a push there are at most 15 bytes, so the vector is below 2^120 (`joined_room`). The measure is the bytes left.
 -- Assumes nothing.
-use Prim.Native.Nat.{◌-◌}
 use native.Mathlib.Omega.{arith}
 use Rattle.bits.proofs.laws.Joined.{joined_none, joined_more, joined_all, joined_room}
 use Rattle.bits.proofs.laws.Words.{wide_zero}

@@ -2,7 +2,6 @@
 -- number. A turn stores byte w - 1 - i from the bottom, which is byte i (`byte_from_bottom` of `laws.Bytes`, with `filled_more`); behind the
 -- last place the list is the number's bytes (`filled_all`). The measure is the number of places left.
 -- Assumes nothing.
-use Prim.Native.Nat.{◌-◌}
 use Rattle.bits.specs.Bytes.{bytes_of}
 use Rattle.bits.proofs.laws.Bytes.{byte_from_bottom}
 use Rattle.bits.proofs.laws.Filled.{filled_none, filled_more, filled_all}

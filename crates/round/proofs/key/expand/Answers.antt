@@ -2,7 +2,7 @@
 -- expansion. It holds behind `lay` (`expanded_none`); a turn makes word i of the words i - 1 and i - nk and writes it (`expanded_more`); behind the last
 -- turn the whole is the expansion (`expanded_all`). The measure is the words left. Each word that is read or written lies in w, which has room for all.
 -- Assumes nothing.
-use Prim.Native.Nat.{◌-◌, ◌≤◌}
+use Prim.Native.Nat.{◌≤◌}
 use Rattle.round.proofs.laws.Expansion.{expanded_none, expanded_more, expanded_all}
 use native.Mathlib.Omega.{arith}
 use Rattle.round.proofs.key.expand.Goals as goal
@@ -14,7 +14,7 @@ loop-i-init c =
 pub loop-i-preserved : goal.loop-i-preserved
 loop-i-preserved c =
     let some_words : 1 ≤ c.args.words = omega (arith, c.requires) in
-    expanded_more some_words.loop-i.invariant c.word_at.ensures c.temp_of-t.ensures c.word_at-in-loop-i.ensures
+    expanded_more some_words c.loop-i.invariant c.word_at.ensures c.temp_of-t.ensures c.word_at-in-loop-i.ensures
     c.xor_word-x.ensures (omega arith) c.put_word.ensures
 
 pub returns : goal.returns
@@ -33,7 +33,7 @@ word_at-requires c =
 
 pub temp_of-t-requires : goal.temp_of-t-requires
 temp_of-t-requires c =
-    (omega (arith, c.loop-i.invariant), c.pre.2)
+    (omega (arith, c.loop-i.invariant), c.requires.2)
 
 pub word_at-requires-in-loop-i : goal.word_at-requires-in-loop-i
 word_at-requires-in-loop-i c =

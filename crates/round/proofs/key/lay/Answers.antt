@@ -2,7 +2,6 @@
 -- behind the last the key stands in front (`laid` of `laws.Expansion`).
 -- Assumes nothing.
 use mathlib.Core.Path.{refl}
-use Prim.Native.Nat.{◌-◌}
 use Rattle.bits.proofs.laws.Filled.{filled_none, filled_more}
 use Rattle.round.proofs.laws.Expansion.{laid}
 use native.Mathlib.Omega.{arith}

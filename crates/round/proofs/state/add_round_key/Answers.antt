@@ -2,7 +2,6 @@
 -- round key added, which begins at byte 16 n of w. A turn writes one byte more (`filled_more`); behind the last they are `AddRoundKey` cell by cell
 -- (`add_filled` of `laws.Key`). Round key n lies in w, so every index does.
 -- Assumes nothing.
-use Prim.Native.Nat.{◌-◌}
 use Rattle.bits.proofs.laws.Filled.{filled_none, filled_more}
 use Rattle.round.proofs.laws.Key.{add_filled}
 use Rattle.round.proofs.state.add_round_key.Goals as goal

@@ -2,7 +2,6 @@
 -- adds one product more, as the call ensures (`summed_more`); behind the last the sum is whole (`summed_all`). Every index is below 16.
 -- Assumes nothing.
 use mathlib.Core.Path.{refl}
-use Prim.Native.Nat.{◌-◌}
 use Rattle.bits.proofs.laws.Summed.{summed_none, summed_more, summed_all}
 use Rattle.round.proofs.state.row_by_column.Goals as goal
 

@@ -1,7 +1,6 @@
 -- `round::state::sub_bytes` meets its contract. The invariant, `Filled` of the crate bits: the first i bytes are those of s behind the S-box. A turn
 -- writes one byte more (`filled_more`); behind the last they are `SubBytes` cell by cell (`sub_filled` of `laws.State`).
 -- Assumes nothing.
-use Prim.Native.Nat.{◌-◌}
 use Rattle.bits.proofs.laws.Filled.{filled_none, filled_more}
 use Rattle.round.proofs.laws.State.{sub_filled}
 use Rattle.round.proofs.state.sub_bytes.Goals as goal
