@@ -3,7 +3,6 @@
 -- goes on by what `serve_one` ensures of the order at i and `number` of its answer (`serving_more`); behind the last order none is left
 -- (`serving_all`). The measure is the number of orders left.
 -- Assumes nothing.
-use Prim.Native.Nat.{◌-◌}
 use Rattle.orders.proofs.laws.Orders.{serving_none, serving_more, serving_all}
 use native.Mathlib.Omega.{arith}
 use Rattle.orders.proofs.serve_orders.Goals as goal

@@ -14,7 +14,7 @@ use lib.Seq.{get_or-drop}
 use Rattle.bits.specs.Bytes.{Bytes}
 use Rattle.bits.specs.Flips.{flipped}
 use Rattle.bits.specs.Lists.{at}
-use Rattle.bits.specs.Nibbles.{half, nibble}
+use Rattle.bits.specs.Nibbles.{nibble}
 use Rattle.bits.proofs.laws.Flips.{length_flipped, flipped_bytes, byte_differs, nibble_differs}
 use Rattle.bits.proofs.laws.Nibbles.{nibble_half}
 use Rattle.bits.proofs.laws.Offsets.{offset_mono}

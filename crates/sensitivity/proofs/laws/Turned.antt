@@ -13,7 +13,6 @@ use borrow.Author.Tests.{lt-ltb, le-ltb}
 use lib.Dec.{ltb}
 use Rattle.bits.specs.Bytes.{Bytes, Block}
 use Rattle.bits.specs.Flips.{flipped}
-use Rattle.bits.specs.Lists.{at}
 use Rattle.network.specs.Due.{summed, values_in, left_by, closed}
 use Rattle.network.specs.Lookups.{State, Shape, area_in, leaving, lookup_in, lookup_at}
 use Rattle.network.specs.Numbers.{Numbers, next_numbers}

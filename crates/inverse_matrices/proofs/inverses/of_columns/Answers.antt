@@ -3,7 +3,6 @@
 -- (`columns_more` of `laws.Inverses`); behind the last these are the inverses of all (`parts_all`). The measure is the
 -- number of matrices left.
 -- Assumes nothing.
-use Prim.Native.Nat.{◌-◌}
 use Rattle.bits.proofs.laws.Parts.{parts_none, part_lent, parts_all}
 use Rattle.bundle.specs.Format.{column_matrices}
 use Rattle.inverse_matrices.specs.InverseWords.{column_inverses}

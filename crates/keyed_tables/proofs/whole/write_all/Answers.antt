@@ -6,7 +6,7 @@
 -- begins with the inverse that it is made with (`inverse_chosen`). The measure is the number of tables left.
 -- Assumes nothing.
 use mathlib.Core.Path.{refl, ◌∙◌}
-use Prim.Native.Nat.{◌+◌, ◌-◌, ◌≤◌}
+use Prim.Native.Nat.{◌+◌, ◌≤◌}
 use lib.ListN.{length}
 use Rattle.bits.proofs.laws.Lists.{length_cut}
 use Rattle.bits.proofs.laws.Parts.{parts_at_none}

@@ -3,7 +3,6 @@
 -- and stores the product (`times_more`); the number of the first n places is what is asked (`filled_number`). The parts have 8 bytes, since
 -- the section has 160 of them (`part_room`).
 -- Assumes nothing.
-use Prim.Native.Nat.{◌-◌}
 use Rattle.bits.proofs.laws.Bytes.{filled_number}
 use Rattle.bits.proofs.laws.Filled.{filled_none}
 use Rattle.layers.proofs.laws.Words.{times_more, part_room}

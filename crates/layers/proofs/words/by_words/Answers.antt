@@ -2,7 +2,6 @@
 -- of these parities. A turn pushes one more (`joined_more`), for which a word has room, since 32 bits or fewer stand in it (`joined_room`); behind the
 -- last row r is the product (`joined_product` of matrices).
 -- Assumes nothing.
-use Prim.Native.Nat.{◌-◌}
 use Rattle.bits.proofs.laws.Joined.{joined_none, joined_more, joined_room}
 use Rattle.bits.proofs.laws.Vectors.{dot_lt}
 use Rattle.matrices.proofs.laws.Rows.{joined_product}

@@ -3,7 +3,6 @@
 -- behind the eighth r is the product with the matrix that the bytes write (`part_multiplied` of `laws.Words`), and a byte.
 -- Assumes nothing.
 use mathlib.Core.Path.{refl}
-use Prim.Native.Nat.{◌-◌}
 use Rattle.bits.proofs.laws.Joined.{joined_none, joined_more, joined_room}
 use Rattle.bits.proofs.laws.Vectors.{dot_lt}
 use Rattle.layers.proofs.laws.Words.{part_multiplied}

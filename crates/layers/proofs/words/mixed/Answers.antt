@@ -3,7 +3,7 @@
 -- room, since fewer than four bytes stand in it (`mixed_lt`, `joined_room`); behind the fourth v is what is asked (`joined_all`).
 -- Assumes nothing.
 use mathlib.Core.Path.{refl}
-use Prim.Native.Nat.{◌-◌, ◌^◌, ◌<◌}
+use Prim.Native.Nat.{◌^◌, ◌<◌}
 use Rattle.bits.proofs.laws.Joined.{joined_none, joined_room, joined_all}
 use Rattle.round.specs.State.{mix_rows, inv_mix_rows, entry}
 use Rattle.layout.specs.Ciphers.{for_cipher}

@@ -2,7 +2,6 @@
 -- of their bytes. A turn multiplies 2^k by column q of the cipher's column mixing (`mixed_column`) and that by the matrix that was read, which makes the
 -- word (`mixed_row`), and stores it as row k (`stored_more`); behind row 7 the basis is whole (`stored_all`).
 -- Assumes nothing.
-use Prim.Native.Nat.{◌-◌}
 use Rattle.matrices.proofs.laws.Rows.{stored_none, stored_more, stored_all}
 use Rattle.round.specs.State.{mix_rows, inv_mix_rows, entry}
 use Rattle.layout.specs.Ciphers.{for_cipher}

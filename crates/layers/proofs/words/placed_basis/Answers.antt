@@ -2,7 +2,6 @@
 -- products of the matrix that the bytes write and their bytes, placed at i of a block. A turn stores one more as row k (`stored_more`), the column
 -- that `written_column` gives; behind row 7 the basis is whole (`stored_all`).
 -- Assumes nothing.
-use Prim.Native.Nat.{◌-◌}
 use Rattle.matrices.proofs.laws.Rows.{stored_none, stored_more, stored_all}
 use Rattle.layers.proofs.words.placed_basis.Goals as goal
 

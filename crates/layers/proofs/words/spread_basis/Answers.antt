@@ -3,7 +3,6 @@
 -- multiplies each byte by its byte matrix, which makes the word (`spread_row`), and stores it as row k (`stored_more`); behind row 7 the basis is whole
 -- (`stored_all`). The section that `by_bytes` asks for has all byte matrices, since the bundle's frame is right (`frame_of`, `byte_section_long`).
 -- Assumes nothing.
-use Prim.Native.Nat.{◌-◌}
 use Rattle.matrices.proofs.laws.Rows.{stored_none, stored_more, stored_all}
 use Rattle.inverse_matrices.proofs.laws.Code.{frame_of}
 use Rattle.layers.proofs.laws.Bases.{byte_count, byte_section_long, spread_row}

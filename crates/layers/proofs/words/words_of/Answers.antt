@@ -2,7 +2,6 @@
 -- rows of the matrix that the bytes write. A turn reads one more (`filled_more`); behind the last the words are that matrix, by its definition
 -- (`filled_all`).
 -- Assumes nothing.
-use Prim.Native.Nat.{◌-◌}
 use Rattle.bits.proofs.laws.Filled.{filled_none, filled_more, filled_all}
 use Rattle.matrices.specs.Matrices.{matrix_of}
 use Rattle.bits.specs.Bytes.{number_at_of}

@@ -2,7 +2,6 @@
 -- of the first r rows and 2^k at byte i. The digit that a turn reads is such a parity (`written_digit` of matrices), and a vector of 128 bits has
 -- room for it (`joined_bit`); behind the last row v is the product (`joined_product`).
 -- Assumes nothing.
-use Prim.Native.Nat.{◌-◌}
 use Rattle.bits.proofs.laws.Joined.{joined_none, joined_bit}
 use Rattle.bits.proofs.laws.Vectors.{dot_lt}
 use Rattle.bits.proofs.laws.Words.{wide_zero}

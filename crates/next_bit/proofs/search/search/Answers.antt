@@ -6,7 +6,7 @@
 -- last lookup none is left (`seeking_all`). The measure is the number of lookups left.
 -- Assumes nothing.
 use mathlib.Core.Path.{◌≡◌}
-use Prim.Native.Nat.{◌-◌, ◌<◌}
+use Prim.Native.Nat.{◌<◌}
 use lib.ListN.{length}
 use Rattle.layout.specs.Stages.{most_bytes_of}
 use Rattle.layout.proofs.laws.Lookup.{own_sizes}

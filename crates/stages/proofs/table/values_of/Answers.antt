@@ -3,7 +3,6 @@
 -- `acted_second`). Behind the last stage there is none: it is no stage of the rounds, as the `requires` asks (`never_beyond`).
 -- Assumes nothing.
 use mathlib.Core.Path.{subst}
-use Prim.Native.Nat.{ℕ}
 use Rattle.layout.specs.Ciphers.{reads_of}
 use Rattle.layout.specs.Stages.{InRounds}
 use Rattle.layout.specs.declared.stage.Stage.{Stage}

@@ -2,7 +2,6 @@
 -- first k rows are stored. A turn stores what `column` gives, which is the product with 2^k (`stored_more`); behind the
 -- last all are stored (`stored_all`).
 -- Assumes nothing.
-use Prim.Native.Nat.{◌-◌}
 use Rattle.matrices.proofs.laws.Rows.{stored_none, stored_more, stored_all}
 use native.Mathlib.Omega.{arith}
 use Rattle.substitution.proofs.values.columns.Goals as goal

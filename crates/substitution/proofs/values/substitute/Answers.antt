@@ -3,7 +3,6 @@
 -- the S-box as a table, which `columns`, `nibble_words` and `sbox_of` have made (`prepared`, `substituted_more`);
 -- behind the last the list is whole (`filled_all`). The sum that is looked up is a byte since `before` is one.
 -- Assumes nothing.
-use Prim.Native.Nat.{◌-◌}
 use Rattle.bits.proofs.laws.Filled.{filled_none, filled_all}
 use Rattle.substitution.proofs.laws.Values.{prepared, substituted_more}
 use native.Mathlib.Omega.{arith}
