@@ -3,7 +3,7 @@
 use Rattle.std.specs.Prelude.{List, [], ◌∷◌, ◌≡◌, ℕ, ◌*◌, ◌<◌, length}
 use Rattle.bits.specs.Lists.{at, concat, part_of}
 use Rattle.catalogue.specs.Catalogue.{rows_of_number, side, catalogue, catalogue_length}
-use Rattle.io.specs.Digits.{hex_digit_ascii}
+use Rattle.streams.specs.Digits.{hex_digit_ascii}
 use Rattle.streams.specs.Lines.{matrix_line, matrix_room}
 
 -- The lines of a list of numbers, in its order.

@@ -31,8 +31,8 @@ fn write_lines(text: &mut [u8])
     }
 }
 
-fn main() {
+fn main(rt: HostRuntime) {
     let mut text = [0u8; LIST_BYTES];
     write_lines(&mut text);
-    send(&text);
+    send(&rt, &text);
 }

@@ -6,7 +6,7 @@ use Rattle.answers.specs.declared.Answer.TheVariants.{Accepted, Refused}
 use Rattle.answers.specs.declared.Refusal.{Refusal}
 use Rattle.bits.specs.Lists.{tabulate}
 use Rattle.bits.specs.Nibbles.{nibble}
-use Rattle.io.specs.Digits.{hex_digit_ascii, last_digits}
+use Rattle.streams.specs.Digits.{hex_digit_ascii, last_digits}
 
 -- ---- numbers and blocks as text
 -- The decimal digits of n, the most significant first, with no 0 in front of another digit. `most` bounds their number, and n + 1 is enough.

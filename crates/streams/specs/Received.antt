@@ -1,9 +1,12 @@
 -- Bytes that were read. Definitions only.
-use Rattle.std.specs.Prelude.{List, [], ◌∷◌, ◌++◌, ℕ, take}
-use Rattle.io.specs.Counts.{IsPrefixLen}
+use Rattle.std.specs.Prelude.{List, [], ◌∷◌, ◌++◌, ◌≡◌, ℕ, ◌≤◌, length, take}
 
--- A mark that any bytes can be given, so as a statement it says nothing: no contract of the kit tells which bytes a read gives. It shows in a proof where
--- the bytes come from: `given` is named in proofs/laws/Receiving.antt alone, and that file in the proof of `receive` alone, which tests/proofs.py holds.
+-- A count that is within a list: the list has so many at its front. The second part follows from the first.
+abbrev pub IsPrefixLen : ℕ → List ℕ → Type 0
+IsPrefixLen n l = (n ≤ length l) × (n ≡ length (take n l))
+
+-- A mark that any bytes can be given, so as a statement it says nothing: no contract of the kit tells which bytes a read of standard input gives. It shows in a proof
+-- where the bytes come from: `given` is named in proofs/laws/Receiving.antt alone, and that file in the proof of `receive` alone, which tests/proofs.py holds.
 pub data Received : List ℕ → Type 0 where
   given : (bytes : List ℕ) → Received bytes
 

@@ -1,6 +1,6 @@
 // The lines that the programs write, at the front of lent memory. Document 01, "Programs"; document 02, Ticket 4.
-ghost use Rattle.std.specs.Prelude.{◌≡◌, ◌+◌, ◌<◌, ◌≤◌, length};
-ghost use Rattle.io.specs.Digits.{hex_digit_ascii as Digits·glyph};
+ghost use Rattle.std.specs.Prelude.{◌≡◌, ◌+◌, ◌<◌, ◌≤◌, length, take};
+ghost use Rattle.streams.specs.Digits.{hex_digit_ascii as Digits·glyph, last_digits, IsDigitCount};
 ghost use Rattle.streams.specs.Lines.{line_room, cause_room, number_room, matrix_room};
 ghost use Rattle.streams.specs.Lines.{decimal, hex_digits, cause_text, cause_line, refusal_line, answer_line, matrix_line};
 ghost use Rattle.streams.specs.Written.{Put, Written};
@@ -15,6 +15,9 @@ pub const MATRIX_ROOM: usize = MATRIX_DIGITS + 1;
 
 const MATRIX_DIGITS: usize = 4;
 
+// The most digits that a number of 32 bits has in decimal.
+const NUMBER_ROOM: usize = 10;
+
 // Writes a text from a place on. Where it ends.
 fn put(line: &mut [u8], from: usize, text: &[u8]) -> usize
     requires { from + length text.now ≤ length line.old }
@@ -28,13 +31,42 @@ fn put(line: &mut [u8], from: usize, text: &[u8]) -> usize
     from + i
 }
 
+// How many digits a number has in decimal.
+fn digit_count(n: u32) -> usize
+    ensures { IsDigitCount 10 1 n result }
+{
+    let mut k = 1;
+    let mut rest = n / 10;
+    while rest > 0 {
+        rest /= 10;
+        k += 1;
+    }
+    k
+}
+
+// Writes the last k digits of a number in a base, the most significant first, to the front.
+fn write_digits(n: u32, base: u32, k: usize, out: &mut [u8])
+    requires base { (0 < base) × (base ≤ 16) }
+    requires room { k ≤ length out.old }
+    ensures { take k out.new ≡ last_digits base k n }
+{
+    let mut i = k;
+    let mut rest = n;
+    while i > 0 {
+        i -= 1;
+        out[i] = glyph((rest % base) as u8);
+        rest /= base;
+    }
+}
+
 // Writes a number in decimal.
 fn put_decimal(line: &mut [u8], from: usize, n: u32) -> usize
     requires { from + number_room ≤ length line.old }
     ensures { Put (decimal n) line.old from result line.new × (length (decimal n) ≤ number_room) }
 {
-    let mut digits = [0u8; 20];
-    let k = io::decimal(n as u64, &mut digits);
+    let mut digits = [0u8; NUMBER_ROOM];
+    let k = digit_count(n);
+    write_digits(n, 10, k, &mut digits);
     put(line, from, &digits[..k])
 }
 
@@ -103,8 +135,8 @@ pub fn matrix_line(matrix: u16, line: &mut [u8]) -> usize
     requires { matrix_room ≤ length line.old }
     ensures { Written (matrix_line matrix) line.old result line.new }
 {
-    let mut digits = [0u8; 16];
-    let k = io::hex(matrix as u64, MATRIX_DIGITS, &mut digits);
-    let end = put(line, 0, &digits[..k]);
+    let mut digits = [0u8; MATRIX_DIGITS];
+    write_digits(matrix as u32, 16, MATRIX_DIGITS, &mut digits);
+    let end = put(line, 0, &digits);
     put(line, end, b"\n")
 }

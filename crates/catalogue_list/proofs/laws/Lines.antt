@@ -17,7 +17,7 @@ use Rattle.catalogue.specs.declared.Entry.{Entry}
 use Rattle.catalogue.specs.declared.Entry.TheVariants.{Matrix, Refused}
 use Rattle.catalogue.proofs.laws.Numbered.{row_at}
 use Rattle.catalogue.proofs.laws.Proved.{given_inside, given_number, refused_beyond, catalogued}
-use Rattle.io.specs.Digits.{hex_digit_ascii}
+use Rattle.streams.specs.Digits.{hex_digit_ascii}
 use Rattle.streams.specs.Lines.{matrix_line, matrix_room}
 use Rattle.streams.specs.Written.{Written}
 use Rattle.streams.proofs.laws.Written.{written_whole}

@@ -106,11 +106,11 @@ module _ {a b : List ℕ} {n k : ℕ} (s : Searching a b n k) {r : Bool} (h : k 
   unfolding part_of
   other_is = ap not (e ∙ ap₂ same (cut_is a (k * entry_size) entry_size) (cut_is b (k * entry_size) entry_size))
 
-  pub searching_here : not r ≡ true → FirstOther n (other_in a b) k
-  searching_here t = record { within = omega arith; before = s.before; here = λ h. sym other_is ∙ t }
+  pub searching_here : r ≡ false → FirstOther n (other_in a b) k
+  searching_here t = record { within = omega arith; before = s.before; here = λ h. sym other_is ∙ ap not t }
 
-  pub searching_more : not r ≡ false → Searching a b n (k + 1)
-  searching_more t = record { within = omega arith; before = below_more _ k s.before (sym other_is ∙ t) }
+  pub searching_more : r ≡ true → Searching a b n (k + 1)
+  searching_more t = record { within = omega arith; before = below_more _ k s.before (sym other_is ∙ ap not t) }
 
 pub searching_all : {a b : List ℕ} {n k : ℕ} → Searching a b n k → n ≤ k → FirstOther n (other_in a b) n
 searching_all s h = record { within = omega arith; before = λ i g. s.before i (omega arith); here = λ g. absurd (omega arith) }

@@ -12,7 +12,6 @@ use Rattle.answers.specs.declared.Answer.TheVariants.{Accepted}
 use Rattle.answers.proofs.laws.Tests.{reply_was, left_back}
 use Rattle.bits.specs.Bytes.{Bytes, number_of, bytes_of}
 use Rattle.bits.specs.Lists.{at}
-use Rattle.bits.specs.Nibbles.{half}
 use Rattle.bits.proofs.laws.Bytes.{length_bytes_of, number_of_bytes_of}
 use Rattle.bits.proofs.laws.Groups.{joined_same}
 use Rattle.bits.proofs.laws.Nibbles.{half_lt}

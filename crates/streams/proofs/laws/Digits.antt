@@ -1,17 +1,19 @@
--- Laws, not definitions: the fewest digits that hold a number, which the library writes. In decimal they are the number; in hex those of a number of 16 bits are four.
+-- Laws, not definitions: the digits of a number, how many hold it, and how they are written from the last on. The fewest in decimal are the number.
 -- Assumes nothing.
 use mathlib.Core.Bool.{Bool, true, false, cond}
 use mathlib.Core.List.{List, [], ◌∷◌, ◌++◌}
-use mathlib.Core.Path.{◌≡◌, refl, ap, ◌∙◌}
-use Prim.Native.Nat.{ℕ, zero, suc, ◌+◌, ◌-◌, ◌/◌, ◌%◌, ◌^◌, ◌≤◌, ◌<◌}
-use native.Mathlib.Nat.{mod-eq_of_lt, pow-le-pow_right, div-lt_iff_lt-mul, le-div_iff_mul-le, pow-suc}
-use native.Mathlib.Numerals.{unary_clauses}
+use mathlib.Core.Path.{◌≡◌, refl, sym, ap, subst, ◌∙◌}
+use Prim.Native.Nat.{ℕ, zero, suc, ◌+◌, ◌-◌, ◌*◌, ◌/◌, ◌%◌, ◌^◌, ◌≤◌, ◌<◌}
+use native.Mathlib.Nat.{mod-eq_of_lt, pow-le-pow_right, div-lt_iff_lt-mul, le-div_iff_mul-le, pow-zero, pow-suc, one-mul, one-le-pow, div-div-eq-div-mul}
+use native.Mathlib.Nat.{le_of_suc-le-suc, not-suc-le-zero}
+use native.Mathlib.Numerals.{unary_clauses, add-one, sub-one}
 use native.Mathlib.Omega.{arith}
 use lib.Dec.{ltb}
-use lib.ListN.{length, take, length-take}
+use lib.ListN.{length, take, drop, set, length-take}
+use lib.Seq.{slice, length-take-le, take-set-lt, append_snoc}
 use borrow.Author.Tests.{ltb-true, ltb-false, lt-ltb, le-ltb}
-use Rattle.io.specs.Digits.{hex_digit_ascii, last_digits, IsDigitCount}
-use Rattle.streams.specs.Lines.{spelled, decimal, number_room, matrix_digits}
+use Rattle.streams.specs.Digits.{hex_digit_ascii, last_digits, IsDigitCount}
+use Rattle.streams.specs.Lines.{spelled, decimal, number_room}
 use Rattle.streams.specs.Written.{Put}
 
 -- ---- the digit of a number below 16: `0` to `9`, then `a` to `f`
@@ -68,14 +70,53 @@ digits_most base least most n k b l h f = by (ltb most k) refl
         let more : most < k = ltb-true most k e in
         absurd (omega (arith, f.2 (omega arith), pow-le-pow_right {n = base} (omega arith) {i = most} {j = k - 1} (omega arith)))
 
--- Of a number of 32 bits at most ten in decimal; of one of 16 bits four in hex, where four at least are asked for.
+-- Of a number of 32 bits at most ten in decimal.
 pub few_digits : (n k : ℕ) → n < 2 ^ 32 → IsDigitCount 10 1 n k → k ≤ number_room
 few_digits n k h f = digits_most 10 1 number_room n k (omega arith) (omega arith) (omega arith) f
 
-pub four_digits : (n k : ℕ) → n < 2 ^ 16 → IsDigitCount 16 matrix_digits n k → k ≡ matrix_digits
-four_digits n k h f = omega (arith, f.0, digits_most 16 matrix_digits matrix_digits n k (omega arith) (omega arith) h f)
+-- ---- how many there are: what is left of n is `rest` once k digits are taken from its end
+pub tenth : (n : ℕ) → n / 10 ≡ n / 10 ^ 1
+tenth n = ap (λ (d : ℕ). n / d) (sym (pow-suc 10 0 ∙ ap (λ (p : ℕ). p * 10) (pow-zero 10) ∙ one-mul 10))
 
--- ---- the number that is put: the front of the library's array of digits
+pub tenth_more : (n k rest : ℕ) → rest ≡ n / 10 ^ k → rest / 10 ≡ n / 10 ^ (k + 1)
+tenth_more n k rest e =
+    ap (λ (m : ℕ). m / 10) e ∙ div-div-eq-div-mul n (10 ^ k) 10 ∙ ap (λ (d : ℕ). n / d) (sym (pow-suc 10 k) ∙ ap (λ (j : ℕ). 10 ^ j) (sym (add-one k)))
+
+-- Something is left, so one more is wanted.
+pub more_digits : (n k rest : ℕ) → rest ≡ n / 10 ^ k → 0 < rest → 10 ^ (k + 1 - 1) ≤ n
+more_digits n k rest e some =
+    let j : k ≡ k + 1 - 1 = omega arith in
+    let h : 1 * 10 ^ k ≤ n = (le-div_iff_mul-le (one-le-pow k 10 (omega arith))).0 (omega (arith, e)) in
+    subst (λ (i : ℕ). 10 ^ i ≤ n) j (omega arith)
+
+-- Nothing is left, so they hold n.
+pub digits_hold : (n k rest : ℕ) → rest ≡ n / 10 ^ k → rest ≤ 0 → n < 10 ^ k
+digits_hold n k rest e none =
+    let h : n < 1 * 10 ^ k = (div-lt_iff_lt-mul (one-le-pow k 10 (omega arith))).0 (omega (arith, e)) in
+    omega arith
+
+-- ---- how they are written, from the last on
+-- What is written at j stands at the front from j on.
+drop_set : (t : List ℕ) (j g : ℕ) → j < length t → drop j (set t j g) ≡ g ∷ drop (suc j) t
+drop_set [] j g h = absurd (not-suc-le-zero h)
+drop_set (x ∷ t) zero g h = refl
+drop_set (x ∷ t) (suc j) g h = drop_set t j g (le_of_suc-le-suc h)
+
+-- The last of the digits that are still to write goes to the front of those that are written.
+pub digits_more : (b i k rest g : ℕ) (out : List ℕ) → 0 < i → i ≤ k → k ≤ length out → g ≡ hex_digit_ascii (rest % b)
+    → last_digits b (i - 1) (rest / b) ++ slice (i - 1) k (set out (i - 1) g) ≡ last_digits b i rest ++ slice i k out
+digits_more b zero k rest g out some h room e = absurd (not-suc-le-zero some)
+digits_more b (suc j) k rest g out some h room e =
+    let todo = last_digits b j (rest / b) in
+    let done = slice (suc j) k out in
+    let within : j < length (take k out) = subst (λ (n : ℕ). j < n) (sym (length-take-le k out room)) h in
+    ap (λ (m : ℕ). last_digits b m (rest / b) ++ slice m k (set out m g)) (sub-one (suc j))
+    ∙ ap (λ (l : List ℕ). todo ++ drop j l) (take-set-lt k out j g h)
+    ∙ ap (λ (l : List ℕ). todo ++ l) (drop_set (take k out) j g within)
+    ∙ ap (λ (x : ℕ). todo ++ x ∷ done) e
+    ∙ sym (append_snoc todo (hex_digit_ascii (rest % b)) done)
+
+-- ---- the number that is put: the front of the array of digits
 pub number_put : (n k : ℕ) (out : List ℕ) {held : List ℕ} {from end : ℕ} {left : List ℕ}
     → IsDigitCount 10 1 n k → take k out ≡ last_digits 10 k n → k ≤ number_room → Put (take k out) held from end left
     → Put (decimal n) held from end left × (length (decimal n) ≤ number_room)

@@ -7,8 +7,8 @@ use native.Mathlib.Nat.{zero-add}
 use native.Mathlib.Omega.{arith}
 use lib.ListN.{length, set, take, drop, length-append, length-set, drop_of_length-le}
 use lib.Seq.{length-take-le, take-append_seam, drop-append-add, drop-drop, take-length, paste}
-use Rattle.io.specs.Counts.{IsPrefixLen}
-use Rattle.io.specs.Digits.{last_digits as digits}
+use Rattle.streams.specs.Received.{IsPrefixLen}
+use Rattle.streams.specs.Digits.{last_digits}
 use Rattle.bits.specs.Lists.{at}
 use Rattle.bits.proofs.laws.Pasted.{Pasted, pasted_none, pasted_more, pasted_all}
 use Rattle.answers.specs.Numbers.{cause_of, second_of}
@@ -101,10 +101,7 @@ pub answer_line_written : (block : List ℕ) {digits held mid left : List ℕ} {
 unfolding answer_line
 answer_line_written block e p q = written_more (written_first (rw e at p)) q
 
--- The four digits are the front of the library's array of digits.
-pub matrix_line_written : (v : ℕ) (out : List ℕ) {k : ℕ} {held mid left : List ℕ} {from end : ℕ}
-    → k ≡ matrix_digits → take k out ≡ digits 16 k v → Put (take k out) held 0 from mid → Put newline mid from end left → Written (matrix_line v) held end left
+pub matrix_line_written : (v : ℕ) {digits held mid left : List ℕ} {from end : ℕ}
+    → digits ≡ last_digits 16 matrix_digits v → Put digits held 0 from mid → Put newline mid from end left → Written (matrix_line v) held end left
 unfolding matrix_line
-matrix_line_written v out {k} four e p q =
-    let d = e ∙ ap (λ (n : ℕ). digits 16 n v) four in
-    written_more (written_first (rw d at p)) q
+matrix_line_written v e p q = written_more (written_first (rw e at p)) q

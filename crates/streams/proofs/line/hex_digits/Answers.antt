@@ -2,9 +2,8 @@
 -- nibbles. A turn writes one more (`filled_more`), and behind the last they are all (`filled_all`).
 -- Assumes nothing.
 use mathlib.Core.Path.{ap, ◌∙◌}
-use Prim.Native.Nat.{◌-◌}
 use Rattle.bits.proofs.laws.Filled.{filled_none, filled_more, filled_all}
-use Rattle.io.specs.Digits.{hex_digit_ascii}
+use Rattle.streams.specs.Digits.{hex_digit_ascii}
 use Rattle.streams.specs.Lines.{hex_digits}
 use Rattle.streams.proofs.line.hex_digits.Goals as goal
 

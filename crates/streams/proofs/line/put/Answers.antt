@@ -1,7 +1,6 @@
 -- `streams::line::put` meets its contract. The invariant, `Putting` of `laws.Written`: i bytes of the text are copied. A turn copies one more
 -- (`putting_more`), and behind the last all of the text stands there (`putting_all`).
 -- Assumes nothing.
-use Prim.Native.Nat.{◌-◌}
 use Rattle.streams.proofs.laws.Written.{putting_none, putting_more, putting_all}
 use Rattle.streams.proofs.line.put.Goals as goal
 

@@ -4,7 +4,7 @@ use Rattle.streams.proofs.laws.Receiving.{Receiving}
 use Rattle.streams.proofs.stream.receive.Given as goal
 
 abbrev pub invariant-loop-done : goal.invariant-loop-done
-invariant-loop-done l = Receiving l.initial.memory l.memory l.done
+invariant-loop-done g l = Receiving l.initial.memory l.memory l.done
 
 abbrev pub decreases-loop-done : goal.decreases-loop-done
-decreases-loop-done l = length l.memory - l.done
+decreases-loop-done g l = length l.memory - l.done

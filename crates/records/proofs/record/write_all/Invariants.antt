@@ -1,0 +1,11 @@
+use Prim.Native.Nat.{◌-◌}
+use Rattle.layout.specs.Stages.{lookups}
+use Rattle.records.proofs.laws.Loops.{Recording}
+use Rattle.records.proofs.record.write_all.Given as goal
+
+abbrev pub invariant-loop-n : goal.invariant-loop-n
+invariant-loop-n l =
+    Recording l.cipher l.rounds l.set l.block l.initial.recorded l.recorded l.standing l.area l.n
+
+abbrev pub decreases-loop-n : goal.decreases-loop-n
+decreases-loop-n l = lookups l.rounds - l.n
