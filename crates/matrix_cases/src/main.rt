@@ -6,73 +6,80 @@
 ghost use Rattle.std.specs.Prelude.{◌≡◌, ◌*◌, ◌≤◌, length};
 
 use bits::vector;
-use libc::STDOUT_FILENO;
 use matrices::matrix;
+use std::io;
+use streams::stream::receive;
 
 fn wide(x: u8) -> u64 {
     x as u64
 }
 
-fn show(b: &[u8]) {
+fn show(rt: &impl Print, b: &[u8]) -> io::Result<()> {
     let mut i = 0;
     while i < b.len() {
-        io::print_hex(STDOUT_FILENO, wide(b[i]), 2);
+        print!(rt; "{:02x}", wide(b[i]))?;
         i += 1;
     }
-    io::write_all(STDOUT_FILENO, b"\n");
+    print!(rt; "\n")
 }
 
 // Reads a matrix of 8 w rows into `m` and a vector into `v`, and writes their product and the matrix's inverse, each from the same room.
-fn answer(m: &mut [u8], v: &mut [u8], w: usize)
+fn answer(
+    rt: &(impl Input + Print + Eprint),
+    m: &mut [u8],
+    v: &mut [u8],
+    w: usize,
+) -> io::Result<()>
     requires { (w ≤ 16) × (length m.old ≡ 8 * w * w) × (length v.old ≡ w) }
 {
     let mut rows = [0u64; 256];
     let mut inverse = [0u64; 256];
-    io::read_full(0, m);
-    io::read_full(0, v);
+    let mut input = rt.reader();
+    receive(&mut input, rt, m);
+    receive(&mut input, rt, v);
     matrix::read(m, &mut rows, w);
     let p = matrix::multiply(&rows, 8 * w, vector::read(v, 0, w));
     vector::write(p, v);
-    show(v);
+    show(rt, v)?;
     if inversion::invert(&rows, &mut inverse, 8 * w) {
         matrix::write(&inverse, m, w);
-        show(m);
-        return;
+        return show(rt, m);
     }
-    io::write_all(STDOUT_FILENO, b"singular\n");
+    print!(rt; "singular\n")
 }
 
-fn byte_matrix() {
+fn byte_matrix(rt: &(impl Input + Print + Eprint)) -> io::Result<()> {
     let mut m = [0u8; 8];
     let mut v = [0u8; 1];
-    answer(&mut m, &mut v, 1);
+    answer(rt, &mut m, &mut v, 1)
 }
 
-fn column_matrix() {
+fn column_matrix(rt: &(impl Input + Print + Eprint)) -> io::Result<()> {
     let mut m = [0u8; 128];
     let mut v = [0u8; 4];
-    answer(&mut m, &mut v, 4);
+    answer(rt, &mut m, &mut v, 4)
 }
 
-fn block_matrix() {
+fn block_matrix(rt: &(impl Input + Print + Eprint)) -> io::Result<()> {
     let mut m = [0u8; 2048];
     let mut v = [0u8; 16];
-    answer(&mut m, &mut v, 16);
+    answer(rt, &mut m, &mut v, 16)
 }
 
-fn main() {
+fn main(rt: HostRuntime) -> io::Result<()> {
     let mut tag = [0u8; 1];
     let mut left: usize = 1000;
     while 0 < left {
-        if io::read_full(0, &mut tag) != 1 {
-            return;
+        if receive(&mut rt.reader(), &rt, &mut tag) != 1 {
+            return Ok(());
         }
         let w = tag[0];
         match w {
-            1 => byte_matrix(),
-            4 => column_matrix(),
-            _ => block_matrix(),
+            1 => byte_matrix(&rt)?,
+            4 => column_matrix(&rt)?,
+            _ => block_matrix(&rt)?,
         }
         left -= 1;
     }
+    Ok(())
 }

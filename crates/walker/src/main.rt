@@ -15,6 +15,7 @@ use evaluate::walk::{Move, Opening, Walk, fetch, move_one, start};
 use layout::cipher::FORWARD;
 use layout::stage::{LOOKUPS, place_of};
 use rounds::TEN;
+use std::io::Read;
 use streams::line::{ROOM, answer_line, cause_line};
 use streams::stream::{receive, send};
 
@@ -29,14 +30,14 @@ fn opened(block: &[u8]) -> Opening
 }
 
 // Reads the table of the next lookup into the front of the lent memory, and makes the lookup over what was read.
-fn over_next(walk: Walk, table: &mut [u8]) -> Move
+fn over_next<R: Read>(input: &mut R, errors: &impl Eprint, walk: Walk, table: &mut [u8]) -> Move
     requires { length table.old ≡ table_room }
     ensures { Next 10 walk result table.new }
 {
     let n = walk.count;
     let p = place_of(TEN, n);
     let size = p.size;
-    let got = receive(&mut table[..size]);
+    let got = receive(input, errors, &mut table[..size]);
     move_one(walk, &table[..got])
 }
 
@@ -48,13 +49,13 @@ struct Walked {
 }
 
 // Makes the lookups over the tables as they are read, up to the last or to the first refusal.
-fn over_input(walk: Walk, table: &mut [u8]) -> Walked
+fn over_input<R: Read>(input: &mut R, errors: &impl Eprint, walk: Walk, table: &mut [u8]) -> Walked
     requires { length table.old ≡ table_room }
     ensures { OverInput 10 (held walk) result.answer (held result.walk) }
 {
     let mut w = walk;
     while w.count < LOOKUPS {
-        let m = over_next(w, table);
+        let m = over_next(input, errors, w, table);
         let answer = m.answer;
         w = m.walk;
         let Answer::Accepted = answer else {
@@ -87,12 +88,12 @@ fn line_of(walk: Walk, rest: usize, line: &mut [u8]) -> usize
 }
 
 // Reads, walks and tells what is to be written. One byte behind the last table tells a set that is too long.
-fn run(line: &mut [u8]) -> usize
+fn run<R: Read>(input: &mut R, errors: &impl Eprint, line: &mut [u8]) -> usize
     requires { line_room ≤ length line.old }
     ensures { Runs 10 line.old result line.new }
 {
     let mut block = [0u8; 16];
-    let got = receive(&mut block);
+    let got = receive(input, errors, &mut block);
     let opening = opened(&block[..got]);
     let judged = opening.answer;
     let walk = opening.walk;
@@ -100,19 +101,19 @@ fn run(line: &mut [u8]) -> usize
         return cause_line(refusal, line);
     }
     let mut table = [0u8; TABLE_ROOM];
-    let m = over_input(walk, &mut table);
+    let m = over_input(input, errors, walk, &mut table);
     let answer = m.answer;
     let w = m.walk;
     if let Answer::Refused(refusal) = answer {
         return cause_line(refusal, line);
     }
     let mut more = [0u8; 1];
-    let rest = receive(&mut more);
+    let rest = receive(input, errors, &mut more);
     line_of(w, rest, line)
 }
 
-fn main() {
+fn main(rt: HostRuntime) {
     let mut line = [0u8; ROOM];
-    let n = run(&mut line);
-    send(&line[..n]);
+    let n = run(&mut rt.stdin(), &rt, &mut line);
+    send(&rt, &line[..n]);
 }

@@ -10,7 +10,6 @@ use Rattle.answers.specs.declared.Refusal.{Refusal}
 use Rattle.answers.specs.declared.Refusal.TheVariants.{SetLength}
 use Rattle.answers.proofs.laws.Tests.{length_wrong, length_right}
 use Rattle.layout.specs.Stages.{set_bytes}
-use Rattle.calls.specs.Calls.{answer}
 use Rattle.evaluate.specs.Held.{held}
 use Rattle.evaluate.specs.Promises.{Fetches}
 use Rattle.evaluate.specs.declared.walk.Walk.{Walk}
