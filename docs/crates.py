@@ -31,8 +31,9 @@ COLUMN = {name: column for _, names in GROUPS.values() for name, column in names
 
 def crates():
     """Each crate with the crates that its own files name."""
-    lines = [line for line in (ROOT / "crates.txt").read_text().split("\n") if line and not line.startswith("#")]
-    named = {name: rest.split() for name, rest in (line.split(":") for line in lines) if name not in TESTS}
+    lines = [line.partition("#")[0].partition(":") for line in (ROOT / "crates.txt").read_text().split("\n")]
+    named = {kind.split()[0]: rest.split() for kind, _, rest in lines if kind.strip()}
+    named = {name: others for name, others in named.items() if name not in TESTS}
     return {name: {other for other in others if other in named} for name, others in named.items()}
 
 

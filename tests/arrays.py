@@ -22,12 +22,14 @@ RESULT = re.compile(rf"-> {TYPE}")
 PARAMETER = re.compile(rf"(\w+): {TYPE}")
 LOCAL = re.compile(rf"\blet (?:mut )?(\w+)(?:: ([^=;]*?(?:{TYPE})?))? =\s*(\[|[\w:]+\()?")
 CALL = re.compile(r"((?:\w+::)*)(\w+)(?:::<[^>]*>)?\(")
-COMMENT = re.compile(r"//.*|\b(?:requires|ensures)\b[^{]*\{.*?⌝ \}", re.S)
+CLAUSE = re.compile(r"^ *(?:requires|ensures)\b[^{]*\{", re.M)
+IMPORT = re.compile(r"^use ([\w:]+)::(?:(\w+)|\{([^}]*)\});", re.M)
 
 
 def crates(name):
     """The crate and all that it depends on."""
-    rows = dict(row.split(":", 1) for row in (ROOT / "crates.txt").read_text().splitlines() if row and row[0] != "#")
+    rows = [row.partition("#")[0].partition(":") for row in (ROOT / "crates.txt").read_text().splitlines()]
+    rows = {kind.split()[0]: uses for kind, _, uses in rows if kind.strip()}
     reached, open_ = set(), [name]
     while open_:
         crate = open_.pop()
@@ -37,9 +39,26 @@ def crates(name):
     return sorted(reached)
 
 
+def behind(text, at):
+    """The place behind the brace that closes the one right before `at`."""
+    depth = 1
+    while depth:
+        depth += {"{": 1, "}": -1}.get(text[at], 0)
+        at += 1
+    return at
+
+
 def bare(text):
     """The code without its comments and contracts."""
-    return COMMENT.sub(lambda found: "" if found[0].startswith("//") else " ", re.sub(r"//.*", "", text))
+    text = re.sub(r"//.*", "", text)
+    while clause := CLAUSE.search(text):
+        text = text[: clause.start()] + " " + text[behind(text, clause.end()) :]
+    return text
+
+
+def imported(text):
+    """The names that a file's code imports, each with the path in front of it."""
+    return {name: where for where, alone, names in IMPORT.findall(text) for name in re.findall(r"\w+", alone or names)}
 
 
 def functions(names):
@@ -49,11 +68,11 @@ def functions(names):
         for path in sorted((ROOT / "crates" / crate / "src").rglob("*.rt")):
             module = [crate] if path.stem == "lib" else [crate, path.stem]
             text = bare(path.read_text())
-            imports = re.findall(r"^use ([\w:]+)::(\w+);", text, re.M)
+            imports = imported(text)
             starts = list(FUNCTION.finditer(text))
             for start, end in zip(starts, [each.start() for each in starts[1:]] + [len(text)]):
                 header, _, body = text[start.start() : end].partition("{")
-                found["::".join([*module, start[1]])] = header, body, dict((name, where) for where, name in imports)
+                found["::".join([*module, start[1]])] = header, body, imports
     return found
 
 

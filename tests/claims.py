@@ -67,7 +67,7 @@ def missing(cells):
         for reference in re.findall(r"`([^`]+)`", cell):
             if found := place(reference):
                 before, good = found
-            elif re.fullmatch(r"[\w·′-]+(?:\.[\w-]+)*", reference) and before and reference not in WORDS:
+            elif re.fullmatch(r"[\w'-]+(?:\.[\w'-]+)*", reference) and before and reference not in WORDS:
                 good = there(reference, *before)
             else:
                 good = True  # a term, a path or a number, in words of its own
@@ -89,7 +89,7 @@ def edits_named(cells):
 
 
 LAW = re.compile(r"^ *(?:abbrev |unfoldable )?(?:pub )?[^\s:-][^\s:]* : ([^\n]*(?:\n {4,}[^\n]*)*)", re.M)
-IMPORT = re.compile(r"^use Rattle·(\w+)(?:·specs)?\.specs\.(\w+)\.\{([^}]*)\}", re.M)
+IMPORT = re.compile(r"^use Rattle\.(\w+)\.specs\.(\w+)\.\{([^}]*)\}", re.M)
 
 
 def imported(body):

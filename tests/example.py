@@ -1,7 +1,7 @@
 #!/usr/bin/env python3
 """Builds the examples in C and compares what they print with OpenSSL and with tests/reference/.
 
-usage: rt staticlib host && tests/example.py
+usage: tools/build host && tests/example.py
 """
 import itertools
 import os

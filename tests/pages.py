@@ -3,7 +3,7 @@
 its commands print what the page says; with the change that the page names it writes the reference's plain bundle, which is refused. The trial of docs/many-sets.md: its
 commands make the houses, a set for each of six, and the refusals that the page shows. Commands are run in a folder of their own.
 
-usage: tests/pages.py     needs target/bin/maker, walker and catalogue_list (rt check); ends with 1 where a page is wrong
+usage: tests/pages.py     needs target/bin/maker, walker and catalogue_list (tools/build); ends with 1 where a page is wrong
 """
 import contextlib
 import pathlib

@@ -11,6 +11,7 @@ import sys
 ROOT = pathlib.Path(__file__).resolve().parent.parent
 HEADING = "## Public functions that ask for something"
 FUNCTION = re.compile(r"^ *(?P<pub>pub )?(?P<c>extern \"C\" )?fn (?P<name>\w+)(?P<head>.*?)\{\}?$", re.M | re.S)
+PASSED_ON = re.compile(r"^pub use (?:crate::)?(\w+)::(\w+|\{[^}]*\});", re.M)
 
 
 def functions(path):
@@ -26,7 +27,7 @@ def asking(crate):
         return
     root = library.read_text()
     opened = set(re.findall(r"^pub mod (\w+);", root, re.M))
-    passed_on = set(re.findall(r"^pub use (?:crate::)?(\w+)::(\w+);", root, re.M))
+    passed_on = {(module, name) for module, names in PASSED_ON.findall(root) for name in re.findall(r"\w+", names)}
     for path in sorted(crate.glob("src/**/*.rt")):
         module = [] if path == library else list(path.relative_to(crate / "src").with_suffix("").parts)
         for public, for_c, name, asks in functions(path):

@@ -1,6 +1,6 @@
 /* An example bench: records a walk, and replays a record.
  *
- *     rt staticlib host
+ *     tools/build host
  *     cc -std=c99 -I include examples/c/bench.c target/staticlib/libhost.a -o bench
  *     ./bench record CIPHER SET BLOCK > RECORD
  *     ./bench replay CIPHER SET BLOCK RECORD

@@ -1,6 +1,6 @@
 /* An example of a house's list: the flash cells that a ticket rests on.
  *
- *     rt staticlib host
+ *     tools/build host
  *     cc -std=c99 -I include examples/c/cells.c target/staticlib/libhost.a -o cells
  *     ./cells CIPHER SET BLOCK > CELLS
  *

@@ -1,6 +1,6 @@
 /* An example host: enciphers a block by a table set, and reads it back by another.
  *
- *     rt staticlib host
+ *     tools/build host
  *     cc -std=c99 -I include examples/c/host.c target/staticlib/libhost.a -o host
  *     ./host KEY BUNDLE BLOCK
  *

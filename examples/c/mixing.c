@@ -1,6 +1,6 @@
 /* An example of a house's draw: the mixing matrices of a bundle, of blocks from the catalogue.
  *
- *     rt staticlib host
+ *     tools/build host
  *     cc -std=c99 -I include examples/c/mixing.c target/staticlib/libhost.a -o mixing
  *     ./mixing < /dev/urandom > MATRICES
  *

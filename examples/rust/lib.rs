@@ -1,6 +1,6 @@
 //! A safe wrapper, without crates, of Tazhikko's calls for C (`include/tazhikko.h`).
 //!
-//!     rt staticlib host
+//!     tools/build host
 //!     rustc --edition 2021 --crate-name tazhikko --crate-type rlib -L target/staticlib examples/rust/lib.rs
 //!
 //! Its tests: the same with `--test` in the place of `--crate-type rlib`, and then `./tazhikko`.
