@@ -69,7 +69,8 @@ pub columns_more : (nr count n : ℕ) (l d₀ d ys : List ℕ) → Parts count c
     → length ys ≡ length (cut d (n * column_words) (n * column_words + column_words))
     → ys ≡ column_inverse nr l n ++ drop column_words (cut d (n * column_words) (n * column_words + column_words))
     → Parts count column_words (column_inverse nr l) d₀ (put_mid (n * column_words) (n * column_words + column_words - n * column_words) d ys) (n + 1)
-columns_more nr count n l d₀ d ys g h kept e = parts_more g h kept (all_written _ (cut d (n * column_words) (n * column_words + column_words)) ys column_words e (part_lent g h).long)
+columns_more nr count n l d₀ d ys g h kept e =
+    parts_more g h kept (all_written _ (cut d (n * column_words) (n * column_words + column_words)) ys column_words e (part_lent g h).long)
 
 pub columns_long : ColumnsLong
 unfolding column_inverses

@@ -83,7 +83,8 @@ module _ (P : Parts) (nr : ℕ) (l : List ℕ) (s : Stage) (p : ℕ) (old basis 
       let some : 1 ≤ nr = subst (InRounds nr) e round in
       rw e (b ∙ stored_same 8 _ _ old (λ k h. entry_code P nr l p (2 ^ k) m some inverse.1))
 
-  pub based_first : (r n : ℕ) (part : List ℕ) (mix : ℕ → ℕ → ℕ) → P.coefficient ≡ mix → s ≡ First r → n ≡ column_number r p → n < column_matrices nr → part ≡ column_matrix_part nr l n
+  pub based_first : (r n : ℕ) (part : List ℕ) (mix : ℕ → ℕ → ℕ) → P.coefficient ≡ mix → s ≡ First r → n ≡ column_number r p → n < column_matrices nr
+      → part ≡ column_matrix_part nr l n
       → basis ≡ stored 8 (λ k. product 32 (matrix_of 4 part) (number 4 (λ t. mul (mix t (p % 4)) (2 ^ k)))) old
       → Based
   based_first r n part mix same e number small is b =

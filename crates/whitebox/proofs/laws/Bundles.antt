@@ -15,7 +15,8 @@ use Rattle.bits.proofs.laws.Encodings.{plain_permutation}
 use Rattle.matrices.specs.Matrices.{identity}
 use Rattle.matrices.proofs.laws.Stored.{matrix_of_fits}
 use Rattle.matrices.proofs.laws.Matrices.{identity_fits, identity_invertible}
-use Rattle.bundle.specs.Format.{encodings, byte_matrices, column_matrices, encoding_of, byte_matrix, column_matrix, byte_matrix_part, column_matrix_part, input_matrix_part, output_matrix_part}
+use Rattle.bundle.specs.Format.{encodings, byte_matrices, column_matrices, encoding_of, byte_matrix, column_matrix}
+use Rattle.bundle.specs.Format.{byte_matrix_part, column_matrix_part, input_matrix_part, output_matrix_part}
 use Rattle.bundle.proofs.laws.Parts.{at_bytes}
 use Rattle.judgement.specs.Judge.{judge}
 use Rattle.judgement.proofs.laws.Judgements.{accepted_sound}

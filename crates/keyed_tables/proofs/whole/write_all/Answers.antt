@@ -17,14 +17,21 @@ use Rattle.layout.proofs.laws.Rounds.{most_bytes}
 use Rattle.keyed_tables.proofs.laws.Set.{column_count, inverse_chosen, columns_lent, table_made, table_room, table_next, tables_all}
 use native.Mathlib.Omega.{arith}
 use Rattle.keyed_tables.proofs.whole.write_all.Goals as goal
+use Rattle.keyed_tables.proofs.whole.write_all.Goals.{After-place_of-place}
+
+-- the place of table n in a turn, whose part lies within the memory
+here : (c : After-place_of-place) → Stands c.args.rounds c.loop-n.n c.place_of-place.result
+here c = stands (omega arith) c.place_of-place.ensures
+
+room : (c : After-place_of-place) → c.place_of-place.result.offset + c.place_of-place.result.size ≤ length c.loop-n.memory
+room c = table_room _ refl refl c.requires.room c.loop-n.invariant (omega arith) _ c.place_of-place.ensures
 
 pub loop-n-init : goal.loop-n-init
 loop-n-init c = parts_at_none (first_offset _)
 
 pub overflow_add-e : goal.overflow_add-e
 overflow_add-e c =
-    let here : Stands c.args.rounds c.loop-n.n c.place_of-place.result = stands (omega arith) c.place_of-place.ensures in
-    omega (arith, here, tables_in_set c.args.rounds, most_bytes _ c.requires.sources.bundle.rounds)
+    omega (arith, here (goal.at.overflow_add-e c).After-place_of-place, tables_in_set c.args.rounds, most_bytes _ c.requires.sources.bundle.rounds)
 
 pub chosen-inverse-requires : goal.chosen-inverse-requires
 chosen-inverse-requires c =
@@ -33,31 +40,27 @@ chosen-inverse-requires c =
 
 pub slice_bounds-write-count : goal.slice_bounds-write-count
 slice_bounds-write-count c =
-    let room : c.place_of-place.result.offset + c.place_of-place.result.size ≤ length c.loop-n.memory = table_room _ refl refl c.requires.room c.loop-n.invariant (omega arith) _ c.place_of-place.ensures in
-    omega (arith, room)
+    omega (arith, room (goal.at.slice_bounds-write-count c).After-place_of-place)
 
 pub slice_bounds-write-start : goal.slice_bounds-write-start
 slice_bounds-write-start c =
-    let room : c.place_of-place.result.offset + c.place_of-place.result.size ≤ length c.loop-n.memory = table_room _ refl refl c.requires.room c.loop-n.invariant (omega arith) _ c.place_of-place.ensures in
-    omega (arith, room)
+    omega (arith, room (goal.at.slice_bounds-write-start c).After-place_of-place)
 
 pub slice_bounds-write-end : goal.slice_bounds-write-end
 slice_bounds-write-end c =
-    let room : c.place_of-place.result.offset + c.place_of-place.result.size ≤ length c.loop-n.memory = table_room _ refl refl c.requires.room c.loop-n.invariant (omega arith) _ c.place_of-place.ensures in
-    omega (arith, room)
+    omega (arith, room (goal.at.slice_bounds-write-end c).After-place_of-place)
 
 pub write-requires : goal.write-requires
 write-requires c =
-    let here : Stands c.args.rounds c.loop-n.n c.place_of-place.result = stands (omega arith) c.place_of-place.ensures in
-    let room : c.place_of-place.result.offset + c.place_of-place.result.size ≤ length c.loop-n.memory = table_room _ refl refl c.requires.room c.loop-n.invariant (omega arith) _ c.place_of-place.ensures in
     let p = c.requires in
-    let at = here in
+    let at = here (goal.at.write-requires c).After-place_of-place in
+    let within = room (goal.at.write-requires c).After-place_of-place in
     let e = c.place_of-place.ensures in
     let some : 1 ≤ c.args.rounds = omega (arith, p.sources.bundle.rounds) in
     let chosen = inverse_chosen _ _ _ e _ _ _ _ some (omega arith) p.columns p.input c.chosen-inverse.ensures in
     record {
       inverse = chosen;
-      table = record { stage = round_at _ _ _ e some (omega arith); index = at.index; size = length_cut _ _ _ room ∙ at.kind };
+      table = record { stage = round_at _ _ _ e some (omega arith); index = at.index; size = length_cut _ _ _ within ∙ at.kind };
       sources = p.sources;
     }
 

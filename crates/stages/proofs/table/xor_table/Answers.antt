@@ -8,6 +8,11 @@ use Rattle.stages.proofs.laws.Encodings.{encodings_permute}
 use Rattle.stages.proofs.laws.Xors.{Within, numbers_below, xor_within, xor_made}
 use native.Mathlib.Omega.{arith}
 use Rattle.stages.proofs.table.xor_table.Goals as goal
+use Rattle.stages.proofs.table.xor_table.Goals.{After-slice_known-1}
+
+-- every number is below that of the bundle's encodings
+fits : (c : After-slice_known-1) → Within most_encodings c.args.m c.args.first c.args.x
+fits c = xor_within most_encodings _ _ _ c.requires.width (omega (arith, c.requires.results, most_encodings_lem _ c.requires.bundle.rounds)) c.requires.index
 
 pub returns : goal.returns
 returns c =
@@ -25,55 +30,44 @@ write-requires c =
 
 pub overflow_mul-word : goal.overflow_mul-word
 overflow_mul-word c =
-    let fits : Within most_encodings c.args.m c.args.first c.args.x = xor_within most_encodings _ _ _ c.requires.width (omega (arith, c.requires.results, most_encodings_lem _ c.requires.bundle.rounds)) c.requires.index in
-    omega (arith, fits)
+    omega (arith, fits (goal.at.overflow_mul-word c).After-slice_known-1)
 
 pub overflow_add-result-2 : goal.overflow_add-result-2
 overflow_add-result-2 c =
-    let fits : Within most_encodings c.args.m c.args.first c.args.x = xor_within most_encodings _ _ _ c.requires.width (omega (arith, c.requires.results, most_encodings_lem _ c.requires.bundle.rounds)) c.requires.index in
-    omega (arith, fits)
+    omega (arith, fits (goal.at.overflow_add-result-2 c).After-slice_known-1)
 
 pub overflow_mul-word-2 : goal.overflow_mul-word-2
 overflow_mul-word-2 c =
-    let fits : Within most_encodings c.args.m c.args.first c.args.x = xor_within most_encodings _ _ _ c.requires.width (omega (arith, c.requires.results, most_encodings_lem _ c.requires.bundle.rounds)) c.requires.index in
-    omega (arith, fits)
+    omega (arith, fits (goal.at.overflow_mul-word-2 c).After-slice_known-1)
 
 pub overflow_add-first : goal.overflow_add-first
 overflow_add-first c =
-    let fits : Within most_encodings c.args.m c.args.first c.args.x = xor_within most_encodings _ _ _ c.requires.width (omega (arith, c.requires.results, most_encodings_lem _ c.requires.bundle.rounds)) c.requires.index in
-    omega (arith, fits)
+    omega (arith, fits (goal.at.overflow_add-first c).After-slice_known-1)
 
 pub overflow_add-first-2 : goal.overflow_add-first-2
 overflow_add-first-2 c =
-    let fits : Within most_encodings c.args.m c.args.first c.args.x = xor_within most_encodings _ _ _ c.requires.width (omega (arith, c.requires.results, most_encodings_lem _ c.requires.bundle.rounds)) c.requires.index in
-    omega (arith, fits)
+    omega (arith, fits (goal.at.overflow_add-first-2 c).After-slice_known-1)
 
 pub overflow_add-word : goal.overflow_add-word
 overflow_add-word c =
-    let fits : Within most_encodings c.args.m c.args.first c.args.x = xor_within most_encodings _ _ _ c.requires.width (omega (arith, c.requires.results, most_encodings_lem _ c.requires.bundle.rounds)) c.requires.index in
-    omega (arith, fits)
+    omega (arith, fits (goal.at.overflow_add-word c).After-slice_known-1)
 
 pub overflow_add-word-2 : goal.overflow_add-word-2
 overflow_add-word-2 c =
-    let fits : Within most_encodings c.args.m c.args.first c.args.x = xor_within most_encodings _ _ _ c.requires.width (omega (arith, c.requires.results, most_encodings_lem _ c.requires.bundle.rounds)) c.requires.index in
-    omega (arith, fits)
+    omega (arith, fits (goal.at.overflow_add-word-2 c).After-slice_known-1)
 
 pub overflow_mul-word-3 : goal.overflow_mul-word-3
 overflow_mul-word-3 c =
-    let fits : Within most_encodings c.args.m c.args.first c.args.x = xor_within most_encodings _ _ _ c.requires.width (omega (arith, c.requires.results, most_encodings_lem _ c.requires.bundle.rounds)) c.requires.index in
-    omega (arith, fits)
+    omega (arith, fits (goal.at.overflow_mul-word-3 c).After-slice_known-1)
 
 pub overflow_add-first-3 : goal.overflow_add-first-3
 overflow_add-first-3 c =
-    let fits : Within most_encodings c.args.m c.args.first c.args.x = xor_within most_encodings _ _ _ c.requires.width (omega (arith, c.requires.results, most_encodings_lem _ c.requires.bundle.rounds)) c.requires.index in
-    omega (arith, fits)
+    omega (arith, fits (goal.at.overflow_add-first-3 c).After-slice_known-1)
 
 pub overflow_add-first-4 : goal.overflow_add-first-4
 overflow_add-first-4 c =
-    let fits : Within most_encodings c.args.m c.args.first c.args.x = xor_within most_encodings _ _ _ c.requires.width (omega (arith, c.requires.results, most_encodings_lem _ c.requires.bundle.rounds)) c.requires.index in
-    omega (arith, fits)
+    omega (arith, fits (goal.at.overflow_add-first-4 c).After-slice_known-1)
 
 pub overflow_add-result : goal.overflow_add-result
 overflow_add-result c =
-    let fits : Within most_encodings c.args.m c.args.first c.args.x = xor_within most_encodings _ _ _ c.requires.width (omega (arith, c.requires.results, most_encodings_lem _ c.requires.bundle.rounds)) c.requires.index in
-    omega (arith, fits)
+    omega (arith, fits (goal.at.overflow_add-result c).After-slice_known-1)
