@@ -1,5 +1,5 @@
 -- A chain of calls in code: "each move or fetch gets the walk that the call before it handed back or left". What each call did is known by its
--- contract alone (Contracts.antt). Definitions, and the statement that a chain answers as `serve` of crate calls does; it is proved in
+-- contract alone (Promises.antt). Definitions, and the statement that a chain answers as `serve` of crate calls does; it is proved in
 -- proofs/laws/Chains.antt.
 use Rattle.std.specs.Prelude.{List, [], ◌∷◌, map, ◌≡◌, ℕ}
 use Rattle.answers.specs.Answers.{reply_of}

@@ -1,6 +1,6 @@
 -- THE PLACE THAT WAS READ, OF THE CODE (document 02, Ticket 2), for a reader. Crate calls states it of definitions, in its specs/PlaceRead.antt; here it is
 -- stated of a lookup that meets the contract of lookups::layer::lookup_in, which hands back offset and half, and of moves that meet the contracts of
--- src/walk.rt (Contracts.antt), which pass on the offset. Each statement is a type; proofs/laws/PlaceRead.antt proves them.
+-- src/walk.rt (Promises.antt), which pass on the offset. Each statement is a type; proofs/laws/PlaceRead.antt proves them.
 use Rattle.std.specs.Prelude.{List, ◌≡◌, ℕ, suc, ◌-◌, ◌<◌, length}
 use Rattle.answers.specs.declared.Answer.TheVariants.{Accepted}
 use Rattle.network.specs.Lookups.{state_at}

@@ -1,4 +1,4 @@
--- A whole walk in code: a start, one move to the last count and a fetch, each known by its contract alone (Contracts.antt). Definition, and the statement, which
+-- A whole walk in code: a start, one move to the last count and a fetch, each known by its contract alone (Promises.antt). Definition, and the statement, which
 -- proofs/laws/Whole.antt proves.
 use Rattle.std.specs.Prelude.{List, ◌≡◌, ℕ}
 use Rattle.answers.specs.declared.Answer.{Answer}

@@ -2,4 +2,3 @@
 // own; crate next_bit has the call.
 
 #![tactic(auto)]
-

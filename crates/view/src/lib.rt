@@ -1,6 +1,5 @@
-// A view of a bundle: the lent bytes with the five sections' starts, found once, and the parts that it serves by number. The borrow
-// checker covers no function over a struct that holds a reference, so the three functions here are thin and proved by hand; the work is
-// in the other files.
+// A view of a bundle: the lent bytes with the five sections' starts, found once, and the parts that it serves by number. The three
+// functions here, over a struct that holds a reference, are thin; the work is in the other files.
 
 #![tactic(auto)]
 

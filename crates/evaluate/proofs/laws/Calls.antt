@@ -145,6 +145,6 @@ module _ {nr count bytes : ℕ} (N : Sizes nr count bytes) (block : List ℕ) (w
   -- The block is left as the standing bytes.
   pub fetched : (left : List ℕ) → length block ≡ 16 → w.count ≡ count → left ≡ w.standing → Fetches nr block w Accepted left
   unfolding answer block_left
-  fetched left l n e =
+  fetched _ l n e =
       let j = count_right nr _ _ l (n ∙ sym N.all_lookups) in
       record { answer = j; block = e ∙ left_new _ _ block (sym j) }

@@ -25,7 +25,7 @@ use Rattle.answers.specs.declared.Refusal.TheVariants.{KeyLength, BundleLength, 
 use Rattle.answers.specs.declared.Refusal.TheVariants.{OutputMatrix, TableNumber, SetLength, BlockLength, Stop, Unfinished, RecordLength, CataloguePosition}
 use Rattle.answers.proofs.laws.Tests.{clash, not_false_true, by_test}
 use Rattle.answers.proofs.laws.Search.{by_refused_at, first_same, none_all, all_none, at_bad, bad_at}
-use Rattle.bundle.proofs.laws.Frame.{pair_good, right_good, length_good, range_good, pairs_all, framed, frame_accepted}
+use Rattle.bundle.proofs.laws.Frame.{pair_good, right_good, length_good, range_good, pairs_all, frame_accepted}
 use Rattle.bundle.proofs.laws.FreeBytes.{free_bytes}
 use Rattle.bundle.proofs.laws.Parts.{at_bytes, part_refused, part_behind, part_here, part_long}
 use Rattle.judgement.specs.Judge.{no_permutation, no_inverse, mixing_bad, encoding_bad, byte_matrix_bad, column_matrix_bad}

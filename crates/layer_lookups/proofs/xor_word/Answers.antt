@@ -9,6 +9,11 @@ use Rattle.lookups.proofs.laws.Words.{pair_ends}
 use Rattle.layer_lookups.proofs.laws.Turns.{turns_none, turns_more, turns_all, pair_asked, pair_made}
 use native.Mathlib.Omega.{arith}
 use Rattle.layer_lookups.proofs.xor_word.Goals as goal
+use Rattle.layer_lookups.proofs.xor_word.Goals.{In-loop-i}
+
+-- where the pair of tables of byte i ends
+ends : (c : In-loop-i) → c.args.from + c.word_in-word.result.tables + c.loop-i.i * 256 + 256 ≤ length c.args.set.now
+ends c = pair_ends c.requires.0 c.word_in-word.ensures c.loop-i.i c.loop-i-test.true c.args.set.now _ _ refl c.requires.1
 
 pub loop-i-init : goal.loop-i-init
 loop-i-init c =
@@ -16,9 +21,7 @@ loop-i-init c =
 
 pub xor_byte-last-requires : goal.xor_byte-last-requires
 xor_byte-last-requires c =
-    let ends : c.args.from + c.word_in-word.result.tables + c.loop-i.i * 256 + 256 ≤ length c.args.set.now =
-    pair_ends c.requires.0 c.word_in-word.ensures c.loop-i.i c.loop-i-test.true c.args.set.now _ _ refl c.requires.1 in
-    (omega (arith, c.word_in-word.ensures), omega (arith, c.word_in-word.ensures), pair_asked _ _ ends)
+    (omega (arith, c.word_in-word.ensures), omega (arith, c.word_in-word.ensures), pair_asked _ _ (ends (goal.at.xor_byte-last-requires c).In-loop-i))
 
 pub loop-i-preserved : goal.loop-i-preserved
 loop-i-preserved c =
@@ -36,39 +39,27 @@ overflow_add-start c =
 
 pub overflow_mul-high : goal.overflow_mul-high
 overflow_mul-high c =
-    let ends : c.args.from + c.word_in-word.result.tables + c.loop-i.i * 256 + 256 ≤ length c.args.set.now =
-    pair_ends c.requires.0 c.word_in-word.ensures c.loop-i.i c.loop-i-test.true c.args.set.now _ _ refl c.requires.1 in
-    omega (arith, ends)
+    omega (arith, ends (goal.at.overflow_mul-high c).In-loop-i)
 
 pub overflow_add-high : goal.overflow_add-high
 overflow_add-high c =
-    let ends : c.args.from + c.word_in-word.result.tables + c.loop-i.i * 256 + 256 ≤ length c.args.set.now =
-    pair_ends c.requires.0 c.word_in-word.ensures c.loop-i.i c.loop-i-test.true c.args.set.now _ _ refl c.requires.1 in
-    omega (arith, ends)
+    omega (arith, ends (goal.at.overflow_add-high c).In-loop-i)
 
 pub overflow_add-low : goal.overflow_add-low
 overflow_add-low c =
-    let ends : c.args.from + c.word_in-word.result.tables + c.loop-i.i * 256 + 256 ≤ length c.args.set.now =
-    pair_ends c.requires.0 c.word_in-word.ensures c.loop-i.i c.loop-i-test.true c.args.set.now _ _ refl c.requires.1 in
-    omega (arith, ends)
+    omega (arith, ends (goal.at.overflow_add-low c).In-loop-i)
 
 pub overflow_add-end : goal.overflow_add-end
 overflow_add-end c =
-    let ends : c.args.from + c.word_in-word.result.tables + c.loop-i.i * 256 + 256 ≤ length c.args.set.now =
-    pair_ends c.requires.0 c.word_in-word.ensures c.loop-i.i c.loop-i-test.true c.args.set.now _ _ refl c.requires.1 in
-    omega (arith, ends)
+    omega (arith, ends (goal.at.overflow_add-end c).In-loop-i)
 
 pub slice_bounds-xor_byte-end : goal.slice_bounds-xor_byte-end
 slice_bounds-xor_byte-end c =
-    let ends : c.args.from + c.word_in-word.result.tables + c.loop-i.i * 256 + 256 ≤ length c.args.set.now =
-    pair_ends c.requires.0 c.word_in-word.ensures c.loop-i.i c.loop-i-test.true c.args.set.now _ _ refl c.requires.1 in
-    omega (arith, ends)
+    omega (arith, ends (goal.at.slice_bounds-xor_byte-end c).In-loop-i)
 
 pub slice_bounds-xor_byte-end-in-loop-i : goal.slice_bounds-xor_byte-end-in-loop-i
 slice_bounds-xor_byte-end-in-loop-i c =
-    let ends : c.args.from + c.word_in-word.result.tables + c.loop-i.i * 256 + 256 ≤ length c.args.set.now =
-    pair_ends c.requires.0 c.word_in-word.ensures c.loop-i.i c.loop-i-test.true c.args.set.now _ _ refl c.requires.1 in
-    omega (arith, ends)
+    omega (arith, ends (goal.at.slice_bounds-xor_byte-end-in-loop-i c).In-loop-i)
 
 pub overflow_add-sum : goal.overflow_add-sum
 overflow_add-sum c =

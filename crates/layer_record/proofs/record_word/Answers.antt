@@ -9,6 +9,11 @@ use Rattle.lookups.proofs.laws.Words.{pair_ends}
 use Rattle.layer_record.proofs.laws.Turns.{pair_size, turns_none, part_inside, part_long, turns_more, turns_all, pair_recorded}
 use native.Mathlib.Omega.{arith}
 use Rattle.layer_record.proofs.record_word.Goals as goal
+use Rattle.layer_record.proofs.record_word.Goals.{In-loop-i}
+
+-- where the pair of tables of byte i ends
+ends : (c : In-loop-i) → c.args.from + c.word_in-word.result.tables + c.loop-i.i * 256 + 256 ≤ length c.args.set.now
+ends c = pair_ends c.requires.0 c.word_in-word.ensures c.loop-i.i c.loop-i-test.true c.args.set.now _ _ refl c.requires.1.room
 
 pub overflow_add-start : goal.overflow_add-start
 overflow_add-start c =
@@ -20,27 +25,19 @@ loop-i-init c =
 
 pub overflow_mul-at : goal.overflow_mul-at
 overflow_mul-at c =
-    let ends : c.args.from + c.word_in-word.result.tables + c.loop-i.i * 256 + 256 ≤ length c.args.set.now =
-    pair_ends c.requires.0 c.word_in-word.ensures c.loop-i.i c.loop-i-test.true c.args.set.now _ _ refl c.requires.1.room in
-    omega (arith, ends)
+    omega (arith, ends (goal.at.overflow_mul-at c).In-loop-i)
 
 pub overflow_add-to : goal.overflow_add-to
 overflow_add-to c =
-    let ends : c.args.from + c.word_in-word.result.tables + c.loop-i.i * 256 + 256 ≤ length c.args.set.now =
-    pair_ends c.requires.0 c.word_in-word.ensures c.loop-i.i c.loop-i-test.true c.args.set.now _ _ refl c.requires.1.room in
-    omega (arith, ends)
+    omega (arith, ends (goal.at.overflow_add-to c).In-loop-i)
 
 pub overflow_mul-i : goal.overflow_mul-i
 overflow_mul-i c =
-    let ends : c.args.from + c.word_in-word.result.tables + c.loop-i.i * 256 + 256 ≤ length c.args.set.now =
-    pair_ends c.requires.0 c.word_in-word.ensures c.loop-i.i c.loop-i-test.true c.args.set.now _ _ refl c.requires.1.room in
-    omega (arith, ends)
+    omega (arith, ends (goal.at.overflow_mul-i c).In-loop-i)
 
 pub overflow_add-start-in-loop-i : goal.overflow_add-start-in-loop-i
 overflow_add-start-in-loop-i c =
-    let ends : c.args.from + c.word_in-word.result.tables + c.loop-i.i * 256 + 256 ≤ length c.args.set.now =
-    pair_ends c.requires.0 c.word_in-word.ensures c.loop-i.i c.loop-i-test.true c.args.set.now _ _ refl c.requires.1.room in
-    omega (arith, ends)
+    omega (arith, ends (goal.at.overflow_add-start-in-loop-i c).In-loop-i)
 
 pub overflow_add-sum : goal.overflow_add-sum
 overflow_add-sum c =
@@ -57,12 +54,10 @@ slice_bounds-record_byte-end c =
 
 pub record_byte-requires : goal.record_byte-requires
 record_byte-requires c =
-    let ends : c.args.from + c.word_in-word.result.tables + c.loop-i.i * 256 + 256 ≤ length c.args.set.now =
-    pair_ends c.requires.0 c.word_in-word.ensures c.loop-i.i c.loop-i-test.true c.args.set.now _ _ refl c.requires.1.room in
     record {
       first = omega (arith, c.loop-i-test.true, c.word_in-word.ensures.behind, c.word_in-word.ensures.inside);
       second = omega (arith, c.loop-i-test.true, c.word_in-word.ensures.inside);
-      tables = ends;
+      tables = ends (goal.at.record_byte-requires c).In-loop-i;
       memory = part_long c.loop-i.invariant refl c.loop-i-test.true;
     }
 

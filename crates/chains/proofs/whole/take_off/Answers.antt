@@ -1,0 +1,20 @@
+-- `chains::whole::take_off` meets its contract: `decode_output` refuses (`not_uncoded` of `laws.Whole`), or `decipher` decides where the cipher is the
+-- forward one (`by_deciphering`) and `encipher` else (`by_enciphering`). The premises are the test of the cipher and what the two calls ensure.
+-- Assumes nothing.
+use mathlib.Core.Path.{refl}
+use Rattle.chains.proofs.laws.Whole.{not_uncoded, by_deciphering, by_enciphering}
+use Rattle.chains.proofs.whole.take_off.Goals as goal
+
+pub returns-in_default : goal.returns-in_default
+returns-in_default c =
+    search not_uncoded
+
+pub returns-then-cipher-eq0 : goal.returns-then-cipher-eq0
+returns-then-cipher-eq0 c =
+    by_deciphering _ _ _ _ _ refl c.decode_output-uncoded.ensures.answer _ (search) c.decode_output-uncoded.ensures.block c.decipher.ensures.answer (search)
+    c.decipher.ensures.block
+
+pub returns-else-cipher-eq0 : goal.returns-else-cipher-eq0
+returns-else-cipher-eq0 c =
+    by_enciphering _ _ _ _ _ refl c.decode_output-uncoded.ensures.answer _ (search) c.decode_output-uncoded.ensures.block c.encipher.ensures.answer (search)
+    c.encipher.ensures.block

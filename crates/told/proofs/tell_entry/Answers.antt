@@ -1,0 +1,15 @@
+-- `told::tell_entry`: of each entry the answer's number is returned, and behind the pointer is left the matrix, or what was there (`entry_told`
+-- and `entry_kept` of `laws.Entries`).
+-- Assumes nothing.
+use Rattle.told.proofs.laws.Entries.{entry_told, entry_kept}
+use Rattle.told.proofs.tell_entry.Goals as goal
+
+pub returns-in-Matrix : goal.returns-in-Matrix
+returns-in-Matrix c =
+    let done = entry_told _ c.entry_at.ensures.result _ (search) c.number.ensures in
+    record { answer = done.0; matrix = done.1 }
+
+pub returns-in-Refused : goal.returns-in-Refused
+returns-in-Refused c =
+    let done = entry_kept _ c.entry_at.ensures.result _ {why = c.in-Refused.r} (search) c.number-in-Refused.ensures in
+    record { answer = done.0; matrix = done.1 }
