@@ -31,7 +31,8 @@ unfolding matrix_line
 line_long v = refl
 
 -- ---- the statement
-line_rows : (v : ℕ) → let m = rows_of_number side v in matrix_line v ≡ hex_digit_ascii (at m 0) ∷ hex_digit_ascii (at m 1) ∷ hex_digit_ascii (at m 2) ∷ hex_digit_ascii (at m 3) ∷ 10 ∷ []
+line_rows : (v : ℕ) → let m = rows_of_number side v in
+    matrix_line v ≡ hex_digit_ascii (at m 0) ∷ hex_digit_ascii (at m 1) ∷ hex_digit_ascii (at m 2) ∷ hex_digit_ascii (at m 3) ∷ 10 ∷ []
 unfolding matrix_line group
 line_rows v =
     let m = rows_of_number side v in
