@@ -9,7 +9,8 @@ ghost use Rattle.rounds.specs.Rounds.{Rounds};
 ghost use Rattle.round.specs.Key.{rounds_of};
 
 use answers::Answer;
-use libc::STDOUT_FILENO;
+use std::io;
+use streams::stream::receive;
 
 // How many keys of 24 bytes, and of 32, the input begins with.
 const LONGER: usize = 54;
@@ -21,7 +22,7 @@ fn digit(n: u8) -> u8 {
 }
 
 // Writes up to 240 bytes in hex, and a newline: the round keys of 14 rounds have the most.
-fn show(bytes: &[u8])
+fn show(rt: &impl Print, bytes: &[u8]) -> io::Result<()>
     requires { length bytes.now ≤ 240 }
 {
     let mut line = [10u8; 481];
@@ -32,89 +33,99 @@ fn show(bytes: &[u8])
         i += 1;
     }
     let end = 2 * i + 1;
-    io::write_all(STDOUT_FILENO, &line[..end]);
+    rt.write_all(&line[..end])
 }
 
 // Writes an answer: done, or the cause and the number that is returned with it.
-fn tell(a: Answer) {
+fn tell(rt: &impl Print, a: Answer) -> io::Result<()> {
     if let Answer::Accepted = a {
-        io::write_all(STDOUT_FILENO, b"done\n");
-        return;
+        return print!(rt; "done\n");
     }
-    io::write_all(STDOUT_FILENO, b"refused ");
-    io::print_decimal(STDOUT_FILENO, answers::cause(a) as u64);
-    io::write_all(STDOUT_FILENO, b" ");
-    io::print_decimal(STDOUT_FILENO, answers::second(a) as u64);
-    io::write_all(STDOUT_FILENO, b"\n");
+    println!(rt; "refused {} {}", answers::cause(a), answers::second(a))
 }
 
 // The lines of one record with a key of so many words, which is lent room for its round keys.
-fn with_words(words: usize, key: &[u8], w: &mut [u8], block: [u8; 16])
+fn with_words(
+    rt: &impl Print,
+    words: usize,
+    key: &[u8],
+    w: &mut [u8],
+    block: [u8; 16],
+) -> io::Result<()>
     requires { (length key.now ≡ 4 * words) × (length w.old ≡ 16 * (rounds_of words + 1)) × Rounds (rounds_of words) }
 {
     round::key::expand(words, key, w);
-    show(w);
+    show(rt, w)?;
     let enciphered = aes::turns::cipher(words + 6, w, block);
-    show(&enciphered);
+    show(rt, &enciphered)?;
     let deciphered = aes::turns::inv_cipher(words + 6, w, block);
-    show(&deciphered);
+    show(rt, &deciphered)
 }
 
 // Reads and shows a record with a key of six words, and one with a key of eight.
-fn six_words() {
+fn six_words(rt: &(impl Input + Print + Eprint)) -> io::Result<()> {
     let mut key = [0u8; 24];
     let mut block = [0u8; 16];
-    io::read_full(0, &mut key);
-    io::read_full(0, &mut block);
+    let mut input = rt.reader();
+    receive(&mut input, rt, &mut key);
+    receive(&mut input, rt, &mut block);
     let mut w = [0u8; 208];
-    with_words(6, &key, &mut w, block);
+    with_words(rt, 6, &key, &mut w, block)
 }
 
-fn eight_words() {
+fn eight_words(rt: &(impl Input + Print + Eprint)) -> io::Result<()> {
     let mut key = [0u8; 32];
     let mut block = [0u8; 16];
-    io::read_full(0, &mut key);
-    io::read_full(0, &mut block);
+    let mut input = rt.reader();
+    receive(&mut input, rt, &mut key);
+    receive(&mut input, rt, &mut block);
     let mut w = [0u8; 240];
-    with_words(8, &key, &mut w, block);
+    with_words(rt, 8, &key, &mut w, block)
 }
 
 // The records with the longer keys.
-fn longer_keys() {
+fn longer_keys(rt: &(impl Input + Print + Eprint)) -> io::Result<()> {
     let mut n: usize = 0;
     while n < LONGER {
-        six_words();
-        eight_words();
+        six_words(rt)?;
+        eight_words(rt)?;
         n += 1;
     }
+    Ok(())
 }
 
 // The lines of one record with a key of four words, by the calls.
-fn vector(key: [u8; 16], block: [u8; 16]) {
+fn vector(rt: &impl Print, key: [u8; 16], block: [u8; 16]) -> io::Result<()> {
     let mut w = [0u8; 176];
     round::key::expand(4, &key, &mut w);
-    show(&w);
+    show(rt, &w)?;
     let mut enciphered = [0u8; 16];
     aes::encipher(&key, &block, &mut enciphered);
-    show(&enciphered);
+    show(rt, &enciphered)?;
     let mut deciphered = [0u8; 16];
     aes::decipher(&key, &block, &mut deciphered);
-    show(&deciphered);
+    show(rt, &deciphered)
 }
 
 // Both calls on the same key and block, each with a block of its own to write: the answer, and what is left in that
 // block.
-fn both(key: &[u8], block: &[u8], enciphered: &mut [u8], deciphered: &mut [u8])
+fn both(
+    rt: &impl Print,
+    key: &[u8],
+    block: &[u8],
+    enciphered: &mut [u8],
+    deciphered: &mut [u8],
+) -> io::Result<()>
     requires { (length enciphered.old ≤ 32) × (length deciphered.old ≤ 32) }
 {
-    tell(aes::encipher(key, block, enciphered));
-    show(enciphered);
-    tell(aes::decipher(key, block, deciphered));
-    show(deciphered);
+    tell(rt, aes::encipher(key, block, enciphered))?;
+    show(rt, enciphered)?;
+    tell(rt, aes::decipher(key, block, deciphered))?;
+    show(rt, deciphered)
 }
 
 // Both calls on a key and blocks of these lengths.
-fn attempt(key_len: usize, in_len: usize, out_len: usize)
+fn attempt(rt: &impl Print, key_len: usize, in_len: usize, out_len: usize) -> io::Result<()>
     requires { (key_len ≤ 32) × (in_len ≤ 32) × (out_len ≤ 32) }
 {
     let key = [1u8; 32];
@@ -122,47 +133,48 @@ fn attempt(key_len: usize, in_len: usize, out_len: usize)
     let mut enciphered = [3u8; 32];
     let mut deciphered = [4u8; 32];
     both(
+        rt,
         &key[..key_len],
         &block[..in_len],
         &mut enciphered[..out_len],
         &mut deciphered[..out_len],
-    );
+    )
 }
 
 // Lengths that are refused, one at a time and several at once.
-fn attempts() {
-    attempt(0, 16, 16);
-    attempt(15, 16, 16);
-    attempt(17, 16, 16);
-    attempt(24, 16, 16);
-    attempt(32, 16, 16);
-    attempt(16, 0, 16);
-    attempt(16, 15, 16);
-    attempt(16, 17, 16);
-    attempt(16, 16, 0);
-    attempt(16, 16, 15);
-    attempt(16, 16, 17);
-    attempt(16, 15, 17);
-    attempt(15, 15, 16);
-    attempt(17, 16, 0);
-    attempt(0, 0, 0);
-    attempt(16, 16, 16);
+fn attempts(rt: &impl Print) -> io::Result<()> {
+    attempt(rt, 0, 16, 16)?;
+    attempt(rt, 15, 16, 16)?;
+    attempt(rt, 17, 16, 16)?;
+    attempt(rt, 24, 16, 16)?;
+    attempt(rt, 32, 16, 16)?;
+    attempt(rt, 16, 0, 16)?;
+    attempt(rt, 16, 15, 16)?;
+    attempt(rt, 16, 17, 16)?;
+    attempt(rt, 16, 16, 0)?;
+    attempt(rt, 16, 16, 15)?;
+    attempt(rt, 16, 16, 17)?;
+    attempt(rt, 16, 15, 17)?;
+    attempt(rt, 15, 15, 16)?;
+    attempt(rt, 17, 16, 0)?;
+    attempt(rt, 0, 0, 0)?;
+    attempt(rt, 16, 16, 16)
 }
 
-fn main() {
-    longer_keys();
+fn main(rt: HostRuntime) -> io::Result<()> {
+    longer_keys(&rt)?;
     let mut records: usize = 0;
     while records < 1024 {
         let mut key = [0u8; 16];
         let mut block = [0u8; 16];
-        if io::read_full(0, &mut key) < 16 {
+        if receive(&mut rt.stdin(), &rt, &mut key) < 16 {
             break;
         }
-        if io::read_full(0, &mut block) < 16 {
+        if receive(&mut rt.stdin(), &rt, &mut block) < 16 {
             break;
         }
-        vector(key, block);
+        vector(&rt, key, block)?;
         records += 1;
     }
-    attempts();
+    attempts(&rt)
 }

@@ -8,39 +8,37 @@ use bits::encoding;
 use bundle::parts;
 use external::coding;
 use judgement::judge;
-use libc::{STDIN_FILENO, STDOUT_FILENO};
 use rounds::TEN;
+use std::io;
+use streams::stream::receive;
 use view::part::Part;
 
 // The cause and its second number; both are 0 where nothing is turned down.
-fn say(a: Answer) {
-    io::print_decimal(STDOUT_FILENO, cause(a) as u64);
-    io::write_all(STDOUT_FILENO, b" ");
-    io::print_decimal(STDOUT_FILENO, second(a) as u64);
-    io::write_all(STDOUT_FILENO, b"\n");
+fn say(rt: &impl Print, a: Answer) -> io::Result<()> {
+    println!(rt; "{} {}", cause(a), second(a))
 }
 
-fn show(b: &[u8]) {
+fn show(rt: &impl Print, b: &[u8]) -> io::Result<()> {
     let mut i = 0;
     while i < b.len() {
-        io::print_hex(STDOUT_FILENO, encoding::widened(b[i]) as u64, 2);
+        print!(rt; "{:02x}", encoding::widened(b[i]))?;
         i += 1;
     }
-    io::write_all(STDOUT_FILENO, b"\n");
+    print!(rt; "\n")
 }
 
 // The next n bytes of the input go to place a.
-fn patch(mem: &mut [u8], a: usize, n: usize) {
+fn patch(rt: &(impl Input + Eprint), mem: &mut [u8], a: usize, n: usize) {
     if a <= mem.len() {
         if n <= mem.len() - a {
             let e = a + n;
-            io::read_full(STDIN_FILENO, &mut mem[a..e]);
+            receive(&mut rt.reader(), rt, &mut mem[a..e]);
         }
     }
 }
 
-fn say_judgement(bundle: &[u8]) {
-    say(judge::judge_bundle(TEN, bundle));
+fn say_judgement(rt: &impl Print, bundle: &[u8]) -> io::Result<()> {
+    say(rt, judge::judge_bundle(TEN, bundle))
 }
 
 // What k and n name: encoding, byte matrix or column matrix n, or the input or output matrix; from 5 on, one of the first three with a
@@ -60,13 +58,13 @@ fn named(k: u8, n: usize) -> Part {
 }
 
 // The part that the bundle's call of its kind hands back.
-fn show_part(bundle: &[u8], p: Part) {
+fn show_part(rt: &impl Print, bundle: &[u8], p: Part) -> io::Result<()> {
     match p {
-        Part::Encoding(n) => show(parts::encoding_part(TEN, bundle, n)),
-        Part::ByteMatrix(n) => show(parts::byte_matrix_part(TEN, bundle, n)),
-        Part::ColumnMatrix(n) => show(parts::column_matrix_part(TEN, bundle, n)),
-        Part::InputMatrix => show(parts::input_matrix_part(TEN, bundle)),
-        Part::OutputMatrix => show(parts::output_matrix_part(TEN, bundle)),
+        Part::Encoding(n) => show(rt, parts::encoding_part(TEN, bundle, n)),
+        Part::ByteMatrix(n) => show(rt, parts::byte_matrix_part(TEN, bundle, n)),
+        Part::ColumnMatrix(n) => show(rt, parts::column_matrix_part(TEN, bundle, n)),
+        Part::InputMatrix => show(rt, parts::input_matrix_part(TEN, bundle)),
+        Part::OutputMatrix => show(rt, parts::output_matrix_part(TEN, bundle)),
     }
 }
 
@@ -79,47 +77,63 @@ fn called(bundle: &[u8], k: u8, block: &[u8], out: &mut [u8]) -> Answer {
     }
 }
 
-fn show_first(b: &[u8], n: usize) {
+fn show_first(rt: &impl Print, b: &[u8], n: usize) -> io::Result<()> {
     if n <= b.len() {
-        show(&b[0..n]);
+        show(rt, &b[0..n])?;
     }
+    Ok(())
 }
 
 // The call of number k, on the first bytes of both blocks.
-fn answer_call(bundle: &[u8], k: u8, block: &[u8], from: usize, out: &mut [u8], to: usize) {
+fn answer_call(
+    rt: &impl Print,
+    bundle: &[u8],
+    k: u8,
+    block: &[u8],
+    from: usize,
+    out: &mut [u8],
+    to: usize,
+) -> io::Result<()> {
     if block.len() < from {
-        return;
+        return Ok(());
     }
     if out.len() < to {
-        return;
+        return Ok(());
     }
-    say(called(bundle, k, &block[0..from], &mut out[0..to]));
-    show_first(out, to);
+    say(rt, called(bundle, k, &block[0..from], &mut out[0..to]))?;
+    show_first(rt, out, to)
 }
 
 // A block of n / 256 bytes, the next of the input, is coded or uncoded into one of n % 256 bytes.
-fn code(bundle: &[u8], k: u8, n: usize) {
+fn code(rt: &(impl Input + Print + Eprint), bundle: &[u8], k: u8, n: usize) -> io::Result<()> {
     let from = n / 256 % 256;
     let to = n % 256;
     let mut block = [0u8; 256];
     let mut out = [90u8; 256];
-    patch(&mut block, 0, from);
-    answer_call(bundle, k, &block, from, &mut out, to);
+    patch(rt, &mut block, 0, from);
+    answer_call(rt, bundle, k, &block, from, &mut out, to)
 }
 
-fn order(mem: &mut [u8], kind: u8, k: u8, a: usize, n: usize) {
+fn order(
+    rt: &(impl Input + Print + Eprint),
+    mem: &mut [u8],
+    kind: u8,
+    k: u8,
+    a: usize,
+    n: usize,
+) -> io::Result<()> {
     if kind == 0 {
-        patch(mem, a, n);
-        return;
+        patch(rt, mem, a, n);
+        return Ok(());
     }
     if mem.len() < a {
-        return;
+        return Ok(());
     }
     match kind {
-        1 => say_judgement(&mem[0..a]),
-        2 => show_part(&mem[0..a], named(k, n)),
-        3 => show(view::served(&mem[0..a], named(k, n))),
-        _ => code(&mem[0..a], k, n),
+        1 => say_judgement(rt, &mem[0..a]),
+        2 => show_part(rt, &mem[0..a], named(k, n)),
+        3 => show(rt, view::served(&mem[0..a], named(k, n))),
+        _ => code(rt, &mem[0..a], k, n),
     }
 }
 
@@ -128,33 +142,35 @@ fn three(a: u8, b: u8, c: u8) -> usize {
 }
 
 // One order; false at the end of the input.
-fn step(mem: &mut [u8]) -> bool {
+fn step(rt: &(impl Input + Print + Eprint), mem: &mut [u8]) -> io::Result<bool> {
     let mut h = [0u8; 8];
-    if io::read_full(STDIN_FILENO, &mut h) != 8 {
-        return false;
+    if receive(&mut rt.reader(), rt, &mut h) != 8 {
+        return Ok(false);
     }
     order(
+        rt,
         mem,
         h[0],
         h[1],
         three(h[2], h[3], h[4]),
         three(h[5], h[6], h[7]),
-    );
-    true
+    )?;
+    Ok(true)
 }
 
 // Order after order.
-fn run(mem: &mut [u8]) {
+fn run(rt: &(impl Input + Print + Eprint), mem: &mut [u8]) -> io::Result<()> {
     let mut i: usize = 0;
     while i < 10000 {
-        if !step(mem) {
-            return;
+        if !step(rt, mem)? {
+            return Ok(());
         }
         i += 1;
     }
+    Ok(())
 }
 
-fn main() {
+fn main(rt: HostRuntime) -> io::Result<()> {
     let mut mem = [0u8; 65537];
-    run(&mut mem);
+    run(&rt, &mut mem)
 }

@@ -12,9 +12,10 @@ use answers::{Answer, cause};
 use bits::encoding;
 use evaluate::walk::{Move, Walk, fetch, move_one, move_to, start};
 use layout::stage::{LOOKUPS, SET_BYTES, place_of};
-use libc::{STDIN_FILENO, STDOUT_FILENO};
 use passes::{Lookup, look_up_at};
 use rounds::TEN;
+use std::io;
+use streams::stream::receive;
 
 // The memory, unless the input gives another: a linear congruence, its upper bits a byte each.
 fn next(x: u64) -> u64 {
@@ -35,68 +36,61 @@ fn fill(set: &mut [u8]) {
     }
 }
 
-fn change(i: usize, x: u8) {
-    io::write_all(STDOUT_FILENO, b" ");
-    io::print_decimal(STDOUT_FILENO, i as u64);
-    io::write_all(STDOUT_FILENO, b":");
-    io::print_decimal(STDOUT_FILENO, encoding::widened(x) as u64);
+fn change(rt: &impl Print, i: usize, x: u8) -> io::Result<()> {
+    print!(rt; " {i}:{}", encoding::widened(x))
 }
 
 // The places where two lists of bytes differ, with the new byte.
-fn changes(old: &[u8], new: &[u8]) {
+fn changes(rt: &impl Print, old: &[u8], new: &[u8]) -> io::Result<()> {
     let mut i = 0;
     while i < new.len() {
         if i < old.len() {
             if old[i] != new[i] {
-                change(i, new[i]);
+                change(rt, i, new[i])?;
             }
         }
         i += 1;
     }
+    Ok(())
 }
 
 // The beginning of a call's line: the cause, the cipher and the count.
-fn report_head(answer: Answer, walk: Walk) {
-    io::print_decimal(STDOUT_FILENO, cause(answer) as u64);
-    io::write_all(STDOUT_FILENO, b" ");
-    io::print_decimal(STDOUT_FILENO, walk.cipher);
-    io::write_all(STDOUT_FILENO, b" ");
-    io::print_decimal(STDOUT_FILENO, walk.count as u64);
+fn report_head(rt: &impl Print, answer: Answer, walk: Walk) -> io::Result<()> {
+    print!(rt; "{} {} {}", cause(answer), walk.cipher, walk.count)
 }
 
 // Its end: all that the call changed in the walk.
-fn report_changes(old: Walk, new: Walk) {
+fn report_changes(rt: &impl Print, old: Walk, new: Walk) -> io::Result<()> {
     let s = old.standing;
     let t = new.standing;
-    changes(&s, &t);
-    io::write_all(STDOUT_FILENO, b" area");
+    changes(rt, &s, &t)?;
+    print!(rt; " area")?;
     let a = old.area;
     let b = new.area;
-    changes(&a, &b);
-    io::write_all(STDOUT_FILENO, b"\n");
+    changes(rt, &a, &b)?;
+    print!(rt; "\n")
 }
 
 // The line of a start or of a given walk.
-fn report(answer: Answer, old: Walk, new: Walk) {
-    report_head(answer, new);
-    report_changes(old, new);
+fn report(rt: &impl Print, answer: Answer, old: Walk, new: Walk) -> io::Result<()> {
+    report_head(rt, answer, new)?;
+    report_changes(rt, old, new)
 }
 
 // The line of a move, which has the offset too, behind the count. The walk that it hands back.
-fn report_move(old: Walk, m: Move) -> Walk {
+fn report_move(rt: &impl Print, old: Walk, m: Move) -> io::Result<Walk> {
     let answer = m.answer;
     let new = m.walk;
-    report_head(answer, new);
-    io::write_all(STDOUT_FILENO, b" ");
-    io::print_decimal(STDOUT_FILENO, m.offset as u64);
-    report_changes(old, new);
-    new
+    report_head(rt, answer, new)?;
+    print!(rt; " {}", m.offset)?;
+    report_changes(rt, old, new)?;
+    Ok(new)
 }
 
 // The next n bytes of the input.
-fn take(b: &mut [u8], n: usize) {
+fn take(rt: &(impl Input + Eprint), b: &mut [u8], n: usize) {
     if n <= b.len() {
-        io::read_full(STDIN_FILENO, &mut b[0..n]);
+        receive(&mut rt.reader(), rt, &mut b[0..n]);
     }
 }
 
@@ -113,49 +107,56 @@ fn four(a: u8, b: u8, c: u8, d: u8) -> usize
 }
 
 // The number of a cipher, the next 8 bytes of the input: any number of 64 bits.
-fn cipher_read() -> u64 {
+fn cipher_read(rt: &(impl Input + Eprint)) -> u64 {
     let mut b = [0u8; 8];
-    io::read_full(STDIN_FILENO, &mut b);
+    receive(&mut rt.reader(), rt, &mut b);
     let high = four(b[0], b[1], b[2], b[3]);
     let low = four(b[4], b[5], b[6], b[7]);
     (high * 4294967296 + low) as u64
 }
 
 // Starts over the first k bytes.
-fn start_over(walk: Walk, cipher: u64, block: &[u8], k: usize) -> Walk {
+fn start_over(
+    rt: &impl Print,
+    walk: Walk,
+    cipher: u64,
+    block: &[u8],
+    k: usize,
+) -> io::Result<Walk> {
     if block.len() < k {
-        return walk;
+        return Ok(walk);
     }
     let o = start(cipher, &block[0..k]);
     let answer = o.answer;
     let w = o.walk;
-    report(answer, walk, w);
-    w
+    report(rt, answer, walk, w)?;
+    Ok(w)
 }
 
 // Starts for a cipher over a block of k bytes, the next of the input.
-fn started(walk: Walk, k: usize) -> Walk {
-    let cipher = cipher_read();
+fn started(rt: &(impl Input + Print + Eprint), walk: Walk, k: usize) -> io::Result<Walk> {
+    let cipher = cipher_read(rt);
     let mut block = [0u8; 256];
-    take(&mut block, k);
-    start_over(walk, cipher, &block, k)
+    take(rt, &mut block, k);
+    start_over(rt, walk, cipher, &block, k)
 }
 
 // A walk of any content: the next bytes of the input.
-fn given(walk: Walk, k: usize, n: usize) -> Walk {
-    let cipher = cipher_read();
+fn given(rt: &(impl Input + Print + Eprint), walk: Walk, k: usize, n: usize) -> io::Result<Walk> {
+    let cipher = cipher_read(rt);
     let mut standing = [0u8; 16];
     let mut area = [0u8; 256];
-    io::read_full(STDIN_FILENO, &mut standing);
-    io::read_full(STDIN_FILENO, &mut area);
+    let mut input = rt.reader();
+    receive(&mut input, rt, &mut standing);
+    receive(&mut input, rt, &mut area);
     let w = Walk {
         cipher: cipher,
         count: far(k, n),
         standing: standing,
         area: area,
     };
-    report(Answer::Accepted, walk, w);
-    w
+    report(rt, Answer::Accepted, walk, w)?;
+    Ok(w)
 }
 
 // The number n, or for k = 1 one near 2^64.
@@ -167,121 +168,125 @@ fn far(k: usize, n: usize) -> usize {
 }
 
 // A move over memory of a set's length and k - 2 more bytes.
-fn long_move(walk: Walk, mem: &[u8], k: usize, stop: usize) -> Walk {
+fn long_move(rt: &impl Print, walk: Walk, mem: &[u8], k: usize, stop: usize) -> io::Result<Walk> {
     if 3 < k {
-        return walk;
+        return Ok(walk);
     }
     let n = SET_BYTES - 2 + k;
     if mem.len() < n {
-        return walk;
+        return Ok(walk);
     }
-    report_move(walk, move_to(walk, &mem[0..n], stop))
+    report_move(rt, walk, move_to(walk, &mem[0..n], stop))
 }
 
 // A move of one lookup with a table of its length and k - 2 more bytes.
-fn one(walk: Walk, mem: &[u8], k: usize) -> Walk {
+fn one(rt: &impl Print, walk: Walk, mem: &[u8], k: usize) -> io::Result<Walk> {
     let p = place_of(TEN, walk.count);
     let from = p.offset;
     if 3 < k {
-        return walk;
+        return Ok(walk);
     }
     if mem.len() < from {
-        return walk;
+        return Ok(walk);
     }
     if 4096 < p.size {
-        return walk;
+        return Ok(walk);
     }
     let n = p.size + k;
     if n < 2 {
-        return walk;
+        return Ok(walk);
     }
     if mem.len() - from < n - 2 {
-        return walk;
+        return Ok(walk);
     }
     let to = from + (n - 2);
-    report_move(walk, move_one(walk, &mem[from..to]))
+    report_move(rt, walk, move_one(walk, &mem[from..to]))
 }
 
 // The line of a lookup alone: the offset and the half of the entry that it read.
-fn report_place(read: Lookup) {
-    io::print_decimal(STDOUT_FILENO, read.offset as u64);
-    io::write_all(STDOUT_FILENO, b" ");
-    io::print_decimal(STDOUT_FILENO, read.half as u64);
-    io::write_all(STDOUT_FILENO, b"\n");
+fn report_place(rt: &impl Print, read: Lookup) -> io::Result<()> {
+    println!(rt; "{} {}", read.offset, read.half)
 }
 
 // One lookup alone, over the table of the walk's count: a move passes on the offset only, and hides the half. Past the
 // last lookup nothing is done.
-fn looked_up(walk: Walk, mem: &[u8]) -> Walk {
+fn looked_up(rt: &impl Print, walk: Walk, mem: &[u8]) -> io::Result<Walk> {
     let n = walk.count;
     if n >= LOOKUPS {
-        return walk;
+        return Ok(walk);
     }
     if mem.len() < SET_BYTES {
-        return walk;
+        return Ok(walk);
     }
     let p = place_of(TEN, n);
     let cipher = walk.cipher;
     let mut standing = walk.standing;
     let mut area = walk.area;
     let read = look_up_at(cipher, &mut standing, &mut area, mem, p);
-    report_place(read);
+    report_place(rt, read)?;
     let count = n + 1;
-    Walk {
+    Ok(Walk {
         cipher: cipher,
         count: count,
         standing: standing,
         area: area,
-    }
+    })
 }
 
 // Fetches into the first k bytes.
-fn fetch_into(walk: Walk, block: &mut [u8], k: usize) {
+fn fetch_into(rt: &impl Print, walk: Walk, block: &mut [u8], k: usize) -> io::Result<()> {
     if block.len() < k {
-        return;
+        return Ok(());
     }
     let f = fetch(walk, &mut block[0..k]);
-    io::print_decimal(STDOUT_FILENO, cause(f) as u64);
+    print!(rt; "{}", cause(f))
 }
 
 // Fetches into k bytes, and writes all that changed in and behind them.
-fn fetched(walk: Walk, k: usize) {
+fn fetched(rt: &impl Print, walk: Walk, k: usize) -> io::Result<()> {
     let old = [90u8; 256];
     let mut block = [90u8; 256];
-    fetch_into(walk, &mut block, k);
-    changes(&old, &block);
-    io::write_all(STDOUT_FILENO, b"\n");
+    fetch_into(rt, walk, &mut block, k)?;
+    changes(rt, &old, &block)?;
+    print!(rt; "\n")
 }
 
 // Stop by stop.
-fn every(walk: Walk, mem: &[u8]) -> Walk {
+fn every(rt: &impl Print, walk: Walk, mem: &[u8]) -> io::Result<Walk> {
     let mut w = walk;
     let mut stop: usize = 0;
     while stop <= LOOKUPS {
-        w = long_move(w, mem, 2, stop);
+        w = long_move(rt, w, mem, 2, stop)?;
         stop += 1;
     }
-    w
+    Ok(w)
 }
 
-fn order(walk: Walk, mem: &mut [u8], kind: u8, k: usize, n: usize) -> Walk {
+fn order(
+    rt: &(impl Input + Print + Eprint),
+    walk: Walk,
+    mem: &mut [u8],
+    kind: u8,
+    k: usize,
+    n: usize,
+) -> io::Result<Walk> {
     match kind {
-        0 => started(walk, k),
-        1 => given(walk, k, n),
-        2 => long_move(walk, mem, k, n),
-        3 => long_move(walk, mem, k, far(1, n)),
-        4 => one(walk, mem, k),
+        0 => started(rt, walk, k),
+        1 => given(rt, walk, k, n),
+        2 => long_move(rt, walk, mem, k, n),
+        3 => long_move(rt, walk, mem, k, far(1, n)),
+        4 => one(rt, walk, mem, k),
         5 => {
-            fetched(walk, k);
-            walk
+            fetched(rt, walk, k)?;
+            Ok(walk)
         }
-        6 => every(walk, mem),
-        7 => looked_up(walk, mem),
+        6 => every(rt, walk, mem),
+        7 => looked_up(rt, walk, mem),
         8 => {
-            take(mem, n);
-            walk
+            take(rt, mem, n);
+            Ok(walk)
         }
-        _ => walk,
+        _ => Ok(walk),
     }
 }
 
@@ -289,7 +294,7 @@ fn order(walk: Walk, mem: &mut [u8], kind: u8, k: usize, n: usize) -> Walk {
 const MOST_ORDERS: usize = 100000;
 
 // Order after order, to the end of the input.
-fn run(mem: &mut [u8]) {
+fn run(rt: &(impl Input + Print + Eprint), mem: &mut [u8]) -> io::Result<()> {
     let mut walk = Walk {
         cipher: 0,
         count: 0,
@@ -299,21 +304,22 @@ fn run(mem: &mut [u8]) {
     let mut h = [0u8; 8];
     let mut left = MOST_ORDERS;
     while 0 < left {
-        if io::read_full(STDIN_FILENO, &mut h) != 8 {
-            return;
+        if receive(&mut rt.reader(), rt, &mut h) != 8 {
+            return Ok(());
         }
         let n = three(h[2], h[3], h[4]) * 16777216 + three(h[5], h[6], h[7]);
-        walk = order(walk, mem, h[0], encoding::widened(h[1]), n);
+        walk = order(rt, walk, mem, h[0], encoding::widened(h[1]), n)?;
         left -= 1;
     }
+    Ok(())
 }
 
-fn work(mem: &mut [u8; SET_BYTES + 1]) {
+fn work(rt: &(impl Input + Print + Eprint), mem: &mut [u8; SET_BYTES + 1]) -> io::Result<()> {
     fill(mem);
-    run(mem);
+    run(rt, mem)
 }
 
-fn main() {
+fn main(rt: HostRuntime) -> io::Result<()> {
     let mut mem = [0u8; SET_BYTES + 1];
-    work(&mut mem);
+    work(&rt, &mut mem)
 }
