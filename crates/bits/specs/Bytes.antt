@@ -24,8 +24,8 @@ byte n i v = group 8 n i v
 abbrev pub number_of : ℕ → List ℕ → ℕ
 number_of n l = number n (at l)
 
-unfoldable pub number_at_of : List ℕ → ℕ → ℕ
-number_at_of l a = number 4 (λ j. at l (a + j))
+unfoldable pub number_at : List ℕ → ℕ → ℕ
+number_at l a = number 4 (λ j. at l (a + j))
 
 unfoldable pub bytes_of : ℕ → ℕ → List ℕ
 bytes_of n v = tabulate n (λ i. byte n i v)

@@ -1,6 +1,6 @@
 // What is read out of a slice of bytes: a part by number, and the number that four bytes write.
 ghost use Rattle.std.specs.Prelude.{◌≡◌, ◌+◌, ◌<◌, ◌≤◌, length};
-ghost use Rattle.bits.specs.Bytes.{number_at_of};
+ghost use Rattle.bits.specs.Bytes.{number_at};
 ghost use Rattle.bits.specs.Lists.{part_of};
 
 use crate::vector;
@@ -28,7 +28,7 @@ pub fn part<'a>(s: &'a [u8], size: usize, n: usize) -> &'a [u8]
 // The number that four bytes write, from place a on.
 pub fn number_at(s: &[u8], a: usize) -> usize
     requires { a + 4 ≤ length s.now }
-    ensures { (result ≡ number_at_of s.now a) × (result < 4294967296) }
+    ensures { (result ≡ number_at s.now a) × (result < 4294967296) }
 {
     let v = vector::read(s, a, 4);
     let n = v.lo;

@@ -6,7 +6,7 @@ use Rattle.answers.specs.Answers.{refused_if, and_then, if_accepted}
 use Rattle.answers.specs.declared.Answer.{Answer}
 use Rattle.answers.specs.declared.Refusal.TheVariants.{BundleLength, Pair}
 use Rattle.answers.specs.Search.{first, refused_at}
-use Rattle.bits.specs.Bytes.{number_at_of}
+use Rattle.bits.specs.Bytes.{number_at}
 use Rattle.bits.specs.Encodings.{images_of}
 use Rattle.bits.specs.Lists.{part_of}
 use Rattle.matrices.specs.Matrices.{matrix_of}
@@ -60,10 +60,10 @@ longest nr = cond (known nr) (cond (eqb nr 10) 65536 131072) 0
 -- ---- pairs
 -- "five pairs of offset and length, each number 4 bytes, most significant first": the two of pair i.
 abbrev pub offset : List ℕ → ℕ → ℕ
-offset l i = number_at_of l (8 * i)
+offset l i = number_at l (8 * i)
 
 abbrev pub stated : List ℕ → ℕ → ℕ
-stated l i = number_at_of l (8 * i + 4)
+stated l i = number_at l (8 * i + 4)
 
 -- "A section starts at or after byte 40 and the end of the section before it": what section i has to start behind. Up to the first
 -- bad pair the end of a section is behind byte 40 too.

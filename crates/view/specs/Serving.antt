@@ -6,11 +6,11 @@ use Rattle.answers.specs.declared.Answer.TheVariants.{Refused}
 use Rattle.answers.specs.declared.Refusal.{Refusal}
 use Rattle.view.specs.declared.part.Part.{Part}
 use Rattle.view.specs.declared.starts.Starts.{Starts}
-use Rattle.view.specs.Views.{view_of_of, starts_in, served_by, part_in}
+use Rattle.view.specs.Views.{view_of, starts_in, served_by, part_in}
 
 -- The view of a bundle serves the bundle's parts.
 abbrev pub Serves : Type 0
-Serves = (b : Bor (List ℕ)) (p : Part) → served_by (view_of_of b) p ≡ part_in 10 b.now p
+Serves = (b : Bor (List ℕ)) (p : Part) → served_by (view_of b) p ≡ part_in 10 b.now p
 
 abbrev pub no_starts : Starts
 no_starts = record { encodings = 0; bytes = 0; columns = 0; input = 0; output = 0 }
@@ -18,4 +18,4 @@ no_starts = record { encodings = 0; bytes = 0; columns = 0; input = 0; output = 
 -- "over a bundle with cause 2 or 3 its starts are 0 and its parts empty".
 abbrev pub EmptyOver : Type 0
 EmptyOver = (b : Bor (List ℕ)) (r : Refusal) → frame 10 b.now ≡ Refused r
-    → (starts_in (view_of_of b) ≡ no_starts) × ((p : Part) → served_by (view_of_of b) p ≡ [])
+    → (starts_in (view_of b) ≡ no_starts) × ((p : Part) → served_by (view_of b) p ≡ [])

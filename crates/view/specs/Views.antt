@@ -47,8 +47,8 @@ part_from nr l t OutputMatrix = numbered_from nr l 4 t.output 0
 
 -- ---- views
 -- The view of a lent bundle.
-unfoldable pub view_of_of : Bor (List ℕ) → View
-view_of_of b =
+unfoldable pub view_of : Bor (List ℕ) → View
+view_of b =
     let t = starts_of 10 b.now in
     record {
       bundle = b;

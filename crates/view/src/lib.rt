@@ -4,7 +4,7 @@
 #![tactic(auto)]
 
 ghost use Rattle.std.specs.Prelude.{◌≡◌};
-ghost use Rattle.view.specs.Views.{view_of_of, served_by, part_in};
+ghost use Rattle.view.specs.Views.{view_of, served_by, part_in};
 
 pub mod found;
 pub mod part;
@@ -26,7 +26,7 @@ pub struct View<'a> {
 
 // The view of a bundle; its starts are 0 over a bundle with cause 2 or 3.
 pub fn view_of<'a>(bundle: &'a [u8]) -> View<'a>
-    ensures { result ≡ view_of_of bundle.entry }
+    ensures { result ≡ view_of bundle.entry }
 {
     let s = starts::starts_of(bundle);
     View {

@@ -8,7 +8,7 @@ use native.Mathlib.Omega.{arith}
 use lib.Dec.{lit<}
 use lib.ListN.{length}
 use lib.Pow.{pow-add}
-use Rattle.bits.specs.Bytes.{Bytes, Block, byte, number, number_of, number_at_of, bytes_of, placed}
+use Rattle.bits.specs.Bytes.{Bytes, Block, byte, number, number_of, number_at, bytes_of, placed}
 use Rattle.bits.specs.Groups.{group, xor_all}
 use Rattle.bits.specs.Lists.{at}
 use Rattle.bits.specs.Words.{wide}
@@ -31,8 +31,8 @@ pub number_of_lt : (n : ℕ) (l : List ℕ) → Bytes l → number_of n l < 2 ^ 
 number_of_lt n l b = joined_lt 8 n (at l) (λ i h. b i)
 
 -- The number of four bytes lies in the low of two words.
-pub low_word : (l : List ℕ) (a hi lo : ℕ) → Bytes l → wide hi lo ≡ number 4 (λ j. at l (a + j)) → (lo ≡ number_at_of l a) × (lo < 4294967296)
-unfolding wide number_at_of
+pub low_word : (l : List ℕ) (a hi lo : ℕ) → Bytes l → wide hi lo ≡ number 4 (λ j. at l (a + j)) → (lo ≡ number_at l a) × (lo < 4294967296)
+unfolding wide number_at
 low_word l a hi lo b e =
     let n : number 4 (λ j. at l (a + j)) < 4294967296 = joined_lt 8 4 (λ j. at l (a + j)) (λ i h. b (a + i)) in
     (omega arith, omega arith)

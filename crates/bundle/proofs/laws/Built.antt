@@ -8,7 +8,7 @@ use native.Mathlib.Omega.{arith}
 use lib.Dec.{lit<}
 use lib.ListN.{length, take, drop, length-append, get_or-append}
 use lib.Seq.{drop_at, drop-drop, get_or-append-add}
-use Rattle.bits.specs.Bytes.{Bytes, number_at_of, bytes_of}
+use Rattle.bits.specs.Bytes.{Bytes, number_at, bytes_of}
 use Rattle.bits.specs.Encodings.{images_of, encoding_bytes, plain_encoding}
 use Rattle.bits.specs.Groups.{group}
 use Rattle.bits.specs.Lists.{at, tabulate, concat, part_of}
@@ -99,7 +99,7 @@ module _ (nr : ℕ) (E B C : ℕ → List ℕ) (I O : List ℕ) where
     in_word = omega (arith, longest_small nr)
 
     offset_is : (i : ℕ) → i < 5 → offset l i ≡ built_offset nr i
-    unfolding number_at_of pair_bytes
+    unfolding number_at pair_bytes
     offset_is i h =
         let o = built_offset nr i in
         joined_same 8 4 _ _ (λ j k.
@@ -109,7 +109,7 @@ module _ (nr : ℕ) (E B C : ℕ → List ℕ) (I O : List ℕ) where
         ∙ joined_group 8 4 o (omega (arith, in_word, small i h))
 
     stated_is : (i : ℕ) → i < 5 → stated l i ≡ section_length nr i
-    unfolding number_at_of pair_bytes
+    unfolding number_at pair_bytes
     stated_is i h =
         let o = bytes_of 4 (built_offset nr i) in
         let n = section_length nr i in

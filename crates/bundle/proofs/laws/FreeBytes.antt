@@ -9,7 +9,7 @@ use native.Mathlib.Omega.{arith}
 use lib.Dec.{ltb}
 use lib.ListN.{take, drop}
 use lib.Seq.{get_or-take}
-use Rattle.bits.specs.Bytes.{number_at_of}
+use Rattle.bits.specs.Bytes.{number_at}
 use Rattle.bits.specs.Lists.{at, part_of}
 use Rattle.bits.proofs.laws.Groups.{joined_same}
 use Rattle.bundle.specs.Format.{shortest, longest, offset, stated, end_before, pair_bad, length_bad}
@@ -29,8 +29,8 @@ module _ (nr : ℕ) (l l' : List ℕ) (agree : SameButFree nr l l') where
   byte_same : (i : ℕ) → i < 40 → at l i ≡ at l' i
   byte_same i h = sym (get_or-take 40 l i 0 h) ∙ ap (λ (x : List ℕ). at x i) agree.pairs ∙ get_or-take 40 l' i 0 h
 
-  number_same : (a : ℕ) → a + 4 ≤ 40 → number_at_of l a ≡ number_at_of l' a
-  unfolding number_at_of
+  number_same : (a : ℕ) → a + 4 ≤ 40 → number_at l a ≡ number_at l' a
+  unfolding number_at
   number_same a h = joined_same 8 4 _ _ (λ j b. byte_same (a + j) (omega arith))
 
   offset_same : (i : ℕ) → i < 5 → offset l i ≡ offset l' i

@@ -11,7 +11,7 @@ use Rattle.answers.specs.declared.Answer.TheVariants.{Accepted, Refused}
 use Rattle.answers.specs.declared.Refusal.{Refusal}
 use Rattle.bundle.proofs.laws.Frame.{framed, section_is, section_none, section_fits, apart}
 use Rattle.bundle.proofs.laws.Parts.{part_refused}
-use Rattle.view.specs.Views.{start_of, starts_of, section_from, numbered_from, part_from, view_of_of, part_in}
+use Rattle.view.specs.Views.{start_of, starts_of, section_from, numbered_from, part_from, view_of, part_in}
 use Rattle.view.specs.Serving.{Serves, EmptyOver}
 use Rattle.view.specs.declared.part.Part.{Part}
 use Rattle.view.specs.declared.part.Part.TheVariants.{Encoding, ByteMatrix, ColumnMatrix, InputMatrix, OutputMatrix}
@@ -57,7 +57,7 @@ module _ (nr : ℕ) (l : List ℕ) {t : Starts} (e : t ≡ starts_of nr l) {r : 
   part_found p q = q ∙ ap (λ (u : Starts). part_from nr l u p) e ∙ by_starts nr l p
 
 pub serves : Serves
-unfolding view_of_of starts_of
+unfolding view_of starts_of
 serves b p = by_starts 10 b.now p
 
 none_in : (l : List ℕ) (r : Refusal) → frame 10 l ≡ Refused r → (p : Part) → part_in 10 l p ≡ []
@@ -68,5 +68,5 @@ none_in l r e InputMatrix = part_refused 10 l 3 0 r e
 none_in l r e OutputMatrix = part_refused 10 l 4 0 r e
 
 pub empty_over : EmptyOver
-unfolding view_of_of
+unfolding view_of
 empty_over b r e = (sym (starts_none 10 b.now refl e), λ p. serves b p ∙ none_in b.now r e p)

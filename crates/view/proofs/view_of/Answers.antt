@@ -5,7 +5,7 @@ use mathlib.Core.List.{List}
 use mathlib.Core.Path.{ap}
 use Prim.Native.Nat.{ℕ}
 use Rattle.std.proofs.Common.{Bor}
-use Rattle.view.specs.Views.{view_of_of}
+use Rattle.view.specs.Views.{view_of}
 use Rattle.view.specs.declared.View.{View}
 use Rattle.view.specs.declared.starts.Starts.{Starts}
 use Rattle.view.proofs.view_of.Goals as goal
@@ -15,5 +15,5 @@ abbrev made : Bor (List ℕ) → Starts → View
 made b t = record { bundle = b; encodings = t.encodings; bytes = t.bytes; columns = t.columns; input = t.input; output = t.output }
 
 pub returns : goal.returns
-unfolding view_of_of
+unfolding view_of
 returns c = ap (made c.args.bundle) c.starts_of-s.ensures

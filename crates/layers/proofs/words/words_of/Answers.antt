@@ -4,14 +4,14 @@
 -- Assumes nothing.
 use Rattle.bits.proofs.laws.Filled.{filled_none, filled_more, filled_all}
 use Rattle.matrices.specs.Matrices.{matrix_of}
-use Rattle.bits.specs.Bytes.{number_at_of}
+use Rattle.bits.specs.Bytes.{number_at}
 use Rattle.layers.proofs.words.words_of.Goals as goal
 
 pub loop-i-init : goal.loop-i-init
 loop-i-init c = search filled_none
 
 pub loop-i-preserved : goal.loop-i-preserved
-unfolding number_at_of
+unfolding number_at
 loop-i-preserved c =
     filled_more c.loop-i.invariant c.loop-i-test.true c.number_at.ensures.0
 
