@@ -21,13 +21,9 @@ kernel_table =
 right_kernel : ℕ → ℕ → Bool
 right_kernel row k = eqb k (kernel_of row)
 
-kernel_at : (row : ℕ) → row < vectors → at kernel_table row ≡ kernel_of row
-unfolding kernel_table right_kernel kernel_of joined dot ones
-kernel_at row h = eqb→eq _ _ (checked.at right_kernel kernel_table tt row h)
-
 pub with_row : (k row : ℕ) → row < vectors → bit_and k (at kernel_table row) ≡ kernel_with k row
-unfolding kernel_with
-with_row k row h = ap (bit_and k) (kernel_at row h)
+unfolding kernel_table right_kernel kernel_with kernel_of joined dot ones
+with_row k row h = ap (bit_and k) (eqb→eq _ _ (checked.at right_kernel kernel_table tt row h))
 
 unfoldable pub ways_table : List ℕ
 ways_table = 1 ∷ 8 ∷ 96 ∷ 1344 ∷ []

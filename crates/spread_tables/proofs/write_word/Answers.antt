@@ -19,11 +19,6 @@ overflow_mul-a c =
     let inside : c.args.x * c.args.m ≤ 255 * 16 = product_le _ _ 255 16 (omega arith) (omega arith) in
     omega (arith, inside)
 
-pub overflow_add-dst : goal.overflow_add-dst
-overflow_add-dst c =
-    let inside : c.args.x * c.args.m ≤ 255 * 16 = product_le _ _ 255 16 (omega arith) (omega arith) in
-    omega (arith, inside)
-
 pub loop-k-init : goal.loop-k-init
 loop-k-init c =
     word_none c.args.x (omega arith) (length_encoded _ _ _)
@@ -31,14 +26,6 @@ loop-k-init c =
 pub encoded_byte-requires : goal.encoded_byte-requires
 encoded_byte-requires c =
     (omega arith, fewer _ _ (32 * c.args.m) (omega arith) c.requires.encoded)
-
-pub bounds-dst-a : goal.bounds-dst-a
-bounds-dst-a c =
-    omega (arith, length_pasted c.loop-k.invariant)
-
-pub shape_of-dst : goal.shape_of-dst
-shape_of-dst c =
-    length_pasted c.loop-k.invariant
 
 pub loop-k-preserved : goal.loop-k-preserved
 loop-k-preserved c =

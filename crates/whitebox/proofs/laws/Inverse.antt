@@ -22,20 +22,22 @@ use Rattle.round.proofs.laws.State.{inv_sub_at, add_at, added_is}
 use Rattle.aes.specs.Cipher.{inv_rounds, InvCipher}
 use Rattle.layout.specs.Ciphers.{inv_shifted}
 use Rattle.layout.proofs.laws.Ciphers.{inv_shifted_lt}
+use Rattle.layout.proofs.laws.Place.{shifted_lt}
 use Rattle.whitebox.specs.Ciphers.{InverseCipher}
 use Rattle.whitebox.specs.Parts.{Fine, inverse}
 use Rattle.whitebox.specs.States.{keyed, mixed, state_after, result}
 use Rattle.whitebox.proofs.laws.Bytewise.{inv_shift_at, mixed_by}
 
+-- Either row shift reads one of 16 bytes, and every round key is bytes: which of them the inverse cipher takes is said by `keyed_by`.
 pub inverse_fine : (nr : ℕ) (w : List ℕ) → Bytes w → Fine (inverse nr w)
 unfolding inverse
 inverse_fine nr w h =
     record {
       substitute_lt = inv_sbox_lt;
-      reads_lt = inv_shifted_lt;
+      reads_lt = search (inv_shifted_lt, shifted_lt);
       coefficient_lt = λ t q. inv_mix_bytes _;
       before_lt = λ r j. cond_lt (eqb r 1) (at (key_of w nr) j) 256 (lit< tt) (key_bytes w h nr j);
-      behind_lt = λ r p. key_bytes w h (nr - r) p;
+      behind_lt = λ r p. key_bytes w h _ p;
     }
 
 module _ (nr : ℕ) (w : List ℕ) where

@@ -6,7 +6,7 @@ use Rattle.matrices.specs.Rows.{row_at}
 use Rattle.matrices.proofs.matrix.multiply.Given as goal
 
 abbrev pub invariant-loop-i : goal.invariant-loop-i
-invariant-loop-i l = Joined 1 l.n (λ j. dot (row_at l.m j) (value l.v)) (value l.p) l.i
+invariant-loop-i l = Joined 1 l.n (λ j. dot (row_at l.m j) (value l.fn.v)) (value l.p) l.i
 
 abbrev pub decreases-loop-i : goal.decreases-loop-i
 decreases-loop-i l = l.n - l.i
