@@ -8,7 +8,6 @@ use Prim.Native.Nat.{◌*◌, ◌≤◌}
 use Rattle.bits.specs.Lists.{at}
 use Rattle.bits.proofs.laws.Bytes.{byte_from_bottom}
 use Rattle.bits.proofs.laws.Multiples.{product_le}
-use Rattle.bits.proofs.laws.Pasted.{length_pasted}
 use Rattle.spread_tables.specs.Spread.{encoded_byte}
 use Rattle.spread_tables.proofs.laws.Words.{fewer, word_none, word_more, word_all, word_put, length_encoded, at_encoded}
 use native.Mathlib.Omega.{arith}
