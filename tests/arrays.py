@@ -21,7 +21,8 @@ TYPE = r"\[[\w:]+; [^\]]+\]"
 RESULT = re.compile(rf"-> {TYPE}")
 PARAMETER = re.compile(rf"(\w+): {TYPE}")
 LOCAL = re.compile(rf"\blet (?:mut )?(\w+)(?:: ([^=;]*?(?:{TYPE})?))? =\s*(\[|[\w:]+\()?")
-CALL = re.compile(r"((?:\w+::)*)(\w+)(?:::<[^>]*>)?\(")
+CALL = re.compile(r"((?:\w+::)*|\.)(\w+)(?:::<[^>]*>)?\(")
+METHOD = re.compile(r"\((?:&(?:mut )?)?(?:mut )?self\b")
 CLAUSE = re.compile(r"^ *(?:requires|ensures)\b[^{]*\{", re.M)
 IMPORT = re.compile(r"^use ([\w:]+)::(?:(\w+)|\{([^}]*)\});", re.M)
 
@@ -77,8 +78,10 @@ def functions(names):
 
 
 def meant(all_, path, where, name):
-    """The functions that a call of `name` in the function `path` may mean: `where` is what stands in front of the name."""
+    """The functions that a call of `name` in the function `path` may mean: `where` is what stands in front of the name. A dot does not tell the type."""
     named = [each for each in all_ if each.split("::")[-1] == name]
+    if where == ".":
+        return [each for each in named if METHOD.search(all_[each][0])]
     imports = all_[path][2]
     if not where:
         own = path.rsplit("::", 1)[0] + "::" + name

@@ -141,8 +141,11 @@ def unproved(cells, names):
                 yield reference
 
 
+PAST = {"DESIGN-PASS.md"}  # it sets what was before beside what is there now, so it names what is gone
+
+
 def pages_missing():
-    for page in [ROOT / "README.md", *(ROOT / "docs").glob("*.md")]:
+    for page in [ROOT / "README.md", *(page for page in (ROOT / "docs").glob("*.md") if page.name not in PAST)]:
         for reference in re.findall(r"`([^`\n]+)`", text(page)):
             if re.split("::|/", reference)[0] in CRATE_NAMES and (found := place(reference)) and not found[1]:
                 yield f"{page.name}: no {reference}"

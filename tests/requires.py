@@ -17,7 +17,7 @@ PASSED_ON = re.compile(r"^pub use (?:crate::)?(\w+)::(\w+|\{[^}]*\});", re.M)
 def functions(path):
     """Of each function of a file: whether it is public, whether it is for C, its name, and whether it asks for something."""
     for found in FUNCTION.finditer(path.read_text()):
-        yield bool(found["pub"]), bool(found["c"]), found["name"], bool(re.search(r"^    requires\b", found["head"], re.M))
+        yield bool(found["pub"]), bool(found["c"]), found["name"], bool(re.search(r"^ +requires\b", found["head"], re.M))
 
 
 def asking(crate):

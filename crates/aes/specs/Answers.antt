@@ -2,9 +2,9 @@
 -- Definitions only.
 use Rattle.std.specs.Prelude.{List, ℕ, length}
 use Rattle.answers.specs.Answers.{wants_length, and_then, if_accepted}
-use Rattle.answers.specs.declared.Answer.{Answer}
 use Rattle.answers.specs.declared.Refusal.TheVariants.{KeyLength, BlockLength}
 use Rattle.aes.specs.Cipher.{encipher_of, decipher_of}
+use Rattle.answers.specs.Answer.{Answer}
 
 -- 1 for a key not of 16 bytes, then 10 for a block in or out not of 16 bytes.
 unfoldable pub answer_of : List ℕ → List ℕ → List ℕ → Answer

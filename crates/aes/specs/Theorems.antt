@@ -3,7 +3,7 @@ use Rattle.std.specs.Prelude.{◌≡◌, List, ℕ, length}
 use Rattle.bits.specs.Bytes.{Bytes, Block}
 use Rattle.aes.specs.Cipher.{Cipher, InvCipher, encipher_of, decipher_of}
 use Rattle.aes.specs.Answers.{answer_of, enciphered, deciphered}
-use Rattle.answers.specs.declared.Answer.TheVariants.{Accepted}
+use Rattle.answers.specs.Answer.{Accepted}
 
 -- Of any number of rounds, over any round keys that are bytes: the cipher and the inverse cipher of a block are blocks, and each
 -- undoes the other.

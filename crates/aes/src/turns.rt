@@ -14,10 +14,7 @@ pub fn cipher(rounds: usize, w: &[u8], s: [u8; 16]) -> [u8; 16]
     ensures { result ≡ Cipher rounds w.now s }
 {
     let mut t = add_round_key(s, w, 0);
-    let last = rounds - 1;
-    let mut n: usize = 0;
-    while n < last {
-        n += 1;
+    for n in 1..rounds {
         t = add_round_key(mix_columns(shift_rows(sub_bytes(t))), w, n);
     }
     add_round_key(shift_rows(sub_bytes(t)), w, rounds)
@@ -29,10 +26,8 @@ pub fn inv_cipher(rounds: usize, w: &[u8], s: [u8; 16]) -> [u8; 16]
     ensures { result ≡ InvCipher rounds w.now s }
 {
     let mut t = add_round_key(s, w, rounds);
-    let mut n: usize = rounds - 1;
-    while 0 < n {
+    for n in (1..rounds).rev() {
         t = inv_mix_columns(add_round_key(inv_sub_bytes(inv_shift_rows(t)), w, n));
-        n -= 1;
     }
     add_round_key(inv_sub_bytes(inv_shift_rows(t)), w, 0)
 }

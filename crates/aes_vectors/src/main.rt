@@ -8,7 +8,7 @@ ghost use Rattle.std.specs.Prelude.{◌≡◌, ◌+◌, ◌*◌, ◌≤◌, leng
 ghost use Rattle.rounds.specs.Rounds.{Rounds};
 ghost use Rattle.round.specs.Key.{rounds_of};
 
-use answers::Answer;
+use answers::Refusal;
 use std::io;
 use streams::stream::receive;
 
@@ -26,19 +26,16 @@ fn show(rt: &impl Print, bytes: &[u8]) -> io::Result<()>
     requires { length bytes.now ≤ 240 }
 {
     let mut line = [10u8; 481];
-    let mut i: usize = 0;
-    while i < bytes.len() {
-        line[2 * i] = digit(bytes[i] / 16);
-        line[2 * i + 1] = digit(bytes[i]);
-        i += 1;
+    for (i, x) in bytes.iter().enumerate() {
+        line[2 * i] = digit(*x / 16);
+        line[2 * i + 1] = digit(*x);
     }
-    let end = 2 * i + 1;
-    rt.write_all(&line[..end])
+    rt.write_all(&line[..2 * bytes.len() + 1])
 }
 
 // Writes an answer: done, or the cause and the number that is returned with it.
-fn tell(rt: &impl Print, a: Answer) -> io::Result<()> {
-    if let Answer::Accepted = a {
+fn tell(rt: &impl Print, a: Result<(), Refusal>) -> io::Result<()> {
+    if let Ok(()) = a {
         return print!(rt; "done\n");
     }
     println!(rt; "refused {} {}", answers::cause(a), answers::second(a))
@@ -62,34 +59,26 @@ fn with_words(
     show(rt, &deciphered)
 }
 
-// Reads and shows a record with a key of six words, and one with a key of eight.
-fn six_words(rt: &(impl Input + Print + Eprint)) -> io::Result<()> {
-    let mut key = [0u8; 24];
+// Reads and shows a record with a key of so many words, of `KEY` bytes, whose round keys have `ROUND_KEYS` bytes.
+fn longer_key<const WORDS: usize, const KEY: usize, const ROUND_KEYS: usize>(
+    rt: &(impl Input + Print + Eprint),
+) -> io::Result<()>
+    requires { (KEY ≡ 4 * WORDS) × (ROUND_KEYS ≡ 16 * (rounds_of WORDS + 1)) × Rounds (rounds_of WORDS) }
+{
+    let mut key = [0u8; KEY];
     let mut block = [0u8; 16];
     let mut input = rt.reader();
     receive(&mut input, rt, &mut key);
     receive(&mut input, rt, &mut block);
-    let mut w = [0u8; 208];
-    with_words(rt, 6, &key, &mut w, block)
+    let mut w = [0u8; ROUND_KEYS];
+    with_words(rt, WORDS, &key, &mut w, block)
 }
 
-fn eight_words(rt: &(impl Input + Print + Eprint)) -> io::Result<()> {
-    let mut key = [0u8; 32];
-    let mut block = [0u8; 16];
-    let mut input = rt.reader();
-    receive(&mut input, rt, &mut key);
-    receive(&mut input, rt, &mut block);
-    let mut w = [0u8; 240];
-    with_words(rt, 8, &key, &mut w, block)
-}
-
-// The records with the longer keys.
+// The records with the longer keys, of six and of eight words.
 fn longer_keys(rt: &(impl Input + Print + Eprint)) -> io::Result<()> {
-    let mut n: usize = 0;
-    while n < LONGER {
-        six_words(rt)?;
-        eight_words(rt)?;
-        n += 1;
+    for _ in 0..LONGER {
+        longer_key::<6, 24, 208>(rt)?;
+        longer_key::<8, 32, 240>(rt)?;
     }
     Ok(())
 }
@@ -100,10 +89,10 @@ fn vector(rt: &impl Print, key: [u8; 16], block: [u8; 16]) -> io::Result<()> {
     round::key::expand(4, &key, &mut w);
     show(rt, &w)?;
     let mut enciphered = [0u8; 16];
-    aes::encipher(&key, &block, &mut enciphered);
+    let _ = aes::encipher(&key, &block, &mut enciphered);
     show(rt, &enciphered)?;
     let mut deciphered = [0u8; 16];
-    aes::decipher(&key, &block, &mut deciphered);
+    let _ = aes::decipher(&key, &block, &mut deciphered);
     show(rt, &deciphered)
 }
 
@@ -161,10 +150,12 @@ fn attempts(rt: &impl Print) -> io::Result<()> {
     attempt(rt, 16, 16, 16)
 }
 
+// More keys of 16 bytes than any input has: so the loop ends, whatever is read.
+const MOST_RECORDS: usize = 1024;
+
 fn main(rt: HostRuntime) -> io::Result<()> {
     longer_keys(&rt)?;
-    let mut records: usize = 0;
-    while records < 1024 {
+    for _ in 0..MOST_RECORDS {
         let mut key = [0u8; 16];
         let mut block = [0u8; 16];
         if receive(&mut rt.stdin(), &rt, &mut key) < 16 {
@@ -174,7 +165,6 @@ fn main(rt: HostRuntime) -> io::Result<()> {
             break;
         }
         vector(&rt, key, block)?;
-        records += 1;
     }
     attempts(&rt)
 }

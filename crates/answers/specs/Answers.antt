@@ -2,9 +2,8 @@
 -- only.
 use Rattle.std.specs.Prelude.{Bool, true, false, not, ℕ, eqb}
 use Rattle.answers.specs.Numbers.{cause_of, second_of, joined}
-use Rattle.answers.specs.declared.Answer.{Answer}
-use Rattle.answers.specs.declared.Answer.TheVariants.{Accepted, Refused}
 use Rattle.answers.specs.declared.Refusal.{Refusal}
+use Rattle.answers.specs.Answer.{Answer, Accepted, Refused}
 
 -- One cause: refused where the test says so.
 abbrev pub refused_if : Bool → Refusal → Answer

@@ -1,3 +1,4 @@
+pub mod Answer
 pub mod Numbers
 pub mod Answers
 pub mod Search

@@ -1,11 +1,10 @@
 -- The documents' numbers for each answer (document 01, table "Turned down"; from 13 on document 02), and both in one number for C. Definitions, and the
 -- statement that a host can read both off again.
 use Rattle.std.specs.Prelude.{◌≡◌, ℕ, ◌+◌, ◌*◌, ◌/◌, ◌%◌, ◌<◌}
-use Rattle.answers.specs.declared.Answer.{Answer}
-use Rattle.answers.specs.declared.Answer.TheVariants.{Accepted, Refused}
 use Rattle.answers.specs.declared.Refusal.{Refusal}
 use Rattle.answers.specs.declared.Refusal.TheVariants.{KeyLength, BundleLength, Pair, Encoding, ByteMatrix, ColumnMatrix, InputMatrix}
 use Rattle.answers.specs.declared.Refusal.TheVariants.{OutputMatrix, TableNumber, SetLength, BlockLength, Stop, Unfinished, RecordLength, CataloguePosition}
+use Rattle.answers.specs.Answer.{Answer, Accepted, Refused}
 
 -- The number of the cause ("No.").
 abbrev pub cause_of : Refusal → ℕ

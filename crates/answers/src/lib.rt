@@ -1,15 +1,14 @@
-// The answer of a call that only accepts or refuses, and the refusals of every call: a cause of document 01's table "Turned down" or of document 02. In code the numbers of each cause stand
-// here alone.
+// The refusals of every call: a cause of document 01's table "Turned down" or of document 02. A call that only accepts
+// or refuses hands back `Result<(), Refusal>`. In code the numbers of each cause stand here alone.
 
 #![tactic(auto)]
-
-pub mod found;
 
 ghost use Rattle.std.specs.Prelude.{◌≡◌};
 ghost use Rattle.answers.specs.Numbers.{cause_of, second_of, cause_in, second_in, joined, number_of};
 
-// Why a call is refused, in the order of the documents' numbers: `cause_of` and `second_of` of specs/ give the two numbers of each.
-#[derive(Clone, Copy)]
+// Why a call is refused, in the order of the documents' numbers: `cause_of` and `second_of` of specs/ give the two
+// numbers of each.
+#[derive(Clone, Copy, Debug, PartialEq, Eq)]
 pub enum Refusal {
     KeyLength,
     BundleLength,
@@ -26,12 +25,6 @@ pub enum Refusal {
     Unfinished,
     RecordLength,
     CataloguePosition,
-}
-
-#[derive(Clone, Copy)]
-pub enum Answer {
-    Accepted,
-    Refused(Refusal),
 }
 
 // The number of the cause.
@@ -81,21 +74,21 @@ fn second_of(r: Refusal) -> u32
 }
 
 // Both of an answer: 0 where the call is accepted.
-pub fn cause(a: Answer) -> u32
+pub fn cause(a: Result<(), Refusal>) -> u32
     ensures { result ≡ cause_in a }
 {
     match a {
-        Answer::Accepted => 0,
-        Answer::Refused(r) => cause_of(r),
+        Ok(()) => 0,
+        Err(r) => cause_of(r),
     }
 }
 
-pub fn second(a: Answer) -> u32
+pub fn second(a: Result<(), Refusal>) -> u32
     ensures { result ≡ second_in a }
 {
     match a {
-        Answer::Accepted => 0,
-        Answer::Refused(r) => second_of(r),
+        Ok(()) => 0,
+        Err(r) => second_of(r),
     }
 }
 
@@ -106,7 +99,7 @@ fn joined(cause: u32, second: u32) -> u64
 }
 
 // An answer as one number, for C.
-pub fn number(a: Answer) -> u64
+pub fn number(a: Result<(), Refusal>) -> u64
     ensures { result ≡ number_of a }
 {
     joined(cause(a), second(a))

@@ -12,6 +12,7 @@ pub mod Groups
 pub mod Joined
 pub mod Vectors
 pub mod Words
+pub mod Arrays
 pub mod Bytes
 pub mod Nibbles
 pub mod Flips

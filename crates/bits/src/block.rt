@@ -7,11 +7,7 @@ pub fn load(s: &[u8]) -> [u8; 16]
     ensures { result ≡ s.now }
 {
     let mut t = [0u8; 16];
-    let mut i = 0;
-    while i < 16 {
-        t[i] = s[i];
-        i += 1;
-    }
+    t.copy_from_slice(s);
     t
 }
 
@@ -20,9 +16,5 @@ pub fn store(d: &mut [u8], s: [u8; 16])
     requires { length d.old ≡ 16 }
     ensures { d.new ≡ s }
 {
-    let mut i = 0;
-    while i < 16 {
-        d[i] = s[i];
-        i += 1;
-    }
+    d.copy_from_slice(&s);
 }

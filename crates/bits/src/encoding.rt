@@ -15,13 +15,6 @@ pub fn nibble(s: &[u8], q: usize) -> u8
     if q % 2 == 0 { b / 16 } else { b % 16 }
 }
 
-// A byte as an index.
-pub fn widened(x: u8) -> usize
-    ensures { (result ≡ x) × (result < 256) }
-{
-    x as usize
-}
-
 // The image of v; 0 where v is no nibble.
 pub fn image(p: &[u8], v: u8) -> u8
     ensures { (result ≡ encode (images_of p.now) v) × (result < 16) }
@@ -29,20 +22,18 @@ pub fn image(p: &[u8], v: u8) -> u8
     if 16 <= v {
         return 0;
     }
-    let q = widened(v);
+    let q = usize::from(v);
     nibble(p, q)
 }
 
-// The nibble whose image is y; 16 where there is none.
+// The nibble whose image is y; 16 where there is none, as the definition `decode` has it, on which the theorems rest.
 pub fn place(p: &[u8], y: u8) -> u8
     ensures { result ≡ decode (images_of p.now) y }
 {
-    let mut i: u8 = 0;
-    while i < 16 {
+    for i in 0u8..16 {
         if image(p, i) == y {
             return i;
         }
-        i += 1;
     }
     16
 }

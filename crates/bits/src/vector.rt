@@ -113,10 +113,8 @@ pub fn read(s: &[u8], a: usize, w: usize) -> Vector
     ensures { value result ≡ number w (λ j. at s.now (a + j)) }
 {
     let mut v = Vector { hi: 0, lo: 0 };
-    let mut j = 0;
-    while j < w {
+    for j in 0..w {
         v = push_byte(v, s[a + j]);
-        j += 1;
     }
     v
 }
@@ -127,9 +125,7 @@ pub fn write(v: Vector, dst: &mut [u8])
     ensures { dst.new ≡ bytes_of (length dst.old) (value v) }
 {
     let w = dst.len();
-    let mut i = 0;
-    while i < w {
-        dst[i] = byte(v, w - 1 - i);
-        i += 1;
+    for (i, x) in dst.iter_mut().enumerate() {
+        *x = byte(v, w - 1 - i);
     }
 }

@@ -16,11 +16,9 @@ fn block_number(p: &[u8], w: usize, i: usize, j: usize) -> u16
     ensures { result ≡ number_of_rows side (block (2 * w) (matrix_of w p.now) i j) }
 {
     let mut number = 0;
-    let mut r = 0;
-    while r < SIDE {
+    for r in 0..SIDE {
         let row = encoding::nibble(p, 2 * ((SIDE * i + r) * w) + j);
         number = number * VECTORS + row as usize;
-        r += 1;
     }
     number as u16
 }
@@ -31,12 +29,10 @@ fn block_row_bad(p: &[u8], w: usize, i: usize) -> bool
     ensures { result ≡ block_row_bad (2 * w) (matrix_of w p.now) i }
 {
     let across = 2 * w;
-    let mut j = 0;
-    while j < across {
+    for j in 0..across {
         if !catalogue::is_invertible(block_number(p, w, i, j)) {
             return true;
         }
-        j += 1;
     }
     false
 }
@@ -47,12 +43,10 @@ pub fn some_block_bad(p: &[u8], w: usize) -> bool
     ensures { result ≡ some_block_bad (2 * w) (matrix_of w p.now) }
 {
     let down = 2 * w;
-    let mut i = 0;
-    while i < down {
+    for i in 0..down {
         if block_row_bad(p, w, i) {
             return true;
         }
-        i += 1;
     }
     false
 }

@@ -1,13 +1,13 @@
 -- Bundles that are built from their encodings and matrices, without a free byte: the bytes, and, for a reader, what they are. The plain bundle is one
 -- of them. The statements are proved in proofs/laws/Built.antt.
 use Rattle.std.specs.Prelude.{List, [], ◌∷◌, ◌++◌, ◌≡◌, ℕ, zero, suc, ◌+◌, ◌≤◌, ◌<◌, length}
-use Rattle.answers.specs.declared.Answer.TheVariants.{Accepted}
 use Rattle.bits.specs.Bytes.{Bytes, bytes_of}
 use Rattle.bits.specs.Encodings.{encoding_bytes, plain_encoding}
 use Rattle.bits.specs.Lists.{at, concat}
 use Rattle.matrices.specs.Matrices.{identity, Square, matrix_bytes}
 use Rattle.bundle.specs.Format.{encodings, byte_matrices, column_matrices, part_count, section_length, shortest, longest, frame}
 use Rattle.bundle.specs.Format.{encoding_of, byte_matrix, column_matrix, input_matrix, output_matrix}
+use Rattle.answers.specs.Answer.{Accepted}
 
 -- ---- the pairs
 -- "A section starts at or after byte 40 and the end of the section before it": here just there. How many bytes of sections stand before section s, and

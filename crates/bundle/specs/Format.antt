@@ -3,13 +3,13 @@
 use Rattle.std.specs.Prelude.{Bool, cond, not, ◌||◌, List, [], ◌≡◌, ℕ, zero, suc, ◌+◌, ◌-◌, ◌*◌, ◌≤◌, eqb, ltb, length, take, drop}
 use Rattle.rounds.specs.Rounds.{known}
 use Rattle.answers.specs.Answers.{refused_if, and_then, if_accepted}
-use Rattle.answers.specs.declared.Answer.{Answer}
 use Rattle.answers.specs.declared.Refusal.TheVariants.{BundleLength, Pair}
 use Rattle.answers.specs.Search.{first, refused_at}
 use Rattle.bits.specs.Bytes.{number_at}
 use Rattle.bits.specs.Encodings.{images_of}
 use Rattle.bits.specs.Lists.{part_of}
 use Rattle.matrices.specs.Matrices.{matrix_of}
+use Rattle.answers.specs.Answer.{Answer}
 
 -- ---- sizes
 -- How many encodings there are: 32 for the block that is read, 992 for the entry and for the exit, 448 for each round between them

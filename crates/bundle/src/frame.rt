@@ -5,8 +5,7 @@ ghost use Rattle.bundle.specs.Format.{shortest, longest, end_before, pair_bad, f
 ghost use Rattle.answers.specs.Search.{first};
 
 use crate::layout;
-use answers::found::Found;
-use answers::{Answer, Refusal};
+use answers::Refusal;
 use bits::slices;
 use rounds::TEN;
 
@@ -77,35 +76,33 @@ fn pair_bad(rounds: usize, bundle: &[u8], i: usize) -> bool
 }
 
 // The first of the five pairs that is bad.
-fn first_bad_pair(rounds: usize, bundle: &[u8]) -> Found
+fn first_bad_pair(rounds: usize, bundle: &[u8]) -> Option<u32>
     requires { (40 ≤ length bundle.now) × Rounds rounds }
     ensures { result ≡ first 5 (pair_bad rounds bundle.now) }
 {
-    let mut i: usize = 0;
-    while i < 5 {
+    for i in 0..5 {
         if pair_bad(rounds, bundle, i) {
-            return Found::At(i as u32);
+            return Some(i as u32);
         }
-        i += 1;
     }
-    Found::Nothing
+    None
 }
 
 // The judgement of length and pairs, for any number of rounds: another than 10, 12 and 14 counts as a wrong length.
-pub fn judge_frame(rounds: usize, bundle: &[u8]) -> Answer
+pub fn judge_frame(rounds: usize, bundle: &[u8]) -> Result<(), Refusal>
     ensures { result ≡ frame rounds bundle.now }
 {
     if !rounds::known(rounds) {
-        return Answer::Refused(Refusal::BundleLength);
+        return Err(Refusal::BundleLength);
     }
     if bundle.len() < shortest_of(rounds) {
-        return Answer::Refused(Refusal::BundleLength);
+        return Err(Refusal::BundleLength);
     }
     if longest_of(rounds) < bundle.len() {
-        return Answer::Refused(Refusal::BundleLength);
+        return Err(Refusal::BundleLength);
     }
     match first_bad_pair(rounds, bundle) {
-        Found::At(i) => Answer::Refused(Refusal::Pair(i)),
-        Found::Nothing => Answer::Accepted,
+        Some(i) => Err(Refusal::Pair(i)),
+        None => Ok(()),
     }
 }

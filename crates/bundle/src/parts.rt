@@ -1,5 +1,5 @@
 // The parts of the lent slice that hold an encoding (list) or a matrix, by number: empty for a number too large, and for a bundle with
-// cause 2 or 3, as is one for any number of rounds but 10, 12 and 14.
+// cause 2 or 3, as is one for any number of rounds but 10, 12 and 14. Each is `part_at` with its section.
 ghost use Rattle.std.specs.Prelude.{◌≡◌};
 ghost use Rattle.bundle.specs.Format.{encoding_part, byte_matrix_part, column_matrix_part, input_matrix_part, output_matrix_part};
 

@@ -3,7 +3,6 @@ ghost use Rattle.std.specs.Prelude.{◌≡◌};
 ghost use Rattle.bundle.specs.Format.{section_of, part_at};
 
 use crate::{frame, layout};
-use answers::Answer;
 use bits::slices;
 
 // Section s; empty in a bundle with cause 2 or 3, and behind the fifth.
@@ -14,13 +13,13 @@ pub fn section<'a>(rounds: usize, bundle: &'a [u8], s: usize) -> &'a [u8]
         return &bundle[0..0];
     }
     match frame::judge_frame(rounds, bundle) {
-        Answer::Accepted => {
+        Ok(()) => {
             let at = 8 * s;
             let a = slices::number_at(bundle, at);
             let e = a + layout::section_length(rounds, s);
             &bundle[a..e]
         }
-        Answer::Refused(_) => &bundle[0..0],
+        Err(_) => &bundle[0..0],
     }
 }
 

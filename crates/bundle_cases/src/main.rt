@@ -3,8 +3,7 @@
 
 #![tactic(auto)]
 
-use answers::{Answer, cause, second};
-use bits::encoding;
+use answers::{Refusal, cause, second};
 use bundle::parts;
 use external::coding;
 use judgement::judge;
@@ -14,15 +13,13 @@ use streams::stream::receive;
 use view::part::Part;
 
 // The cause and its second number; both are 0 where nothing is turned down.
-fn say(rt: &impl Print, a: Answer) -> io::Result<()> {
+fn say(rt: &impl Print, a: Result<(), Refusal>) -> io::Result<()> {
     println!(rt; "{} {}", cause(a), second(a))
 }
 
 fn show(rt: &impl Print, b: &[u8]) -> io::Result<()> {
-    let mut i = 0;
-    while i < b.len() {
-        print!(rt; "{:02x}", encoding::widened(b[i]))?;
-        i += 1;
+    for x in b {
+        print!(rt; "{x:02x}")?;
     }
     print!(rt; "\n")
 }
@@ -68,7 +65,7 @@ fn show_part(rt: &impl Print, bundle: &[u8], p: Part) -> io::Result<()> {
     }
 }
 
-fn called(bundle: &[u8], k: u8, block: &[u8], out: &mut [u8]) -> Answer {
+fn called(bundle: &[u8], k: u8, block: &[u8], out: &mut [u8]) -> Result<(), Refusal> {
     match k {
         0 => coding::encode_input(bundle, block, out),
         1 => coding::decode_input(bundle, block, out),
@@ -138,7 +135,7 @@ fn order(
 }
 
 fn three(a: u8, b: u8, c: u8) -> usize {
-    (encoding::widened(a) * 256 + encoding::widened(b)) * 256 + encoding::widened(c)
+    (usize::from(a) * 256 + usize::from(b)) * 256 + usize::from(c)
 }
 
 // One order; false at the end of the input.
@@ -158,14 +155,15 @@ fn step(rt: &(impl Input + Print + Eprint), mem: &mut [u8]) -> io::Result<bool> 
     Ok(true)
 }
 
+// More orders than any input has: so the loop ends, whatever is read.
+const MOST_ORDERS: usize = 10000;
+
 // Order after order.
 fn run(rt: &(impl Input + Print + Eprint), mem: &mut [u8]) -> io::Result<()> {
-    let mut i: usize = 0;
-    while i < 10000 {
+    for _ in 0..MOST_ORDERS {
         if !step(rt, mem)? {
             return Ok(());
         }
-        i += 1;
     }
     Ok(())
 }

@@ -3,14 +3,13 @@
 -- proved to agree. Definitions only.
 use Rattle.std.specs.Prelude.{not, cond, ◌||◌, List, [], ◌∷◌, ℕ, zero, suc, ◌-◌, eqb, ltb, length, take, drop, replicate}
 use Rattle.answers.specs.Answers.{Reply, reply_of, refused_if, wants_length, and_then, if_accepted}
-use Rattle.answers.specs.declared.Answer.{Answer}
-use Rattle.answers.specs.declared.Answer.TheVariants.{Refused}
 use Rattle.answers.specs.declared.Refusal.TheVariants.{SetLength, BlockLength, Stop, Unfinished}
 use Rattle.network.specs.Lookups.{State, state_at, zero_area, lookup}
 use Rattle.network.specs.Read.{read_at}
 use Rattle.network.specs.declared.EntryPlace.{EntryPlace}
 use Rattle.layout.specs.Ciphers.{kept, reads_of}
 use Rattle.layout.specs.Stages.{shapes, lookups, set_bytes, nowhere, table_size, table_offset}
+use Rattle.answers.specs.Answer.{Answer, Refused}
 
 -- ---- the held walk
 -- What a walk keeps beside its state, and no lookup changes: its mark, the number of its cipher.

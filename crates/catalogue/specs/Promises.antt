@@ -2,7 +2,7 @@
 use Rattle.std.specs.Prelude.{◌≡◌, ℕ}
 use Rattle.answers.specs.Answers.{reply_of}
 use Rattle.catalogue.specs.Catalogue.{catalogue_entry, entry_answer, judge_position}
-use Rattle.catalogue.specs.declared.Entry.{Entry}
+use Rattle.catalogue.specs.Catalogue.{Entry}
 
 -- `entry_at` of a position hands back r: the entry, and what it says in the documents' numbers, which is what the position gives.
 pub record Gives (position : ℕ) (r : Entry) : Type 0 where

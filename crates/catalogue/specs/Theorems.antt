@@ -1,5 +1,5 @@
 -- What the catalogue is, and what the call at a position gives, for a reader: the statements. They are proved in proofs/laws/Proved.antt.
-use Rattle.std.specs.Prelude.{List, [], ◌∷◌, ◌≡◌, ℕ, ◌+◌, ◌*◌, ◌^◌, ◌<◌, ◌≤◌, length}
+use Rattle.std.specs.Prelude.{List, [], ◌∷◌, ◌≡◌, ℕ, ◌+◌, ◌*◌, ◌^◌, ◌<◌, ◌≤◌, length, Ok, Err}
 use Rattle.answers.specs.Answers.{accepted, refused, reply_of}
 use Rattle.answers.specs.declared.Refusal.{Refusal}
 use Rattle.answers.specs.declared.Refusal.TheVariants.{CataloguePosition}
@@ -8,7 +8,6 @@ use Rattle.bits.specs.Vectors.{bit}
 use Rattle.matrices.specs.Matrices.{Square, Invertible}
 use Rattle.inversion.specs.Inverses.{UndoesBothWays}
 use Rattle.catalogue.specs.Catalogue.{number_of_rows, rows_of_number, catalogue_of, side, catalogue, catalogue_entry, entry_answer}
-use Rattle.catalogue.specs.declared.Entry.TheVariants.{Matrix, Refused}
 
 module _ (n : ℕ) where
   -- ---- numbers and matrices, n by n
@@ -41,16 +40,16 @@ pub record EntriesGiven : Type 0 where
   -- "There are 20,160."
   pub long : length catalogue ≡ 20160
   -- "A call gives the one at a position from 0."
-  pub given : (p : ℕ) → p < 20160 → catalogue_entry p ≡ Matrix (at catalogue p)
+  pub given : (p : ℕ) → p < 20160 → catalogue_entry p ≡ Ok (at catalogue p)
   -- "A position of 20,160 or more gets number 14", with which 0 is returned: "the only cause in that call".
   pub beyond : (p : ℕ) → 20160 ≤ p → reply_of (entry_answer (catalogue_entry p)) ≡ refused 14 0
   pub within : (p : ℕ) → p < 20160 → reply_of (entry_answer (catalogue_entry p)) ≡ accepted
-  pub only_cause : (p : ℕ) (why : Refusal) → catalogue_entry p ≡ Refused why → (why ≡ CataloguePosition) × (20160 ≤ p)
+  pub only_cause : (p : ℕ) (why : Refusal) → catalogue_entry p ≡ Err why → (why ≡ CataloguePosition) × (20160 ≤ p)
   -- What is given is a matrix with an inverse; each such is given, at one position alone; and the numbers rise with the position.
-  pub sound : (p v : ℕ) → catalogue_entry p ≡ Matrix v → Member side v
-  pub complete : (m : List ℕ) → Square side m → Invertible side m → (p : ℕ) × (catalogue_entry p ≡ Matrix (number_of_rows side m))
-  pub once : (p q v : ℕ) → catalogue_entry p ≡ Matrix v → catalogue_entry q ≡ Matrix v → p ≡ q
-  pub rising : (p q v w : ℕ) → p < q → catalogue_entry p ≡ Matrix v → catalogue_entry q ≡ Matrix w → v < w
+  pub sound : (p v : ℕ) → catalogue_entry p ≡ Ok v → Member side v
+  pub complete : (m : List ℕ) → Square side m → Invertible side m → (p : ℕ) × (catalogue_entry p ≡ Ok (number_of_rows side m))
+  pub once : (p q v : ℕ) → catalogue_entry p ≡ Ok v → catalogue_entry q ≡ Ok v → p ≡ q
+  pub rising : (p q v w : ℕ) → p < q → catalogue_entry p ≡ Ok v → catalogue_entry q ≡ Ok w → v < w
 
 -- ---- all of it
 pub record Catalogued : Type 0 where

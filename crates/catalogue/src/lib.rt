@@ -13,13 +13,6 @@ ghost use Rattle.catalogue.specs.Kernels.{vectors, kernel_with, completions, way
 
 use answers::Refusal;
 
-// What the call at a position answers: the number that the rows of the matrix make, or why it is refused.
-#[derive(Clone, Copy)]
-pub enum Entry {
-    Matrix(u16),
-    Refused(Refusal),
-}
-
 // How many matrices there are, how many rows each has, and how many values a row can have.
 pub const MATRICES: usize = 20160;
 
@@ -96,20 +89,19 @@ fn next_row(kernel: u16, each: usize, position: usize) -> Choice
     requires { position < sum_below vectors (completions kernel each) }
     ensures { NextRow kernel each position result.row result.kernel result.rest }
 {
-    let mut row = 0;
     let mut rest = position;
-    loop {
+    for row in 0..VECTORS {
         let here = completions_with(kernel, each, row);
         if rest < here {
             return Choice {
-                row: row,
+                row,
                 kernel: kernel_with(kernel, row),
-                rest: rest,
+                rest,
             };
         }
         rest -= here;
-        row += 1;
     }
+    unreachable!()
 }
 
 // The number at a position, from row 0 down.
@@ -120,9 +112,7 @@ fn number_at(position: usize) -> u16
     let mut number = 0;
     let mut kernel = WHOLE;
     let mut rest = position;
-    let mut left = SIDE;
-    while left > 0 {
-        left -= 1;
+    for left in (0..SIDE).rev() {
         let next = next_row(kernel, ways_at(left), rest);
         number = number * VECTORS + next.row;
         kernel = next.kernel;
@@ -131,12 +121,12 @@ fn number_at(position: usize) -> u16
     number as u16
 }
 
-// The entry at any position.
-pub fn entry_at(position: usize) -> Entry
+// The entry at any position: the number that the rows of the matrix make, or why the call is refused.
+pub fn entry_at(position: usize) -> Result<u16, Refusal>
     ensures { Gives position result }
 {
     if position >= MATRICES {
-        return Entry::Refused(Refusal::CataloguePosition);
+        return Err(Refusal::CataloguePosition);
     }
-    Entry::Matrix(number_at(position))
+    Ok(number_at(position))
 }

@@ -2,7 +2,6 @@
 -- other, for the cipher c. What comes of it for any cipher, key, bundle, block and lent memory. Definitions, and the statement of the answer in lengths.
 use Rattle.std.specs.Prelude.{List, ◌≡◌, ℕ, length}
 use Rattle.answers.specs.Answers.{wants_length, and_then, if_accepted}
-use Rattle.answers.specs.declared.Answer.{Answer}
 use Rattle.answers.specs.declared.Refusal.TheVariants.{BlockLength}
 use Rattle.aes.specs.Answers.{answer_of}
 use Rattle.external.specs.Calls as external
@@ -13,6 +12,7 @@ use Rattle.calls.specs.Calls.{judge_start, started, to_stop, fetch, answer, hand
 use Rattle.calls.specs.Calls.{walked_over}
 use Rattle.whitebox.specs.Bundles.{cipher_block, made_set}
 use Rattle.tables.specs.Calls.{set_answer, set_left}
+use Rattle.answers.specs.Answer.{Answer}
 
 -- ---- the calls' own answers: the first refusal is the answer
 -- `make_set`, then `encode_input` of the block into so many bytes.

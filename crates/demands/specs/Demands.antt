@@ -3,7 +3,6 @@
 -- whole walks (Whole.antt) and of chains of calls (Chains.antt). Of demand 2 it is here that a whole walk leaves `walked_over`; that this is the cipher's block is
 -- whitebox/specs/Demand2.antt, and of the bytes that the maker leaves tables/specs/Made.antt. Each statement is a type; proofs/laws/Demands.antt proves them.
 use Rattle.std.specs.Prelude.{List, map, ◌≢◌, ◌≡◌, ℕ, ◌≤◌, length}
-use Rattle.answers.specs.declared.Answer.TheVariants.{Accepted}
 use Rattle.bits.specs.Bytes.{Bytes}
 use Rattle.round.specs.Key.{rounds_of}
 use Rattle.external.specs.Coding.{decode_input, SameOuter}
@@ -19,6 +18,7 @@ use Rattle.evaluate.specs.Whole.{WalkMade, WholeWalk}
 use Rattle.evaluate.specs.Chains.{CallMade, call_of, served_in, last_in, Chain}
 use Rattle.evaluate.specs.declared.walk.Move.{Move}
 use Rattle.evaluate.specs.declared.walk.Opening.{Opening}
+use Rattle.answers.specs.Answer.{Accepted}
 
 -- ---- the round trip of document 02, Ticket 1: "walking one set and then the other gives back any presented block". Here `first` is what the first walk's
 -- fetch left, which is presented to the second, and `last` what the second's left. The inverse set and the walks over it name their cipher by the numbers i' and i, any but 0.

@@ -9,10 +9,8 @@ fn write_row(high: u8, low: &[u8], dst: &mut [u8])
     requires { (high < 16) × Nibbles 16 low.now × (length dst.old ≡ 16) }
     ensures { dst.new ≡ tabulate 16 (λ v. pack high (at low.now v)) }
 {
-    let mut v: usize = 0;
-    while v < 16 {
+    for v in 0..16 {
         dst[v] = high * 16 + low[v];
-        v += 1;
     }
 }
 
@@ -21,11 +19,9 @@ pub(crate) fn by_nibbles(high: &[u8], low: &[u8], dst: &mut [u8])
     requires { Nibbles 16 high.now × Nibbles 16 low.now × (length dst.old ≡ 256) }
     ensures { dst.new ≡ tabulate 256 (by_nibbles high.now low.now) }
 {
-    let mut i: usize = 0;
-    while i < 16 {
+    for i in 0..16 {
         let a = i * 16;
         let e = a + 16;
         write_row(high[i], low, &mut dst[a..e]);
-        i += 1;
     }
 }

@@ -6,18 +6,16 @@ ghost use Rattle.bits.specs.Nibbles.{pack};
 ghost use Rattle.encodings.specs.Encodings.{encoding_in, ForImages};
 
 use crate::bytes;
-use bits::{encoding, slices};
+use bits::slices;
 
 // The images that an encoding's 8 bytes give, two to a byte.
 pub fn images(p: &[u8], dst: &mut [u8])
     requires { (8 ≤ length p.now) × (length dst.old ≡ 16) }
     ensures { dst.new ≡ images_of p.now }
 {
-    let mut i: usize = 0;
-    while i < 8 {
+    for i in 0..8 {
         dst[2 * i] = p[i] / 16;
         dst[2 * i + 1] = p[i] % 16;
-        i += 1;
     }
 }
 
@@ -26,13 +24,11 @@ pub fn places(p: &[u8], dst: &mut [u8])
     requires { Permutation (images_of p.now) × (length dst.old ≡ 16) }
     ensures { dst.new ≡ tabulate 16 (decode (images_of p.now)) }
 {
-    let mut i: usize = 0;
-    while i < 8 {
-        let high = encoding::widened(p[i] / 16);
-        let low = encoding::widened(p[i] % 16);
+    for i in 0..8 {
+        let high = usize::from(p[i] / 16);
+        let low = usize::from(p[i] % 16);
         dst[high] = (2 * i) as u8;
         dst[low] = (2 * i + 1) as u8;
-        i += 1;
     }
 }
 
@@ -42,12 +38,10 @@ pub fn all_images(section: &[u8], n: usize, count: usize, dst: &mut [u8])
     ensures { dst.new
         ≡ concat count (λ h. encoding_in section.now (n + h)) ++ drop (count * 16) dst.old }
 {
-    let mut h: usize = 0;
-    while h < count {
+    for h in 0..count {
         let a = h * 16;
         let e = a + 16;
         images(slices::part(section, 8, n + h), &mut dst[a..e]);
-        h += 1;
     }
 }
 

@@ -3,13 +3,13 @@
 -- proofs/laws/Chains.antt.
 use Rattle.std.specs.Prelude.{List, [], ◌∷◌, map, ◌≡◌, ℕ}
 use Rattle.answers.specs.Answers.{reply_of}
-use Rattle.answers.specs.declared.Answer.{Answer}
 use Rattle.layout.specs.Stages.{nowhere}
 use Rattle.calls.specs.Calls.{Call, to_stop, one_lookup, fetch, Served, serve, last_walk}
 use Rattle.evaluate.specs.Held.{held}
 use Rattle.evaluate.specs.Promises.{Moves, Fetches}
 use Rattle.evaluate.specs.declared.walk.Move.{Move}
 use Rattle.evaluate.specs.declared.walk.Walk.{Walk}
+use Rattle.answers.specs.Answer.{Answer}
 
 -- A call that was made, with what came of it.
 pub data CallMade : Type 0 where

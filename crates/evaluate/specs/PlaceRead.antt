@@ -2,7 +2,6 @@
 -- stated of a lookup that meets the contract of lookups::layer::lookup_in, which hands back offset and half, and of moves that meet the contracts of
 -- src/walk.rt (Promises.antt), which pass on the offset. Each statement is a type; proofs/laws/PlaceRead.antt proves them.
 use Rattle.std.specs.Prelude.{List, ◌≡◌, ℕ, suc, ◌-◌, ◌<◌, length}
-use Rattle.answers.specs.declared.Answer.TheVariants.{Accepted}
 use Rattle.network.specs.Lookups.{state_at}
 use Rattle.network.specs.Read.{lookup_from}
 use Rattle.network.specs.declared.EntryPlace.{EntryPlace}
@@ -15,6 +14,7 @@ use Rattle.evaluate.specs.Held.{held}
 use Rattle.evaluate.specs.Promises.{Moves}
 use Rattle.evaluate.specs.declared.walk.Move.{Move}
 use Rattle.evaluate.specs.declared.walk.Walk.{Walk}
+use Rattle.answers.specs.Answer.{Accepted}
 
 module _ (nr : ℕ) where
   -- ---- the lookup of the walk's count, over its table in a memory of any length and content

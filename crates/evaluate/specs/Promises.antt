@@ -1,8 +1,6 @@
 -- What the calls of src/walk.rt ensure: their contracts cite these records, at ten rounds, and so does every statement about calls in code. Each result is an
 -- equation with a definition of crate calls, specs/Calls.antt. Definitions only.
 use Rattle.std.specs.Prelude.{List, ◌≡◌, ℕ, ◌-◌, ◌<◌, length}
-use Rattle.answers.specs.declared.Answer.{Answer}
-use Rattle.answers.specs.declared.Answer.TheVariants.{Refused}
 use Rattle.answers.specs.declared.Refusal.{Refusal}
 use Rattle.layout.specs.Stages.{nowhere}
 use Rattle.calls.specs.Calls.{Call, judge_start, started, fetch, answer, handed, passed_on, block_left}
@@ -11,6 +9,7 @@ use Rattle.evaluate.specs.Held.{held}
 use Rattle.evaluate.specs.declared.walk.Move.{Move}
 use Rattle.evaluate.specs.declared.walk.Opening.{Opening}
 use Rattle.evaluate.specs.declared.walk.Walk.{Walk}
+use Rattle.answers.specs.Answer.{Answer, Refused}
 
 -- `start` for the cipher c over this block hands back r.
 pub record Opens (c : ℕ) (block : List ℕ) (r : Opening) : Type 0 where

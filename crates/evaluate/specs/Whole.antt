@@ -1,12 +1,12 @@
 -- A whole walk in code: a start, one move to the last count and a fetch, each known by its contract alone (Promises.antt). Definition, and the statement, which
 -- proofs/laws/Whole.antt proves.
 use Rattle.std.specs.Prelude.{List, ◌≡◌, ℕ}
-use Rattle.answers.specs.declared.Answer.{Answer}
 use Rattle.layout.specs.Stages.{lookups}
 use Rattle.calls.specs.Calls.{to_stop, walked_over}
 use Rattle.evaluate.specs.Promises.{Opens, Moves, Fetches}
 use Rattle.evaluate.specs.declared.walk.Move.{Move}
 use Rattle.evaluate.specs.declared.walk.Opening.{Opening}
+use Rattle.answers.specs.Answer.{Answer}
 
 -- A start for the cipher c over the block x, one move over the memory `set` to the last count, a fetch that left `left` in the lent block
 pub record WalkMade (c nr : ℕ) (set x lent left : List ℕ) : Type 0 where

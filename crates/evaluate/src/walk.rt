@@ -6,7 +6,7 @@ ghost use Rattle.calls.specs.Calls as calls;
 ghost use Rattle.evaluate.specs.Held.{held};
 ghost use Rattle.evaluate.specs.Promises.{Opens, Refuses, Moves, Fetches};
 
-use answers::{Answer, Refusal};
+use answers::Refusal;
 use bits::block::{load, store};
 use layout::cipher::kept;
 use layout::stage::{lookups_in, place_of, set_bytes, tables_bytes};
@@ -25,18 +25,19 @@ pub struct Walk {
     pub area: [u8; 256],
 }
 
-// What a start hands back.
+// What a start hands back: a struct and no `Result`, since a refused one hands back a walk too (`Opens`).
 #[derive(Clone, Copy)]
 pub struct Opening {
-    pub answer: Answer,
+    pub answer: Result<(), Refusal>,
     pub walk: Walk,
 }
 
 // What a move hands back: its answer, the walk, and the byte offset within the set of the entry that its last lookup
-// read, behind all tables if it made none (document 02, Ticket 2).
+// read, behind all tables if it made none (document 02, Ticket 2). A struct and no `Result`, since a refused move hands
+// back the walk as it was given (`Refuses`).
 #[derive(Clone, Copy)]
 pub struct Move {
-    pub answer: Answer,
+    pub answer: Result<(), Refusal>,
     pub walk: Walk,
     pub offset: usize,
 }
@@ -74,7 +75,7 @@ fn refused(rounds: usize, walk: Walk, refusal: Refusal) -> Move
 {
     let nowhere = tables_bytes(rounds);
     Move {
-        answer: Answer::Refused(refusal),
+        answer: Err(refusal),
         walk: walk,
         offset: nowhere,
     }
@@ -86,12 +87,12 @@ pub fn start(cipher: u64, block: &[u8]) -> Opening
 {
     if block.len() != 16 {
         return Opening {
-            answer: Answer::Refused(Refusal::BlockLength),
+            answer: Err(Refusal::BlockLength),
             walk: begun(0, [0u8; 16]),
         };
     }
     Opening {
-        answer: Answer::Accepted,
+        answer: Ok(()),
         walk: begun(cipher, load(block)),
     }
 }
@@ -123,7 +124,7 @@ pub fn to_stop(rounds: usize, walk: Walk, set: &[u8], stop: usize) -> Move
     let mut area = walk.area;
     let offset = advance(rounds, cipher, &mut standing, &mut area, set, count, stop);
     Move {
-        answer: Answer::Accepted,
+        answer: Ok(()),
         walk: changed(walk, stop, standing, area),
         offset: offset,
     }
@@ -157,32 +158,32 @@ fn one_lookup(rounds: usize, walk: Walk, table: &[u8]) -> Move
     let from = p.offset;
     let read = lookup_in(cipher, &mut standing, &mut area, table, from, stage, index);
     Move {
-        answer: Answer::Accepted,
+        answer: Ok(()),
         walk: changed(walk, n + 1, standing, area),
         offset: read.offset,
     }
 }
 
 // The answer: the standing bytes, once all lookups are made.
-pub fn fetch(walk: Walk, block: &mut [u8]) -> Answer
+pub fn fetch(walk: Walk, block: &mut [u8]) -> Result<(), Refusal>
     ensures { Fetches 10 block.old walk result block.new }
 {
     answer_of(TEN, walk, block)
 }
 
 // The same, of so many rounds.
-fn answer_of(rounds: usize, walk: Walk, block: &mut [u8]) -> Answer
+fn answer_of(rounds: usize, walk: Walk, block: &mut [u8]) -> Result<(), Refusal>
     requires { Rounds rounds }
     ensures { Fetches rounds block.old walk result block.new }
 {
     if block.len() != 16 {
-        return Answer::Refused(Refusal::BlockLength);
+        return Err(Refusal::BlockLength);
     }
     let all = lookups_in(rounds);
     if walk.count != all {
-        return Answer::Refused(Refusal::Unfinished);
+        return Err(Refusal::Unfinished);
     }
     let standing = walk.standing;
     store(block, standing);
-    Answer::Accepted
+    Ok(())
 }

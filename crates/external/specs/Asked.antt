@@ -1,11 +1,11 @@
 -- What coding and uncoding ask of what they are lent. Definitions only, which the private functions' contracts cite.
 use Rattle.std.specs.Prelude.{true, List, ◌≡◌, ℕ, ◌+◌, ◌≤◌, ◌<◌, length}
-use Rattle.answers.specs.declared.Answer.TheVariants.{Accepted}
 use Rattle.bits.specs.Encodings.{Permutation}
 use Rattle.matrices.specs.Matrices.{matrix_of}
 use Rattle.inversion.specs.Elimination.{invert, has_inverse}
 use Rattle.judgement.specs.Judge.{judge}
 use Rattle.external.specs.Coding.{output_first, most_output_first}
+use Rattle.answers.specs.Answer.{Accepted}
 
 -- Coding by the 32 encodings from `first` on, of which no number is behind the bundle's last, and by the block matrix that m holds where the bundle is
 -- accepted. The calls for the input and the output side ask `coding::encode_by` so.

@@ -1,9 +1,9 @@
 -- What the calls answer, and the lent block that they leave. Definitions only.
 use Rattle.std.specs.Prelude.{List, ℕ, length}
 use Rattle.answers.specs.Answers.{wants_length, and_then, if_accepted}
-use Rattle.answers.specs.declared.Answer.{Answer}
 use Rattle.answers.specs.declared.Refusal.TheVariants.{BlockLength}
 use Rattle.judgement.specs.Judge.{judge}
+use Rattle.answers.specs.Answer.{Answer}
 
 -- "Coding and uncoding judge the whole bundle": causes 2 to 7, then 10, "block not 16 bytes, in or out". Here the lengths of the two
 -- blocks.

@@ -2,7 +2,6 @@
 -- have the input coding of each as the output coding of the other, as docs/bundle-format.md tells houses. The statements; they are proved in
 -- proofs/laws/Exchanged.antt.
 use Rattle.std.specs.Prelude.{cond, List, ◌≡◌, ℕ, ◌+◌, ◌-◌, ◌≤◌, ◌<◌, ltb, replicate}
-use Rattle.answers.specs.declared.Answer.TheVariants.{Accepted}
 use Rattle.bits.specs.Bytes.{Bytes}
 use Rattle.bits.specs.Encodings.{Permutation, plain_encoding}
 use Rattle.bits.specs.Lists.{tabulate}
@@ -13,6 +12,7 @@ use Rattle.bundle.specs.Format.{encoding_of, input_matrix, output_matrix, shorte
 use Rattle.judgement.specs.Judge.{judge}
 use Rattle.judgement.specs.Witness.{mixing_matrix}
 use Rattle.external.specs.Coding.{output_first, encode_input, encode_output, SameOuter, Crossed}
+use Rattle.answers.specs.Answer.{Accepted}
 
 -- ---- equal outer lists and matrices
 pub record EqualOuter (nr : ℕ) (k l : List ℕ) : Type 0 where

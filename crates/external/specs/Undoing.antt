@@ -3,8 +3,8 @@ use Rattle.std.specs.Prelude.{List, ◌≡◌, ℕ}
 use Rattle.bits.specs.Bytes.{Bytes, Block}
 use Rattle.bundle.specs.Built.{PlainBut}
 use Rattle.judgement.specs.Judge.{judge}
-use Rattle.answers.specs.declared.Answer.TheVariants.{Accepted}
 use Rattle.external.specs.Coding.{encode_input, decode_input, output_first, encode_output, decode_output}
+use Rattle.answers.specs.Answer.{Accepted}
 
 -- "lists 6,016 to 6,047": document 01's number is the one for ten rounds.
 abbrev pub OutputFirst : Type 0

@@ -44,11 +44,9 @@ pub fn encode_nibbles(rounds: usize, bundle: &[u8], first: usize, src: &[u8], ds
     requires { (first ≤ most_output_first) × (length src.now ≡ 16) × (length dst.old ≡ 16) }
     ensures { dst.new ≡ encode_nibbles (encoding_of rounds bundle.now) first src.now }
 {
-    let mut i: usize = 0;
-    while i < 16 {
+    for i in 0..16 {
         let b = encoded(rounds, bundle, first + 2 * i, src[i]);
         dst[i] = b;
-        i += 1;
     }
 }
 
@@ -57,11 +55,9 @@ pub fn decode_nibbles(rounds: usize, bundle: &[u8], first: usize, src: &[u8], ds
     requires { TakesOff (encoding_of rounds bundle.now) first src.now dst.old }
     ensures { dst.new ≡ decode_nibbles (encoding_of rounds bundle.now) first src.now }
 {
-    let mut i: usize = 0;
-    while i < 16 {
+    for i in 0..16 {
         let b = decoded(rounds, bundle, first + 2 * i, src[i]);
         dst[i] = b;
-        i += 1;
     }
 }
 
@@ -91,7 +87,6 @@ pub fn unmultiply(m: &[u8], src: &[u8], dst: &mut [u8])
     ensures { dst.new ≡ multiply (inverse_of 128 (matrix_of 16 m.now)) src.now }
 {
     let mut inverse = [0u64; 256];
-    if inversion::invert_bytes(m, &mut inverse, 16) {
-        times(&inverse, src, dst);
-    }
+    inversion::invert_bytes(m, &mut inverse, 16).unwrap();
+    times(&inverse, src, dst);
 }

@@ -8,7 +8,7 @@ ghost use Rattle.external.specs.Calls.{answer, leaves};
 ghost use Rattle.external.specs.Coding.{encode_by, decode_by, encode_input, decode_input, encode_output, decode_output};
 
 use crate::block;
-use answers::{Answer, Refusal};
+use answers::Refusal;
 use bundle::parts;
 use judgement::judge;
 use rounds::TEN;
@@ -17,20 +17,17 @@ use rounds::TEN;
 const OUTPUT_FIRST: usize = 6016;
 
 // The answer for a bundle and blocks of these lengths.
-fn ready(rounds: usize, bundle: &[u8], from: usize, to: usize) -> Answer
+fn ready(rounds: usize, bundle: &[u8], from: usize, to: usize) -> Result<(), Refusal>
     ensures { result ≡ answer rounds bundle.now from to }
 {
-    let a = judge::judge_bundle(rounds, bundle);
-    let Answer::Accepted = a else {
-        return a;
-    };
+    judge::judge_bundle(rounds, bundle)?;
     if from != 16 {
-        return Answer::Refused(Refusal::BlockLength);
+        return Err(Refusal::BlockLength);
     }
     if to != 16 {
-        return Answer::Refused(Refusal::BlockLength);
+        return Err(Refusal::BlockLength);
     }
-    a
+    Ok(())
 }
 
 // The block matrix that m writes, then the 32 encodings from `first` on.
@@ -41,7 +38,7 @@ fn encode_by(
     m: &[u8],
     block: &[u8],
     out: &mut [u8],
-) -> Answer
+) -> Result<(), Refusal>
     requires { CodesBy rounds bundle.now first m.now }
     ensures answer { result ≡ answer rounds bundle.now (length block.now) (length out.old) }
     ensures block { out.new
@@ -49,13 +46,12 @@ fn encode_by(
         (encode_by (encoding_of rounds bundle.now) first (matrix_of 16 m.now))
         block.now out.old }
 {
-    let a = ready(rounds, bundle, block.len(), out.len());
-    if let Answer::Accepted = a {
-        let mut t = [0u8; 16];
-        block::multiply(m, block, &mut t);
-        block::encode_nibbles(rounds, bundle, first, &t, out);
-    }
-    a
+    // The call is judged before a byte is written.
+    ready(rounds, bundle, block.len(), out.len())?;
+    let mut t = [0u8; 16];
+    block::multiply(m, block, &mut t);
+    block::encode_nibbles(rounds, bundle, first, &t, out);
+    Ok(())
 }
 
 // The encodings taken off, then the inverse of the block matrix.
@@ -66,7 +62,7 @@ fn decode_by(
     m: &[u8],
     block: &[u8],
     out: &mut [u8],
-) -> Answer
+) -> Result<(), Refusal>
     requires { UncodesBy rounds bundle.now first m.now }
     ensures answer { result ≡ answer rounds bundle.now (length block.now) (length out.old) }
     ensures block { out.new
@@ -74,17 +70,17 @@ fn decode_by(
         (decode_by (encoding_of rounds bundle.now) first (matrix_of 16 m.now))
         block.now out.old }
 {
-    let a = ready(rounds, bundle, block.len(), out.len());
-    if let Answer::Accepted = a {
-        let mut t = [0u8; 16];
-        block::decode_nibbles(rounds, bundle, first, block, &mut t);
-        block::unmultiply(m, &t, out);
-    }
-    a
+    ready(rounds, bundle, block.len(), out.len())?;
+    let mut t = [0u8; 16];
+    block::decode_nibbles(rounds, bundle, first, block, &mut t);
+    block::unmultiply(m, &t, out);
+    Ok(())
 }
 
+// Four calls over the two functions above: C calls them by these names, and each contract names its own coding.
+
 // The input coding of a block ("coding").
-pub fn encode_input(bundle: &[u8], block: &[u8], out: &mut [u8]) -> Answer
+pub fn encode_input(bundle: &[u8], block: &[u8], out: &mut [u8]) -> Result<(), Refusal>
     ensures answer { result ≡ answer 10 bundle.now (length block.now) (length out.old) }
     ensures block { out.new
         ≡ leaves 10 bundle.now (encode_input 10 bundle.now) block.now out.old }
@@ -100,7 +96,7 @@ pub fn encode_input(bundle: &[u8], block: &[u8], out: &mut [u8]) -> Answer
 }
 
 // The input coding taken off ("uncoding").
-pub fn decode_input(bundle: &[u8], block: &[u8], out: &mut [u8]) -> Answer
+pub fn decode_input(bundle: &[u8], block: &[u8], out: &mut [u8]) -> Result<(), Refusal>
     ensures answer { result ≡ answer 10 bundle.now (length block.now) (length out.old) }
     ensures block { out.new
         ≡ leaves 10 bundle.now (decode_input 10 bundle.now) block.now out.old }
@@ -116,7 +112,7 @@ pub fn decode_input(bundle: &[u8], block: &[u8], out: &mut [u8]) -> Answer
 }
 
 // The output coding of a block.
-pub fn encode_output(bundle: &[u8], block: &[u8], out: &mut [u8]) -> Answer
+pub fn encode_output(bundle: &[u8], block: &[u8], out: &mut [u8]) -> Result<(), Refusal>
     ensures answer { result ≡ answer 10 bundle.now (length block.now) (length out.old) }
     ensures block { out.new
         ≡ leaves 10 bundle.now (encode_output 10 bundle.now) block.now out.old }
@@ -132,7 +128,7 @@ pub fn encode_output(bundle: &[u8], block: &[u8], out: &mut [u8]) -> Answer
 }
 
 // The output coding taken off.
-pub fn decode_output(bundle: &[u8], block: &[u8], out: &mut [u8]) -> Answer
+pub fn decode_output(bundle: &[u8], block: &[u8], out: &mut [u8]) -> Result<(), Refusal>
     ensures answer { result ≡ answer 10 bundle.now (length block.now) (length out.old) }
     ensures block { out.new
         ≡ leaves 10 bundle.now (decode_output 10 bundle.now) block.now out.old }

@@ -32,12 +32,10 @@ pub fn product(a: u8, b: u8) -> u8
     let mut x = a;
     let mut y = b;
     let mut sum: u8 = 0;
-    let mut left: usize = 8;
-    while 0 < left {
-        sum = sum ^ share(x, y);
+    for _done in 0u8..8 {
+        sum ^= share(x, y);
         x = xtimes(x);
-        y = y / 2;
-        left -= 1;
+        y /= 2;
     }
     sum
 }

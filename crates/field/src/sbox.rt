@@ -19,7 +19,7 @@ const SBOX: [u8; 256] = [
     153, 45, 15, 176, 84, 187, 22,
 ];
 
-// S(x).
+// S(x): one line over its table, as `inv_sub` is over the other; a table as a parameter would be no plainer.
 pub fn sub(x: u8) -> u8
     ensures { result ≡ sbox_of x }
 {

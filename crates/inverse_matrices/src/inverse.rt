@@ -9,8 +9,8 @@ pub fn read(p: &[u8], b: &mut [u64], w: usize)
     ensures { b.new ≡ written_inverse w p.now ++ drop (16 * w) b.old }
 {
     if w <= narrow::MOST_BYTES {
-        narrow::invert_bytes(p, b, w);
-        return;
+        narrow::invert_bytes(p, b, w).unwrap();
+    } else {
+        inversion::invert_bytes(p, b, w).unwrap();
     }
-    inversion::invert_bytes(p, b, w);
 }

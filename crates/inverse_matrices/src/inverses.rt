@@ -4,16 +4,14 @@ ghost use Rattle.std.specs.Prelude.{◌++◌, ◌≡◌, ◌-◌, ◌*◌, ◌<�
 ghost use Rattle.rounds.specs.Rounds.{Rounds};
 ghost use Rattle.bundle.specs.Format.{column_matrices};
 ghost use Rattle.layout.specs.Stages.{InRounds};
-ghost use Rattle.inverse_matrices.specs.Asked.{Opened};
 ghost use Rattle.inverse_matrices.specs.InverseWords.{input_words, column_words, in_front};
 ghost use Rattle.inverse_matrices.specs.InverseWords.{input_inverse, column_inverse, column_inverses, inverse_for, chosen_from};
 
 use crate::{column, inverse};
 use layout::stage::Stage;
 use round::key::MOST_ROUNDS;
-use view::found;
+use view::opened::Opened;
 use view::part::Part;
-use view::starts::Starts;
 
 // The words of the inverse of the input matrix, of a column matrix, and of all column matrices of the most rounds.
 pub const INPUT_WORDS: usize = 256;
@@ -23,51 +21,49 @@ pub const COLUMN_WORDS: usize = 64;
 pub const MOST_COLUMNS_WORDS: usize = 4 * (MOST_ROUNDS - 1) * COLUMN_WORDS;
 
 // The inverse of the input matrix.
-pub fn of_input(rounds: usize, bundle: &[u8], starts: Starts, dst: &mut [u64])
-    requires { Opened rounds bundle.now starts × (length dst.old ≡ input_words) }
-    ensures { dst.new ≡ input_inverse rounds bundle.now }
+pub fn of_input(opened: &Opened, dst: &mut [u64])
+    requires { length dst.old ≡ input_words }
+    ensures { dst.new ≡ input_inverse opened.now.rounds opened.now.bundle.now }
 {
-    let matrix = found::part(rounds, bundle, starts, Part::InputMatrix);
+    let matrix = opened.part(Part::InputMatrix);
     inverse::read(matrix, dst, 16);
 }
 
 // The inverse of column matrix n, into the front of dst.
-fn of_column(rounds: usize, bundle: &[u8], starts: Starts, n: usize, dst: &mut [u64])
-    requires { Opened rounds bundle.now starts × (n < column_matrices rounds) × (column_words ≤ length dst.old) }
-    ensures { dst.new ≡ column_inverse rounds bundle.now n ++ drop column_words dst.old }
+fn of_column(opened: &Opened, n: usize, dst: &mut [u64])
+    requires { (n < column_matrices opened.now.rounds) × (column_words ≤ length dst.old) }
+    ensures { dst.new ≡ column_inverse opened.now.rounds opened.now.bundle.now n ++ drop column_words dst.old }
 {
-    let matrix = found::part(rounds, bundle, starts, Part::ColumnMatrix(n));
+    let matrix = opened.part(Part::ColumnMatrix(n));
     inverse::read(matrix, dst, 4);
 }
 
 // The inverses of the column matrices, one after the other.
-pub fn of_columns(rounds: usize, bundle: &[u8], starts: Starts, dst: &mut [u64])
-    requires { Opened rounds bundle.now starts × (length dst.old ≡ 4 * (rounds - 1) * column_words) }
-    ensures { dst.new ≡ column_inverses rounds bundle.now }
+pub fn of_columns(opened: &Opened, dst: &mut [u64])
+    requires { length dst.old ≡ 4 * (opened.now.rounds - 1) * column_words }
+    ensures { dst.new ≡ column_inverses opened.now.rounds opened.now.bundle.now }
 {
-    let count = 4 * (rounds - 1);
-    let mut n: usize = 0;
-    while n < count {
+    let count = 4 * (opened.rounds - 1);
+    for n in 0..count {
         let a = n * COLUMN_WORDS;
         let e = a + COLUMN_WORDS;
-        of_column(rounds, bundle, starts, n, &mut dst[a..e]);
-        n += 1;
+        of_column(opened, n, &mut dst[a..e]);
     }
 }
 
 // The one inverse, if any, that table j of a stage or half is made with, into the front of dst: an XOR table, from 16
 // on, is made with none.
-pub fn of_table(rounds: usize, bundle: &[u8], starts: Starts, s: Stage, j: usize, dst: &mut [u64])
-    requires { Opened rounds bundle.now starts × InRounds rounds s × (length dst.old ≡ input_words) }
-    ensures { dst.new ≡ in_front (inverse_for rounds bundle.now s j) dst.old }
+pub fn of_table(opened: &Opened, s: Stage, j: usize, dst: &mut [u64])
+    requires { InRounds opened.now.rounds s × (length dst.old ≡ input_words) }
+    ensures { dst.new ≡ in_front (inverse_for opened.now.rounds opened.now.bundle.now s j) dst.old }
 {
     if 15 < j {
         return;
     }
     match s {
-        Stage::Entry => of_input(rounds, bundle, starts, dst),
+        Stage::Entry => of_input(opened, dst),
         Stage::First(_) => {}
-        Stage::Second(r) => of_column(rounds, bundle, starts, column::column_number(r, j), dst),
+        Stage::Second(r) => of_column(opened, column::column_number(r, j), dst),
         Stage::Exit => {}
         Stage::Beyond => {}
     }

@@ -1,4 +1,5 @@
 pub mod Elimination
 pub mod Inverses
+pub mod Rows
 pub mod Work
 pub mod Loops

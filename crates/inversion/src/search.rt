@@ -1,23 +1,20 @@
 // The search for a pivot, for the elimination here and for that of crate invertible.
-ghost use Rattle.std.specs.Prelude.{◌≡◌, ◌-◌, ◌*◌};
-ghost use Rattle.matrices.specs.Rows.{row_at};
+ghost use Rattle.std.specs.Prelude.{◌≡◌, ◌-◌, ◌*◌, ◌<◌, IfSome, IfNone};
 ghost use Rattle.inversion.specs.Elimination.{pivot_from};
-ghost use Rattle.inversion.specs.Work.{PivotSearch};
+ghost use Rattle.inversion.specs.Work.{Column, row_in};
 
-use bits::vector;
-use matrices::matrix::row;
+use crate::row::Row;
 
-// The first row from k on that has bit k, of a matrix whose row i is row step * i of m; n where none has.
-pub fn find(m: &[u64], step: usize, n: usize, k: usize) -> usize
-    requires { PivotSearch step n k m.now }
-    ensures { result ≡ pivot_from n k (λ i. row_at m.now (step * i)) (n - k) k }
+// The first row from k on that has bit k, if one has.
+pub fn find<R: Row>(rows: &[R], n: usize, k: usize) -> Option<usize>
+    requires { Column R.most n k rows.now }
+    ensures some { IfSome result (λ p. (p ≡ pivot_from n k (row_in R.number rows.now) (n - k) k) × (p < n)) }
+    ensures none { IfNone result (pivot_from n k (row_in R.number rows.now) (n - k) k ≡ n) }
 {
-    let mut i = k;
-    while i < n {
-        if vector::digit(row(m, step * i), n - 1 - k) == 1 {
-            return i;
+    for i in k..n {
+        if rows[i].digit(n - 1 - k) == 1 {
+            return Some(i);
         }
-        i += 1;
     }
-    n
+    None
 }

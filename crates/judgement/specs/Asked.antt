@@ -1,7 +1,7 @@
 -- What the search for a bad byte or column matrix asks of what it is lent. Definitions only, which the private functions' contracts cite.
 use Rattle.std.specs.Prelude.{List, ◌≡◌, ℕ, ◌*◌, ◌≤◌, ◌<◌, length}
-use Rattle.answers.specs.declared.Answer.TheVariants.{Accepted}
 use Rattle.bundle.specs.Format.{part_size, frame}
+use Rattle.answers.specs.Answer.{Accepted}
 
 -- The bytes s have room for `count` matrices of 8 w rows, each of `size` bytes. `judge::first_bad_matrix` lends `search::first_bad_mixing` such a section.
 pub record MatricesIn (s : List ℕ) (w size count : ℕ) : Type 0 where

@@ -11,12 +11,12 @@ use Rattle.bundle.specs.Built.{Plain, plain_bundle, plain_but}
 use Rattle.bundle.specs.Format.{encoding_of, byte_matrix}
 use Rattle.bundle.specs.Frames.{Framed}
 use Rattle.answers.specs.Numbers.{cause_of, second_of}
-use Rattle.answers.specs.declared.Answer.TheVariants.{Refused}
 use Rattle.answers.specs.declared.Refusal.{Refusal}
 use Rattle.answers.specs.declared.Refusal.TheVariants.{ByteMatrix}
 use Rattle.judgement.specs.Judge.{judge}
 use Rattle.judgement.specs.Judgements.{GoodEncodings, GoodByteMatrix, GoodColumnMatrices, GoodInputMatrix, GoodOutputMatrix}
 use Rattle.judgement.specs.Witness.{mixing_block, mixing_matrix}
+use Rattle.answers.specs.Answer.{Refused}
 
 -- A bundle is refused with document 01's two numbers.
 pub record RefusedWith (l : List ℕ) (cause second : ℕ) : Type 0 where

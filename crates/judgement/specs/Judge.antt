@@ -2,7 +2,6 @@
 -- without its tests in Judgements.antt. Definitions only.
 use Rattle.std.specs.Prelude.{Bool, false, not, ◌||◌, List, ℕ, zero, suc, ◌*◌, eqb}
 use Rattle.answers.specs.Answers.{refused_if, and_then}
-use Rattle.answers.specs.declared.Answer.{Answer}
 use Rattle.answers.specs.declared.Refusal.TheVariants.{Encoding, ByteMatrix, ColumnMatrix, InputMatrix, OutputMatrix}
 use Rattle.answers.specs.Search.{first, refused_at}
 use Rattle.inversion.specs.Elimination.{invert, has_inverse}
@@ -11,6 +10,7 @@ use Rattle.bits.specs.Lists.{at}
 use Rattle.matrices.specs.Matrices.{matrix_of}
 use Rattle.blocks.specs.Blocks.{some_block_bad}
 use Rattle.bundle.specs.Format.{encodings, byte_matrices, column_matrices, frame, encoding_part, byte_matrix_part, column_matrix_part, input_matrix_part, output_matrix_part}
+use Rattle.answers.specs.Answer.{Answer}
 
 -- ---- tests
 -- x is among the k numbers f j, f (j + 1), ..

@@ -10,12 +10,11 @@ use Rattle.bundle.specs.Frames.{LengthRight, Framed}
 use Rattle.bundle.specs.FreeBytes.{SameButFree}
 use Rattle.answers.specs.Search.{All, FirstBad}
 use Rattle.answers.specs.Numbers.{cause_of}
-use Rattle.answers.specs.declared.Answer.{Answer}
-use Rattle.answers.specs.declared.Answer.TheVariants.{Accepted, Refused}
 use Rattle.answers.specs.declared.Refusal.{Refusal}
 use Rattle.answers.specs.declared.Refusal.TheVariants.{KeyLength, BundleLength, Pair, Encoding, ByteMatrix, ColumnMatrix, InputMatrix}
 use Rattle.answers.specs.declared.Refusal.TheVariants.{OutputMatrix, TableNumber, SetLength, BlockLength, Stop, Unfinished, RecordLength, CataloguePosition}
 use Rattle.judgement.specs.Judge.{mixing_bad, judge}
+use Rattle.answers.specs.Answer.{Answer, Accepted, Refused}
 
 -- ---- byte and column matrices, each by itself
 -- Document 02, Ticket 5: "such a matrix is refused exactly if it or one of these blocks has no inverse". The bytes p write a matrix of 8 w rows and so of 2 w by 2 w

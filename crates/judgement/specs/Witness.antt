@@ -1,7 +1,6 @@
 -- That bundles are accepted, so that what is stated for every accepted bundle is stated of something: the statements. They are proved in
 -- proofs/laws/Witness.antt.
 use Rattle.std.specs.Prelude.{cond, List, [], ◌∷◌, ◌≡◌, ℕ, ◌≤◌, eqb}
-use Rattle.answers.specs.declared.Answer.TheVariants.{Accepted}
 use Rattle.answers.specs.Search.{All}
 use Rattle.bits.specs.Encodings.{Permutation}
 use Rattle.matrices.specs.Matrices.{identity, Invertible}
@@ -11,6 +10,7 @@ use Rattle.blocks.specs.Theorems.{BlockInvertible}
 use Rattle.bundle.specs.Format.{encodings, byte_matrices, column_matrices, shortest, longest}
 use Rattle.bundle.specs.Built.{Writable, bundle_of, plain_but}
 use Rattle.judgement.specs.Judge.{judge}
+use Rattle.answers.specs.Answer.{Accepted}
 
 -- What a bundle may be built from: the encodings E 0, E 1, .. are permutations, the byte matrices B 0, .. and the column matrices C 0, .. are block
 -- invertible, and the input matrix I and the output matrix O have inverses.

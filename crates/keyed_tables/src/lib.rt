@@ -2,5 +2,6 @@
 
 #![tactic(auto)]
 
+pub mod given;
 pub mod single;
 pub mod whole;

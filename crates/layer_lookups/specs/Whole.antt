@@ -1,16 +1,17 @@
 -- All lookups of a stage or half over the memory of a set, where their tables begin at byte `from`. Definitions only, for this crate's functions.
-use Rattle.std.specs.Prelude.{List, ◌⊎◌, ◌≡◌, ℕ, ◌+◌, ◌-◌, ◌/◌, ◌≤◌, ◌<◌, length}
+use Rattle.std.specs.Prelude.{List, ◌≡◌, ℕ, ◌+◌, ◌-◌, ◌/◌, ◌≤◌, ◌<◌}
 use Rattle.network.specs.Lookups.{Shape, zero_area, xor_index}
 use Rattle.network.specs.Order.{xors, layer_lookups}
 use Rattle.network.specs.Read.{read_in}
 use Rattle.network.specs.Sizes.{offset_of, layer_bytes}
 use Rattle.network.specs.Theorems.{WithinTable}
 use Rattle.network.specs.declared.EntryPlace.{EntryPlace}
+use Rattle.lookups.specs.InPlace.{Width}
 use Rattle.lookups.specs.Layer.{spreads_in, xors_in, sums_in}
 
 -- Group g is one of a stage or half of width m, whose tables lie in memory of the given length.
 pub record GroupAsked (m g from long : ℕ) : Type 0 where
-  pub width : (m ≡ 4) ⊎ (m ≡ 16)
+  pub width : Width m
   pub group : g < 16 / m
   pub room : from + layer_bytes m ≤ long
 
@@ -19,7 +20,6 @@ pub record XorsMade (m : ℕ) (set : List ℕ) (from x k : ℕ) (a : List ℕ) (
   pub entry : 0 < k → e ≡ xor_index m (k - 1 + x) (xors_in m set from x (k - 1) a)
   pub below : e < 256
   pub area : a' ≡ xors_in m set from x k a
-  pub long : length a' ≡ 256
 
 -- The place that the last lookup of the layer reads, where all but it are made.
 unfoldable pub place_of_last : Shape → List ℕ → ℕ → List ℕ → List ℕ → EntryPlace

@@ -1,21 +1,20 @@
 -- What this crate's functions ask and leave, below the one for a whole stage or half. Definitions only.
-use Rattle.std.specs.Prelude.{List, ◌++◌, ◌⊎◌, ◌≡◌, ℕ, ◌+◌, ◌*◌, ◌/◌, ◌%◌, ◌≤◌, ◌<◌, length, take, drop}
+use Rattle.std.specs.Prelude.{List, ◌++◌, ◌≡◌, ℕ, ◌+◌, ◌*◌, ◌/◌, ◌%◌, ◌≤◌, ◌<◌, length, take, drop}
 use Rattle.bits.specs.Bytes.{bytes_of}
 use Rattle.bits.specs.Lists.{at, concat}
 use Rattle.bits.specs.Nibbles.{half, nibble, pack}
 use Rattle.network.specs.Lookups.{Shape}
 use Rattle.network.specs.Sizes.{layer_bytes}
-use Rattle.lookups.specs.InPlace.{xor_byte}
+use Rattle.lookups.specs.InPlace.{Width, xor_byte}
 use Rattle.lookups.specs.Layer.{spreads_in, xors_in}
 use Rattle.layer_record.specs.Entries.{offset_bytes, entry_size, written}
 use Rattle.layer_record.specs.Layer.{spread_entry, xor_entry}
 
 -- ---- what they ask
--- The tables of a stage or half of width m, from byte `from` on, lie in the memory of a set; and a is the area of a walk.
-pub record XorsAsked (m from : ℕ) (set a : List ℕ) : Type 0 where
-  pub width : (m ≡ 4) ⊎ (m ≡ 16)
-  pub room : from + layer_bytes m ≤ length set
-  pub long : length a ≡ 256
+-- The tables of a stage or half of width m, from byte `from` on, lie in memory of the given length.
+pub record XorsAsked (m from long : ℕ) : Type 0 where
+  pub width : Width m
+  pub room : from + layer_bytes m ≤ long
 
 -- Two bytes of an area, the two tables of the first, one behind the other from byte `start` of the set, and memory for two entries.
 pub record ByteAsked (sum added start : ℕ) (set d : List ℕ) : Type 0 where
@@ -47,11 +46,9 @@ pub record ByteRecorded (set : List ℕ) (start sum added : ℕ) (a a' left : Li
 -- The k XOR lookups from lookup x on turn the area a into a', and `left` is what is recorded of them.
 pub record XorsRecorded (m : ℕ) (set : List ℕ) (from x k : ℕ) (a a' left : List ℕ) : Type 0 where
   pub area : a' ≡ xors_in m set from x k a
-  pub long : length a' ≡ 256
   pub bytes : left ≡ concat k (xor_entry m set from x a)
 
 -- All spread lookups do, from standing bytes s.
 pub record SpreadsRecorded (S : Shape) (set : List ℕ) (from : ℕ) (s a a' left : List ℕ) : Type 0 where
   pub area : a' ≡ spreads_in S set from s 16 a
-  pub long : length a' ≡ 256
   pub bytes : left ≡ concat 16 (spread_entry S set from s a)

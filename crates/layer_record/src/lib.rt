@@ -9,7 +9,6 @@ ghost use Rattle.bits.specs.Nibbles.{half, pack};
 ghost use Rattle.network.specs.Order.{xors, layer_lookups};
 ghost use Rattle.layout.specs.Ciphers.{reads_of};
 ghost use Rattle.layout.specs.Stages.{width_of, shape_at};
-ghost use Rattle.lookups.specs.InPlace.{Lent};
 ghost use Rattle.lookups.specs.Layer.{LayerStands, WordIn, word_xors, word_first, group_xors};
 ghost use Rattle.layer_record.specs.Entries.{offset_bytes, entry_size};
 ghost use Rattle.layer_record.specs.Layer.{LayerRecorded};
@@ -32,11 +31,7 @@ fn put_offset(part: &mut [u8], offset: usize)
     requires { length part.old ≡ offset_bytes }
     ensures { part.new ≡ bytes_of offset_bytes offset }
 {
-    let mut i = 0;
-    while i < OFFSET_BYTES {
-        part[i] = ((offset >> (8 * (OFFSET_BYTES - 1 - i))) % 256) as u8;
-        i += 1;
-    }
+    part.copy_from_slice(&((offset % 4294967296) as u32).to_be_bytes());
 }
 
 // The whole entry.
@@ -49,7 +44,7 @@ fn put_entry(part: &mut [u8], offset: usize, value: u8)
 }
 
 // All spread lookups of a stage or half, whose tables begin at byte `from` of the set.
-fn record_spreads(
+fn record_spreads<const WIDTH: usize>(
     cipher: u64,
     standing: &[u8; 16],
     area: &mut [u8; 256],
@@ -58,18 +53,16 @@ fn record_spreads(
     stage: Stage,
     recorded: &mut [u8],
 )
-    requires { LayerStands stage from (length set.now) × Lent standing.now area.old
+    requires { LayerStands stage from (length set.now) × (WIDTH ≡ width_of stage)
         × (length recorded.old ≡ 16 * entry_size) }
     ensures { SpreadsRecorded (shape_at (reads_of cipher) stage) set.now from
         standing.now area.old area.new recorded.new }
 {
-    let mut p = 0;
-    while p < SPREADS {
+    for p in 0..SPREADS {
         let at = p * ENTRY_BYTES;
         let to = at + ENTRY_BYTES;
-        let offset = layer::spread_in(cipher, standing, area, set, from, stage, p);
+        let offset = layer::spread_in::<WIDTH>(cipher, standing, area, set, from, stage, p);
         put_entry(&mut recorded[at..to], offset, set[offset]);
-        p += 1;
     }
 }
 
@@ -122,26 +115,24 @@ fn record_byte(
 }
 
 // The XOR lookups of word t of group g, two for each of its bytes.
-fn record_word(
+fn record_word<const WIDTH: usize>(
     area: &mut [u8; 256],
     set: &[u8],
     from: usize,
-    width: usize,
     g: usize,
     t: usize,
     recorded: &mut [u8],
 )
-    requires { WordIn width g t × XorsAsked width from set.now area.old
-        × (length recorded.old ≡ word_xors width * entry_size) }
-    ensures { XorsRecorded width set.now from (word_first width g t) (word_xors width)
+    requires { WordIn WIDTH g t × XorsAsked WIDTH from (length set.now)
+        × (length recorded.old ≡ word_xors WIDTH * entry_size) }
+    ensures { XorsRecorded WIDTH set.now from (word_first WIDTH g t) (word_xors WIDTH)
         area.old area.new recorded.new }
 {
-    let word = layer::word_in(width, g, t);
+    let word = layer::word_in(WIDTH, g, t);
     let sum = word.sum;
     let added = word.added;
     let start = from + word.tables;
-    let mut i = 0;
-    while i < width {
+    for i in 0..WIDTH {
         let at = i * PAIR_ENTRIES;
         let to = at + PAIR_ENTRIES;
         record_byte(
@@ -152,72 +143,79 @@ fn record_word(
             added + i,
             &mut recorded[at..to],
         );
-        i += 1;
     }
-}
-
-// The same, of a width that the compiler knows.
-fn record_known(
-    area: &mut [u8; 256],
-    set: &[u8],
-    from: usize,
-    width: usize,
-    g: usize,
-    t: usize,
-    recorded: &mut [u8],
-)
-    requires { WordIn width g t × XorsAsked width from set.now area.old
-        × (length recorded.old ≡ word_xors width * entry_size) }
-    ensures { XorsRecorded width set.now from (word_first width g t) (word_xors width)
-        area.old area.new recorded.new }
-{
-    if width == 16 {
-        record_word(area, set, from, 16, g, t, recorded);
-        return;
-    }
-    record_word(area, set, from, 4, g, t, recorded);
 }
 
 // Those of a group, word by word.
-fn record_group(
+fn record_group<const WIDTH: usize>(
     area: &mut [u8; 256],
     set: &[u8],
     from: usize,
-    width: usize,
     g: usize,
     recorded: &mut [u8],
 )
-    requires { (g < 16 / width) × XorsAsked width from set.now area.old
-        × (length recorded.old ≡ group_xors width * entry_size) }
-    ensures { XorsRecorded width set.now from (g * group_xors width) (group_xors width)
+    requires { (g < 16 / WIDTH) × XorsAsked WIDTH from (length set.now)
+        × (length recorded.old ≡ group_xors WIDTH * entry_size) }
+    ensures { XorsRecorded WIDTH set.now from (g * group_xors WIDTH) (group_xors WIDTH)
         area.old area.new recorded.new }
 {
-    let size = PAIR_ENTRIES * width;
-    let mut t = 1;
-    while t < width {
+    let size = PAIR_ENTRIES * WIDTH;
+    for t in 1..WIDTH {
         let at = (t - 1) * size;
         let to = at + size;
-        record_known(area, set, from, width, g, t, &mut recorded[at..to]);
-        t += 1;
+        record_word::<WIDTH>(area, set, from, g, t, &mut recorded[at..to]);
     }
 }
 
 // All XOR lookups of a stage or half, whose tables begin at byte `from` of the set, behind those of the spread lookups:
 // "rounds, column, then word 1 to 3, then half-byte 0 to 7".
-fn record_xors(area: &mut [u8; 256], set: &[u8], from: usize, width: usize, recorded: &mut [u8])
-    requires { XorsAsked width from set.now area.old × (length recorded.old ≡ xors width * entry_size) }
-    ensures { XorsRecorded width set.now from 0 (xors width)
+fn record_xors<const WIDTH: usize>(
+    area: &mut [u8; 256],
+    set: &[u8],
+    from: usize,
+    recorded: &mut [u8],
+)
+    requires { XorsAsked WIDTH from (length set.now) × (length recorded.old ≡ xors WIDTH * entry_size) }
+    ensures { XorsRecorded WIDTH set.now from 0 (xors WIDTH)
         area.old area.new recorded.new }
 {
-    let groups = SPREADS / width;
-    let size = PAIR_ENTRIES * width * (width - 1);
-    let mut g = 0;
-    while g < groups {
+    let groups = SPREADS / WIDTH;
+    let size = PAIR_ENTRIES * WIDTH * (WIDTH - 1);
+    for g in 0..groups {
         let at = g * size;
         let to = at + size;
-        record_group(area, set, from, width, g, &mut recorded[at..to]);
-        g += 1;
+        record_group::<WIDTH>(area, set, from, g, &mut recorded[at..to]);
     }
+}
+
+// All lookups of a stage or half whose width the compiler knows.
+fn record_of_width<const WIDTH: usize>(
+    cipher: u64,
+    standing: &mut [u8; 16],
+    area: &mut [u8; 256],
+    set: &[u8],
+    from: usize,
+    stage: Stage,
+    recorded: &mut [u8],
+)
+    requires { LayerStands stage from (length set.now) × (WIDTH ≡ width_of stage)
+        × (length recorded.old ≡ layer_lookups (width_of stage) * entry_size) }
+    ensures { LayerRecorded (shape_at (reads_of cipher) stage) set.now from
+        standing.old area.old standing.new area.new recorded.new }
+{
+    let mid = SPREADS * ENTRY_BYTES;
+    let end = recorded.len();
+    record_spreads::<WIDTH>(
+        cipher,
+        standing,
+        area,
+        set,
+        from,
+        stage,
+        &mut recorded[0..mid],
+    );
+    record_xors::<WIDTH>(area, set, from, &mut recorded[mid..end]);
+    layer::finish(standing, area, WIDTH);
 }
 
 // All lookups of a stage or half, whose tables begin at byte `from` of the set.
@@ -230,23 +228,14 @@ pub fn record_layer(
     stage: Stage,
     recorded: &mut [u8],
 )
-    requires { LayerStands stage from (length set.now) × Lent standing.old area.old
+    requires { LayerStands stage from (length set.now)
         × (length recorded.old ≡ layer_lookups (width_of stage) * entry_size) }
     ensures { LayerRecorded (shape_at (reads_of cipher) stage) set.now from
         standing.old area.old standing.new area.new recorded.new }
 {
-    let width = width_of(stage);
-    let mid = SPREADS * ENTRY_BYTES;
-    let end = recorded.len();
-    record_spreads(
-        cipher,
-        standing,
-        area,
-        set,
-        from,
-        stage,
-        &mut recorded[0..mid],
-    );
-    record_xors(area, set, from, width, &mut recorded[mid..end]);
-    layer::finish(standing, area, width);
+    if width_of(stage) == 16 {
+        record_of_width::<16>(cipher, standing, area, set, from, stage, recorded);
+    } else {
+        record_of_width::<4>(cipher, standing, area, set, from, stage, recorded);
+    }
 }

@@ -13,8 +13,7 @@ use bits::vector::Vector;
 use bits::{slices, vector};
 use matrices::matrix;
 use round::state::{INV_MIX, MIX};
-use view::found;
-use view::starts::Starts;
+use view::opened::Opened;
 
 // Row t, column q of MixColumns, or of InvMixColumns.
 fn coefficient(cipher: u64, t: usize, q: usize) -> u8
@@ -48,10 +47,8 @@ fn byte_by_part(p: &[u8], x: u8) -> u8
     ensures { result ≡ product 8 (matrix_of 1 p.now) x }
 {
     let mut r: u64 = 0;
-    let mut i: usize = 0;
-    while i < 8 {
+    for i in 0..8 {
         r = push_parity(r, p[i] as u64, x as u64);
-        i += 1;
     }
     r as u8
 }
@@ -62,10 +59,8 @@ fn mixed(cipher: u64, q: usize, y: u8) -> u64
     ensures { result ≡ mixed_column cipher q y }
 {
     let mut v: u64 = 0;
-    let mut t: usize = 0;
-    while t < 4 {
+    for t in 0..4 {
         v = v * 256 + field::product(coefficient(cipher, t, q), y) as u64;
-        t += 1;
     }
     v
 }
@@ -76,10 +71,8 @@ fn words_of(p: &[u8]) -> [u64; 32]
     ensures { result ≡ matrix_of 4 p.now }
 {
     let mut rows = [0u64; 32];
-    let mut i: usize = 0;
-    while i < 32 {
+    for i in 0..32 {
         rows[i] = slices::number_at(p, i * 4) as u64;
-        i += 1;
     }
     rows
 }
@@ -90,10 +83,8 @@ fn by_words(rows: &[u64], v: u64) -> u64
     ensures { result ≡ product 32 rows.now v }
 {
     let mut r: u64 = 0;
-    let mut i: usize = 0;
-    while i < 32 {
+    for i in 0..32 {
         r = push_parity(r, rows[i], v);
-        i += 1;
     }
     r
 }
@@ -104,38 +95,25 @@ fn by_bytes(section: &[u8], first: usize, n: usize, v: Vector) -> Vector
     ensures { value result ≡ by_matrices section.now first n (value v) }
 {
     let mut b = [0u8; 16];
-    let mut j: usize = 0;
-    while j < n {
+    for j in 0..n {
         b[j] = byte_by_part(
             slices::part(section, 8, first + j),
             vector::byte(v, n - 1 - j),
         );
-        j += 1;
     }
     vector::read(&b, 0, n)
 }
 
 // Entry and second halves: the byte is placed at i of n bytes and multiplied by the matrix m, then each byte by its byte
 // matrix. The product of m and 2^k at that place is a column of m.
-pub fn spread_basis(
-    rounds: usize,
-    bundle: &[u8],
-    starts: Starts,
-    m: &[u64],
-    n: usize,
-    i: usize,
-    first: usize,
-    basis: &mut [u64],
-)
-    requires { ForSpread rounds bundle.now starts m.now n i first basis.old }
-    ensures { basis.new ≡ spread_basis rounds bundle.now m.now n i first basis.old }
+pub fn spread_basis(opened: &Opened, m: &[u64], n: usize, i: usize, first: usize, basis: &mut [u64])
+    requires { ForSpread opened.now.rounds m.now n i first basis.old }
+    ensures { basis.new ≡ spread_basis opened.now.rounds opened.now.bundle.now m.now n i first basis.old }
 {
-    let section = found::byte_matrices(rounds, bundle, starts);
-    let mut k: usize = 0;
-    while k < 8 {
+    let section = opened.byte_matrices();
+    for k in 0..8 {
         let v = matrix::column(m, 8 * n, 8 * (n - 1 - i) + k);
         matrix::set_row(basis, k, by_bytes(section, first, n, v));
-        k += 1;
     }
 }
 
@@ -145,11 +123,9 @@ pub fn mixed_basis(cipher: u64, p: &[u8], q: usize, basis: &mut [u64])
     ensures { basis.new ≡ mixed_basis cipher p.now q basis.old }
 {
     let rows = words_of(p);
-    let mut k: usize = 0;
-    while k < 8 {
+    for k in 0..8 {
         let v = by_words(&rows, mixed(cipher, q, power(k)));
         matrix::set_row(basis, k, Vector { hi: 0, lo: v });
-        k += 1;
     }
 }
 
@@ -159,11 +135,9 @@ fn written_column(p: &[u8], i: usize, k: usize) -> Vector
     ensures { value result ≡ product 128 (matrix_of 16 p.now) (placed 16 i (2 ^ k)) }
 {
     let mut v = Vector { hi: 0, lo: 0 };
-    let mut r: usize = 0;
-    while r < 128 {
+    for r in 0..128 {
         let b = (p[r * 16 + i] >> k) % 2;
         v = vector::push_bit(v, b as u64);
-        r += 1;
     }
     v
 }
@@ -173,9 +147,7 @@ pub fn placed_basis(p: &[u8], i: usize, basis: &mut [u64])
     requires { (2048 ≤ length p.now) × (i < 16) × (length basis.old ≡ 16) }
     ensures { basis.new ≡ placed_basis p.now i basis.old }
 {
-    let mut k: usize = 0;
-    while k < 8 {
+    for k in 0..8 {
         matrix::set_row(basis, k, written_column(p, i, k));
-        k += 1;
     }
 }

@@ -6,7 +6,7 @@ ghost use Rattle.layout.specs.Ciphers.{kept, inv_shifted, reads_of};
 // The forward cipher, with which the programs stay.
 pub const FORWARD: u64 = 0;
 
-// The number that a walk keeps: 0 or 1.
+// The number that a walk keeps: 0 or 1. The calls and a held walk take any number of 64 bits, so it is no enum there.
 pub fn kept(cipher: u64) -> u64
     ensures { result ≡ kept cipher }
 {

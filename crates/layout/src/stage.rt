@@ -111,13 +111,13 @@ fn placed(stage: Stage, width: usize, start: usize, j: usize) -> Place
 {
     match j {
         0..=15 => Place {
-            stage: stage,
+            stage,
             index: j,
             size: 256 * width,
             offset: start + j * (256 * width),
         },
         _ => Place {
-            stage: stage,
+            stage,
             index: j,
             size: 128,
             offset: start + 16 * (256 * width) + (j - 16) * 128,
@@ -161,7 +161,7 @@ fn beyond(j: usize, offset: usize) -> Place
         stage: Stage::Beyond,
         index: j,
         size: 0,
-        offset: offset,
+        offset,
     }
 }
 

@@ -1,5 +1,5 @@
 -- Lookups as the code makes them, one by one: the standing bytes and the area change in place. Definitions only, for this crate's functions.
-use Rattle.std.specs.Prelude.{cond, List, ◌⊎◌, ◌≡◌, ℕ, suc, ◌+◌, ◌*◌, ◌/◌, ◌%◌, ◌≤◌, ◌<◌, eqb, length, set, take, drop}
+use Rattle.std.specs.Prelude.{cond, List, ◌⊎◌, ◌≡◌, ℕ, suc, ◌+◌, ◌*◌, ◌/◌, ◌%◌, ◌≤◌, ◌<◌, eqb, length, set, drop}
 use Rattle.std.proofs.Math.Seq.{paste}
 use Rattle.bits.specs.Lists.{at}
 use Rattle.bits.specs.Nibbles.{pack, nibble, set_nibble}
@@ -17,10 +17,9 @@ abbrev pub offset_limit : ℕ
 offset_limit = 4294967296
 
 -- ---- what the functions ask
--- The two arrays of a walk: its standing bytes s and its spread area a.
-pub record Lent (s a : List ℕ) : Type 0 where
-  pub standing : length s ≡ 16
-  pub area : length a ≡ 256
+-- Words have that many bytes: 16 of entry and exit, 4 of a half.
+abbrev pub Width : ℕ → Type 0
+Width m = (m ≡ 4) ⊎ (m ≡ 16)
 
 -- Spread lookup p is one of 16, of words of m bytes, and its table has a word for each byte.
 pub record SpreadIn (m p long : ℕ) : Type 0 where
@@ -53,12 +52,6 @@ pub record SpreadRead (t : List ℕ) (m p x : ℕ) (a : List ℕ) (r : ℕ) (a' 
   pub word : r ≡ x * m
   pub ends : r + m ≤ 256 * m
   pub area : a' ≡ paste a (p * m) (drop (x * m) t) m
-  pub long : length a' ≡ length a
-
--- The first m bytes of w are those of the table t from byte `from` on.
-pub record WordRead (t : List ℕ) (m from : ℕ) (w : List ℕ) : Type 0 where
-  pub same : take m w ≡ take m (drop from t)
-  pub long : length w ≡ 16
 
 -- An XOR lookup over the table t at two nibbles of an area a reads entry e and leaves the area a'.
 pub record XorRead (t : List ℕ) (sum added : ℕ) (a : List ℕ) (e : ℕ) (a' : List ℕ) : Type 0 where
@@ -83,11 +76,9 @@ pub record XorMade (m x : ℕ) (t a : List ℕ) (e : ℕ) (a' : List ℕ) : Type
   pub below : e < 256
   pub area : a' ≡ xor_area m x t a
 
--- Lookup j over the table t, which begins at byte `from` of the set, reads the place r and turns standing bytes s and area a into s' and a' of the same
--- lengths, at any count.
+-- Lookup j over the table t, which begins at byte `from` of the set, reads the place r and turns standing bytes s and area a into s' and a', at any
+-- count.
 pub record LookedUp (S : Shape) (j : ℕ) (t : List ℕ) (from : ℕ) (s a : List ℕ) (r : EntryPlace) (s' a' : List ℕ) : Type 0 where
   pub read : r ≡ read_in S j from s a
   pub table : WithinTable S.width j from r
   pub walk : (n : ℕ) → lookup_in S j t (state_at n s a) ≡ state_at (suc n) s' a'
-  pub kept : length s' ≡ length s
-  pub long : length a' ≡ length a

@@ -1,19 +1,19 @@
 -- The lookups of a stage or half over the memory of a set, where their tables begin at byte `from`: for crates that make all of them, a spread lookup, a
 -- pair of XOR lookups or a word of a group at a time. Definitions only.
-use Rattle.std.specs.Prelude.{List, ◌⊎◌, ◌≡◌, ℕ, zero, suc, ◌+◌, ◌-◌, ◌*◌, ◌/◌, ◌≤◌, ◌<◌, length, take, drop}
+use Rattle.std.specs.Prelude.{List, ◌≡◌, ℕ, zero, suc, ◌+◌, ◌-◌, ◌*◌, ◌/◌, ◌≤◌, ◌<◌, length, take, drop}
 use Rattle.bits.specs.Lists.{at}
 use Rattle.network.specs.Lookups.{Shape, spread_area, xor_area, sums}
 use Rattle.network.specs.Order.{xors}
 use Rattle.network.specs.Sizes.{size_of, offset_of, layer_bytes}
 use Rattle.layout.specs.Stages.{width_of}
 use Rattle.layout.specs.declared.stage.Stage.{Stage}
-use Rattle.lookups.specs.InPlace.{offset_limit}
+use Rattle.lookups.specs.InPlace.{offset_limit, Width}
 use Rattle.lookups.specs.declared.layer.Word.{Word}
 
 -- ---- what the functions ask
 -- The tables of a stage or half, from byte `from` on, lie in memory of the given length.
 pub record LayerStands (s : Stage) (from long : ℕ) : Type 0 where
-  pub width : (width_of s ≡ 4) ⊎ (width_of s ≡ 16)
+  pub width : Width (width_of s)
   pub room : from + layer_bytes (width_of s) ≤ long
   pub short : long ≤ offset_limit
 
@@ -24,7 +24,7 @@ pub record SpreadAsked (s : Stage) (p from long : ℕ) : Type 0 where
 
 -- Word t is one of group g of a stage or half of width m that is added to the group's sum, which is its word 0.
 pub record WordIn (m g t : ℕ) : Type 0 where
-  pub width : (m ≡ 4) ⊎ (m ≡ 16)
+  pub width : Width m
   pub group : g < 16 / m
   pub some : 0 < t
   pub within : t < m
@@ -38,7 +38,6 @@ pub record SpreadMade (S : Shape) (set : List ℕ) (from p : ℕ) (s a : List �
   pub word : r ≡ from + offset_of S.width p + at s (S.source p) * S.width
   pub ends : r + S.width ≤ length set
   pub area : a' ≡ spread_area S.width (S.source p) p (table_from S.width set from p) s a
-  pub long : length a' ≡ length a
 
 -- The area after the first k spread lookups.
 unfoldable pub spreads_in : Shape → List ℕ → ℕ → List ℕ → ℕ → List ℕ → List ℕ

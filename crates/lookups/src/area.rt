@@ -1,10 +1,10 @@
 // The spread area, changed in place.
-ghost use Rattle.std.specs.Prelude.{◌⊎◌, ◌≡◌, ◌+◌, ◌*◌, ◌/◌, ◌%◌, ◌<◌, ◌≤◌, length};
+ghost use Rattle.std.specs.Prelude.{◌≡◌, ◌+◌, ◌*◌, ◌/◌, ◌%◌, ◌<◌, ◌≤◌, length};
 ghost use Rattle.network.specs.Lookups.{sums, zero_area};
-ghost use Rattle.lookups.specs.InPlace.{SpreadIn, with_half, SpreadRead, XorRead, WordRead};
+ghost use Rattle.lookups.specs.InPlace.{Width, SpreadIn, with_half, SpreadRead, XorRead};
 
 use crate::pair::{half_of, index_of, joined, xor_entry};
-use bits::encoding;
+use std::array;
 
 // The byte x with the half replaced by v that is nibble q of a list.
 fn with_half(x: u8, q: usize, v: usize) -> u8
@@ -34,52 +34,24 @@ pub fn xor(area: &mut [u8; 256], table: &[u8], sum: usize, added: usize) -> usiz
     e
 }
 
-// The word of `width` bytes that begins at a byte of a table, in front of zeros. It is read whole before it is written:
-// the compiler cannot know that a table and an area lie apart, and would move it byte by byte.
-fn word_of(table: &[u8], width: usize, from: usize) -> [u8; 16]
-    requires { (width ≤ 16) × (from + width ≤ length table.now) }
-    ensures { WordRead table.now width from result }
-{
-    let mut word = [0u8; 16];
-    let mut b = 0;
-    while b < width {
-        word[b] = table[from + b];
-        b += 1;
-    }
-    word
-}
-
-// A spread lookup: the byte s picks a word of the table, which becomes word p of the area. Hands back the byte
-// of the table where it begins.
+// A spread lookup: the byte s picks a word of the table, which becomes word p of the area. It is read whole before it is
+// written: the compiler cannot know that the table and the area lie apart, and would test it or move the word byte by
+// byte. Hands back the byte of the table where it begins.
 pub fn spread(area: &mut [u8; 256], table: &[u8], width: usize, p: usize, s: u8) -> usize
-    requires { SpreadIn width p (length table.now) × (length area.old ≡ 256) }
+    requires { SpreadIn width p (length table.now) }
     ensures { SpreadRead table.now width p s area.old result area.new }
 {
     let to = p * width;
-    let from = encoding::widened(s) * width;
-    let word = word_of(table, width, from);
-    let mut b = 0;
-    while b < width {
-        area[to + b] = word[b];
-        b += 1;
-    }
+    let from = usize::from(s) * width;
+    let mut word = [0u8; 16];
+    word[..width].copy_from_slice(&table[from..from + width]);
+    area[to..to + width].copy_from_slice(&word[..width]);
     from
-}
-
-// The same, of a width that the compiler knows: the word is moved at once.
-pub fn spread_known(area: &mut [u8; 256], table: &[u8], width: usize, p: usize, s: u8) -> usize
-    requires { SpreadIn width p (length table.now) × (length area.old ≡ 256) × ((width ≡ 4) ⊎ (width ≡ 16)) }
-    ensures { SpreadRead table.now width p s area.old result area.new }
-{
-    if width == 16 {
-        return spread(area, table, 16, p, s);
-    }
-    spread(area, table, 4, p, s)
 }
 
 // Where byte q of the sums stands: in word 0 of its group.
 fn sum_at(width: usize, q: usize) -> usize
-    requires { ((width ≡ 4) ⊎ (width ≡ 16)) × (q < 16) }
+    requires { Width width × (q < 16) }
     ensures { (result ≡ q / width * width * width + q % width) × (result < 256) }
 {
     if width == 16 { q } else { q / 4 * 16 + q % 4 }
@@ -87,25 +59,15 @@ fn sum_at(width: usize, q: usize) -> usize
 
 // The sums, word 0 of each group, become the standing bytes.
 pub fn take_sums(standing: &mut [u8; 16], area: &[u8; 256], width: usize)
-    requires { (length standing.old ≡ 16) × ((width ≡ 4) ⊎ (width ≡ 16)) }
+    requires { Width width }
     ensures { standing.new ≡ sums width area.now }
 {
-    let mut q = 0;
-    while q < 16 {
-        let i = sum_at(width, q);
-        standing[q] = area[i];
-        q += 1;
-    }
+    *standing = array::from_fn(|q| area[sum_at(width, q)]);
 }
 
 // The area is made zero.
 pub fn clear(area: &mut [u8; 256])
-    requires { length area.old ≡ 256 }
     ensures { area.new ≡ zero_area }
 {
-    let mut i = 0;
-    while i < 256 {
-        area[i] = 0;
-        i += 1;
-    }
+    area.fill(0);
 }

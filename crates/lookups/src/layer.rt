@@ -1,12 +1,12 @@
 // The lookups of a stage or half, in place: the standing bytes and the area are lent. One lookup over its table; and
 // what crates that make all of them over a set share.
-ghost use Rattle.std.specs.Prelude.{◌⊎◌, ◌≡◌, ◌≤◌, ◌<◌, length};
+ghost use Rattle.std.specs.Prelude.{◌≡◌, ◌≤◌, ◌<◌, length};
 ghost use Rattle.network.specs.Order.{layer_lookups};
 ghost use Rattle.network.specs.Lookups.{sums, zero_area};
 ghost use Rattle.network.specs.Read.{nibble_place};
 ghost use Rattle.layout.specs.Ciphers.{reads_of};
-ghost use Rattle.layout.specs.Stages.{shape_at};
-ghost use Rattle.lookups.specs.InPlace.{offset_limit, Lent, XorIn, Fits, XorMade, LookedUp};
+ghost use Rattle.layout.specs.Stages.{width_of, shape_at};
+ghost use Rattle.lookups.specs.InPlace.{offset_limit, Width, XorIn, Fits, XorMade, LookedUp};
 ghost use Rattle.lookups.specs.Layer.{SpreadAsked, SpreadMade, WordIn, WordAt};
 
 use crate::area;
@@ -34,7 +34,7 @@ pub struct Word {
 
 // All lookups of a stage or half.
 pub fn lookups_of(width: usize) -> usize
-    requires { (width ≡ 4) ⊎ (width ≡ 16) }
+    requires { Width width }
     ensures { result ≡ layer_lookups width }
 {
     if width == 16 {
@@ -82,7 +82,7 @@ pub fn lookup_in(
     stage: Stage,
     j: usize,
 ) -> EntryPlace
-    requires { Fits stage j from (length table.now) × Lent standing.old area.old }
+    requires { Fits stage j from (length table.now) }
     ensures { LookedUp (shape_at (reads_of cipher) stage) j table.now from
         standing.old area.old result standing.new area.new }
 {
@@ -105,9 +105,9 @@ pub fn lookup_in(
     read
 }
 
-// Spread lookup p of a stage or half, whose tables begin at byte `from` of the set. Hands back the byte of the set
-// where the word begins that was read.
-pub fn spread_in(
+// Spread lookup p of a stage or half, whose tables begin at byte `from` of the set, where the compiler knows the width:
+// the word is moved at once. Hands back the byte of the set where the word begins that was read.
+pub fn spread_in<const WIDTH: usize>(
     cipher: u64,
     standing: &[u8; 16],
     area: &mut [u8; 256],
@@ -116,16 +116,15 @@ pub fn spread_in(
     stage: Stage,
     p: usize,
 ) -> usize
-    requires { SpreadAsked stage p from (length set.now) × Lent standing.now area.old }
+    requires { SpreadAsked stage p from (length set.now) × (WIDTH ≡ width_of stage) }
     ensures { SpreadMade (shape_at (reads_of cipher) stage) set.now from p
         standing.now area.old result area.new }
 {
-    let width = width_of(stage);
-    let size = WORDS * width;
+    let size = WORDS * WIDTH;
     let start = from + p * size;
     let end = start + size;
     let i = source_of(cipher, stage, p);
-    let word = area::spread_known(area, &set[start..end], width, p, standing[i]);
+    let word = area::spread(area, &set[start..end], WIDTH, p, standing[i]);
     start + word
 }
 
@@ -145,7 +144,7 @@ pub fn word_in(width: usize, g: usize, t: usize) -> Word
 
 // Behind the last lookup of a stage or half: the sums become the standing bytes, and the area zero.
 pub fn finish(standing: &mut [u8; 16], area: &mut [u8; 256], width: usize)
-    requires { Lent standing.old area.old × ((width ≡ 4) ⊎ (width ≡ 16)) }
+    requires { Width width }
     ensures { (standing.new ≡ sums width area.old) × (area.new ≡ zero_area) }
 {
     area::take_sums(standing, area, width);

@@ -4,14 +4,12 @@ ghost use Rattle.std.specs.Prelude.{◌≡◌, ◌<◌, ◌%◌, length};
 ghost use Rattle.bits.specs.Nibbles.{half, nibble, pack};
 ghost use Rattle.lookups.specs.InPlace.{XorTables, PairRead};
 
-use bits::encoding;
-
 // The half of the byte x that is nibble q of a list: the low one is not shifted. (With a test in place of the shift a
 // walk takes a tenth longer.)
 pub fn half_of(x: u8, q: usize) -> usize
     ensures { (result ≡ half (q % 2) x) × (result < 16) }
 {
-    (encoding::widened(x) >> (4 * (1 - q % 2))) % 16
+    (usize::from(x) >> (4 * (1 - q % 2))) % 16
 }
 
 // The byte of two nibbles.

@@ -7,7 +7,6 @@ ghost use Rattle.layout.specs.Stages.{ten_set_bytes};
 ghost use Rattle.streams.specs.Written.{Written};
 ghost use Rattle.maker.specs.Writes.{maker_writes, Runs};
 
-use answers::Answer;
 use bundle::frame::LONGEST;
 use layout::cipher::FORWARD;
 use layout::stage::SET_BYTES;
@@ -21,11 +20,10 @@ fn make(key: &[u8], bundle: &[u8], memory: &mut [u8]) -> usize
     requires { length memory.old ≡ ten_set_bytes }
     ensures { Written (maker_writes 4 key.now bundle.now) memory.old result memory.new }
 {
-    let answer = make_set(FORWARD, key, bundle, memory);
-    let Answer::Refused(refusal) = answer else {
-        return memory.len();
-    };
-    refusal_line(refusal, memory)
+    match make_set(FORWARD, key, bundle, memory) {
+        Ok(()) => memory.len(),
+        Err(refusal) => refusal_line(refusal, memory),
+    }
 }
 
 // Reads, and makes what is to be written. One byte more than the longest bundle tells a longer one, which the call then turns down.

@@ -36,11 +36,9 @@ pub fn multiply(m: &[u64], n: usize, v: Vector) -> Vector
     ensures { value result ≡ product n (rows_of n m.now) (value v) }
 {
     let mut p = Vector { hi: 0, lo: 0 };
-    let mut i = 0;
-    while i < n {
+    for i in 0..n {
         let b = vector::parity(row(m, i), v);
         p = vector::push_bit(p, b);
-        i += 1;
     }
     p
 }
@@ -53,11 +51,9 @@ pub fn column(m: &[u64], n: usize, s: usize) -> Vector
     let word = 1 - s / 64;
     let place = s % 64;
     let mut c = Vector { hi: 0, lo: 0 };
-    let mut i = 0;
-    while i < n {
+    for i in 0..n {
         let b = (m[2 * i + word] >> place) % 2;
         c = vector::push_bit(c, b);
-        i += 1;
     }
     c
 }
@@ -68,11 +64,9 @@ pub fn read(s: &[u8], m: &mut [u64], w: usize)
     ensures { m.new ≡ stored (8 * w) (at (matrix_of w s.now)) m.old }
 {
     let n = 8 * w;
-    let mut i = 0;
-    while i < n {
+    for i in 0..n {
         let v = vector::read(s, i * w, w);
         set_row(m, i, v);
-        i += 1;
     }
 }
 
@@ -82,12 +76,10 @@ pub fn write(m: &[u64], dst: &mut [u8], w: usize)
     ensures { dst.new ≡ matrix_bytes w (rows_of (8 * w) m.now) }
 {
     let n = 8 * w;
-    let mut i = 0;
-    while i < n {
+    for i in 0..n {
         let v = row(m, i);
         let a = i * w;
         let e = a + w;
         vector::write(v, &mut dst[a..e]);
-        i += 1;
     }
 }

@@ -7,8 +7,8 @@ ghost use Rattle.matrices.specs.ByNibbles.{combined, nibble_byte, word_in};
 ghost use Rattle.matrices.specs.Rows.{row_at, stored};
 
 use crate::matrix;
+use bits::vector;
 use bits::vector::Vector;
-use bits::{encoding, vector};
 
 // The bytes with one nibble, each with a row of two machine words.
 pub const NIBBLE_ROWS: usize = 32;
@@ -27,10 +27,8 @@ fn nibble_word(basis: &[u64], first: usize, v: u8) -> Vector
     ensures { value result ≡ xor_all 4 (λ i. (v / 2 ^ i % 2) * row_at basis.now (first + i)) }
 {
     let mut w = Vector { hi: 0, lo: 0 };
-    let mut i: usize = 0;
-    while i < 4 {
+    for i in 0..4 {
         w = vector::add(w, bit_of(v, i), matrix::row(basis, first + i));
-        i += 1;
     }
     w
 }
@@ -40,10 +38,8 @@ pub fn nibble_words(basis: &[u64], dst: &mut [u64])
     requires { (16 ≤ length basis.now) × (length dst.old ≡ 64) }
     ensures { dst.new ≡ stored 32 (λ r. combined (row_at basis.now) (nibble_byte r)) dst.old }
 {
-    let mut r: usize = 0;
-    while r < NIBBLE_ROWS {
+    for r in 0..NIBBLE_ROWS {
         matrix::set_row(dst, r, nibble_word(basis, r / 16 * 4, (r % 16) as u8));
-        r += 1;
     }
 }
 
@@ -52,7 +48,7 @@ pub fn word_of(words: &[u64], y: u8) -> Vector
     requires { 64 ≤ length words.now }
     ensures { value result ≡ word_in words.now y }
 {
-    let low = matrix::row(words, encoding::widened(y % 16));
-    let high = matrix::row(words, 16 + encoding::widened(y / 16));
+    let low = matrix::row(words, usize::from(y % 16));
+    let high = matrix::row(words, 16 + usize::from(y / 16));
     vector::add(low, 1, high)
 }

@@ -10,15 +10,9 @@ use matrices::matrix;
 use std::io;
 use streams::stream::receive;
 
-fn wide(x: u8) -> u64 {
-    x as u64
-}
-
 fn show(rt: &impl Print, b: &[u8]) -> io::Result<()> {
-    let mut i = 0;
-    while i < b.len() {
-        print!(rt; "{:02x}", wide(b[i]))?;
-        i += 1;
+    for x in b {
+        print!(rt; "{x:02x}")?;
     }
     print!(rt; "\n")
 }
@@ -41,45 +35,38 @@ fn answer(
     let p = matrix::multiply(&rows, 8 * w, vector::read(v, 0, w));
     vector::write(p, v);
     show(rt, v)?;
-    if inversion::invert(&rows, &mut inverse, 8 * w) {
+    if inversion::invert(&rows, &mut inverse, 8 * w).is_ok() {
         matrix::write(&inverse, m, w);
         return show(rt, m);
     }
     print!(rt; "singular\n")
 }
 
-fn byte_matrix(rt: &(impl Input + Print + Eprint)) -> io::Result<()> {
-    let mut m = [0u8; 8];
-    let mut v = [0u8; 1];
-    answer(rt, &mut m, &mut v, 1)
+// A record whose matrix has `BYTES` bytes, `ROW` to a row.
+fn matrix_case<const BYTES: usize, const ROW: usize>(
+    rt: &(impl Input + Print + Eprint),
+) -> io::Result<()>
+    requires { (ROW ≤ 16) × (BYTES ≡ 8 * ROW * ROW) }
+{
+    let mut m = [0u8; BYTES];
+    let mut v = [0u8; ROW];
+    answer(rt, &mut m, &mut v, ROW)
 }
 
-fn column_matrix(rt: &(impl Input + Print + Eprint)) -> io::Result<()> {
-    let mut m = [0u8; 128];
-    let mut v = [0u8; 4];
-    answer(rt, &mut m, &mut v, 4)
-}
-
-fn block_matrix(rt: &(impl Input + Print + Eprint)) -> io::Result<()> {
-    let mut m = [0u8; 2048];
-    let mut v = [0u8; 16];
-    answer(rt, &mut m, &mut v, 16)
-}
+// More records than any input has: so the loop ends, whatever is read.
+const MOST_RECORDS: usize = 1000;
 
 fn main(rt: HostRuntime) -> io::Result<()> {
     let mut tag = [0u8; 1];
-    let mut left: usize = 1000;
-    while 0 < left {
+    for _ in 0..MOST_RECORDS {
         if receive(&mut rt.reader(), &rt, &mut tag) != 1 {
             return Ok(());
         }
-        let w = tag[0];
-        match w {
-            1 => byte_matrix(&rt)?,
-            4 => column_matrix(&rt)?,
-            _ => block_matrix(&rt)?,
+        match tag[0] {
+            1 => matrix_case::<8, 1>(&rt)?,
+            4 => matrix_case::<128, 4>(&rt)?,
+            _ => matrix_case::<2048, 16>(&rt)?,
         }
-        left -= 1;
     }
     Ok(())
 }

@@ -28,7 +28,7 @@ fn step(
     n: usize,
     stop: usize,
 ) -> Reached
-    requires { MoveAsked rounds set.now n stop standing.old area.old × (n < stop) }
+    requires { MoveAsked rounds set.now n stop × (n < stop) }
     ensures { PartMade (reads_of cipher) rounds set.now n stop result.count result.offset
         standing.old area.old standing.new area.new }
 {
@@ -65,12 +65,13 @@ pub fn advance(
     count: usize,
     stop: usize,
 ) -> usize
-    requires { MoveAsked rounds set.now count stop standing.old area.old }
+    requires { MoveAsked rounds set.now count stop }
     ensures { Advanced (reads_of cipher) rounds set.now count stop result
         standing.old area.old standing.new area.new }
 {
     let mut n = count;
     let mut offset = tables_bytes(rounds);
+    // Each step says how far it reached.
     while n < stop {
         let r = step(rounds, cipher, standing, area, set, n, stop);
         n = r.count;

@@ -3,7 +3,7 @@ use Rattle.std.specs.Prelude.{List, ◌≡◌, ℕ, length}
 use Rattle.answers.specs.Answers.{reply_of}
 use Rattle.calls.specs.Calls.{judge_whole}
 use Rattle.next_bit.specs.NextBit.{bit_answer, next_bit_of}
-use Rattle.next_bit.specs.declared.search.NextBit.{NextBit}
+use Rattle.next_bit.specs.NextBit.{NextBit}
 
 -- `next_bit` for the cipher c over this set and block, from the bit `from` on, hands back r: the bit or that none is left, and what it says in the documents' numbers,
 -- which is what the lengths give.

@@ -1,9 +1,7 @@
 -- The search in a list of numbers, for a reader: the statement, over any list that rises. It is proved in proofs/laws/Listed.antt.
-use Rattle.std.specs.Prelude.{List, ◌≡◌, ℕ, ◌≤◌, ◌<◌}
+use Rattle.std.specs.Prelude.{List, ◌≡◌, ℕ, ◌≤◌, ◌<◌, Ok, Some, None}
 use Rattle.bits.specs.Lists.{Listed, Rising}
-use Rattle.next_bit.specs.NextBit.{next_in}
-use Rattle.next_bit.specs.declared.search.NextBit.{NextBit}
-use Rattle.next_bit.specs.declared.search.NextBit.TheVariants.{Bit, NoneLeft}
+use Rattle.next_bit.specs.NextBit.{NextBit, next_in}
 
 module _ (l : List ℕ) (from : ℕ) where
   -- "The smallest such bit at or after a given bit number."
@@ -18,11 +16,11 @@ module _ (l : List ℕ) (from : ℕ) where
 
   -- The answer r tells exactly these.
   pub record Tells (r : NextBit) : Type 0 where
-    pub bit_only : (v : ℕ) → r ≡ Bit v → Smallest v
-    pub bit_if : (v : ℕ) → Smallest v → r ≡ Bit v
-    pub none_only : r ≡ NoneLeft → AllBefore
-    pub none_if : AllBefore → r ≡ NoneLeft
+    pub bit_only : (v : ℕ) → r ≡ Ok (Some v) → Smallest v
+    pub bit_if : (v : ℕ) → Smallest v → r ≡ Ok (Some v)
+    pub none_only : r ≡ Ok None → AllBefore
+    pub none_if : AllBefore → r ≡ Ok None
 
 -- The search does.
 abbrev pub SearchesExact : Type 0
-SearchesExact = (l : List ℕ) → Rising l → (from : ℕ) → Tells l from (next_in l from)
+SearchesExact = (l : List ℕ) → Rising l → (from : ℕ) → Tells l from (Ok (next_in l from))

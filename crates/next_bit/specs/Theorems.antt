@@ -1,9 +1,8 @@
 -- WHICH BITS THE DOOR DEPENDS ON, OF THE CALLS IN CODE (document 02, Ticket 7), for a reader; proved in proofs/laws/Proved.antt. Crate sensitivity states it of
 -- definitions; here it is stated of calls of `next_bit` that meet the contract of src/search.rt (`Finds`) and of walks that meet those of evaluate/src/walk.rt. Of any
 -- number nr of rounds and either cipher.
-use Rattle.std.specs.Prelude.{List, [], ◌∷◌, map, ◌↔◌, ◌≡◌, ℕ, suc, ◌+◌, ◌-◌, ◌*◌, length}
+use Rattle.std.specs.Prelude.{List, [], ◌∷◌, map, ◌↔◌, ◌≡◌, ℕ, suc, ◌+◌, ◌-◌, ◌*◌, length, Ok, Some, None}
 use Rattle.answers.specs.Answers.{refused, reply_of}
-use Rattle.answers.specs.declared.Answer.TheVariants.{Accepted}
 use Rattle.bits.specs.Flips.{flipped}
 use Rattle.round.specs.Key.{rounds_of}
 use Rattle.layout.specs.Ciphers.{kept, reads_of}
@@ -21,8 +20,8 @@ use Rattle.evaluate.specs.declared.walk.Opening.{Opening}
 use Rattle.next_bit.specs.Promises.{Finds}
 use Rattle.next_bit.specs.NextBit.{bit_answer, next_bit_of}
 use Rattle.next_bit.specs.Search.{Tells}
-use Rattle.next_bit.specs.declared.search.NextBit.{NextBit}
-use Rattle.next_bit.specs.declared.search.NextBit.TheVariants.{Bit, NoneLeft}
+use Rattle.answers.specs.Answer.{Accepted}
+use Rattle.next_bit.specs.NextBit.{NextBit}
 
 -- ---- what is turned down, for a set and a block of these lengths: "wrong lengths get 9 and 10 as before"
 pub record BitTests (nr set block : ℕ) : Type 0 where
@@ -50,8 +49,8 @@ FindsSmallest =
 -- "The list is had from a call": calls one after the other, the first from `from` on and each other one from behind the bit that was found before, gave the bits vs
 -- and then that none is left.
 abbrev pub Asked : ℕ → ℕ → List ℕ → List ℕ → ℕ → List ℕ → Type 0
-Asked c nr set x from [] = Finds c nr set x from NoneLeft
-Asked c nr set x from (v ∷ vs) = Finds c nr set x from (Bit v) × Asked c nr set x (suc v) vs
+Asked c nr set x from [] = Finds c nr set x from (Ok None)
+Asked c nr set x from (v ∷ vs) = Finds c nr set x from (Ok (Some v)) × Asked c nr set x (suc v) vs
 
 -- Calls from bit 0 on give the list, no bit more and none less.
 pub record ListHad (c nr : ℕ) (set x : List ℕ) : Type 0 where
@@ -66,7 +65,7 @@ ListsHad = (c nr : ℕ) (set x : List ℕ) → Lendable nr set x → ListHad c n
 -- stops, moves of one lookup and fetches, refused ones too, the one over the set and the other over the set with bit i turned over, answer the same, call by call.
 abbrev pub OthersAloneMade : Type 0
 OthersAloneMade =
-    (c nr : ℕ) (set x : List ℕ) → Lendable nr set x → (i : ℕ) (r : NextBit) → Finds c nr set x i r → (r ≡ Bit i → ⊥)
+    (c nr : ℕ) (set x : List ℕ) → Lendable nr set x → (i : ℕ) (r : NextBit) → Finds c nr set x i r → (r ≡ Ok (Some i) → ⊥)
     → (o : Opening) → Opens c x o → (ms ms' : List CallMade) → Chain nr o.walk ms → Chain nr o.walk ms' → Alike (map call_of ms) (map call_of ms')
     → LentOver nr set (map call_of ms) → LentOver nr (flipped set i) (map call_of ms') → served_in nr o.walk ms' ≡ served_in nr o.walk ms
 
@@ -74,8 +73,8 @@ OthersAloneMade =
 -- A call from i on handed back r, a walk over the set left `left`, and one over the set with bit i turned over left `left'`: these differ exactly if r is bit i. Where it is
 -- not, they are the same.
 pub record RestsOn (i : ℕ) (r : NextBit) (left left' : List ℕ) : Type 0 where
-  pub differ_exactly : (left' ≡ left → ⊥) ↔ (r ≡ Bit i)
-  pub keeps : (r ≡ Bit i → ⊥) → left' ≡ left
+  pub differ_exactly : (left' ≡ left → ⊥) ↔ (r ≡ Ok (Some i))
+  pub keeps : (r ≡ Ok (Some i) → ⊥) → left' ≡ left
 
 -- Each of the two walks was lent any block of 16 bytes.
 abbrev pub AnswersRestOn : ℕ → Type 0

@@ -10,7 +10,7 @@ ghost use Rattle.sensitivity.specs.Reads.{entry_bits, bits_read};
 ghost use Rattle.next_bit.specs.NextBit.{next_in};
 ghost use Rattle.next_bit.specs.Promises.{Finds};
 
-use answers::{Answer, Refusal};
+use answers::Refusal;
 use evaluate::walk::{start, to_stop};
 use layout::stage::{
     ENTRY_LOOKUPS, FIRST_HALF_START, HALF_BYTES, HALF_LOOKUPS, SPREADS, exit_first, exit_start,
@@ -22,14 +22,6 @@ use rounds::TEN;
 const BYTE_BITS: usize = 8;
 
 const NIBBLE_BITS: usize = 4;
-
-// The smallest bit at or after a given one that the walk reads, or that none is left; or why the call is refused.
-#[derive(Clone, Copy)]
-pub enum NextBit {
-    Bit(usize),
-    NoneLeft,
-    Refused(Refusal),
-}
 
 // How many bits a lookup reads, where words have `width` bytes: those of a word, or of a half-byte.
 fn bits_of(width: usize, index: usize) -> usize
@@ -58,7 +50,7 @@ fn first_lookup(rounds: usize, byte: usize) -> usize
 }
 
 // The search, where the lengths are right.
-fn search(rounds: usize, cipher: u64, set: &[u8], block: &[u8], from: usize) -> NextBit
+fn search(rounds: usize, cipher: u64, set: &[u8], block: &[u8], from: usize) -> Option<usize>
     requires { (length set.now ≡ set_bytes rounds) × (length block.now ≡ 16) × Rounds rounds }
     ensures { result ≡ next_in (bits_read (reads_of cipher) rounds set.now block.now) from }
 {
@@ -69,37 +61,44 @@ fn search(rounds: usize, cipher: u64, set: &[u8], block: &[u8], from: usize) -> 
     let mut standing = walk.standing;
     let mut area = walk.area;
     let all = lookups_in(rounds);
-    let mut n = stop;
-    while n < all {
+    for n in stop..all {
         let read = passes::look_up(rounds, cipher, &mut standing, &mut area, set, n);
         let first = BYTE_BITS * read.offset + NIBBLE_BITS * read.half;
         if from < first {
-            return NextBit::Bit(first);
+            return Some(first);
         }
         let end = first + bits_of(read.width, read.index);
         if from < end {
-            return NextBit::Bit(from);
+            return Some(from);
         }
-        n += 1;
     }
-    NextBit::NoneLeft
+    None
 }
 
 // Finds the smallest bit of a set, at or after the bit `from`, that the walk for a cipher from a block reads, counted
-// from the top bit of byte 0; or says why the call is refused.
-pub fn next_bit(cipher: u64, set: &[u8], block: &[u8], from: usize) -> NextBit
+// from the top bit of byte 0, or none where none is left; or says why the call is refused.
+pub fn next_bit(
+    cipher: u64,
+    set: &[u8],
+    block: &[u8],
+    from: usize,
+) -> Result<Option<usize>, Refusal>
     ensures { Finds cipher 10 set.now block.now from result }
 {
     seek(TEN, cipher, set, block, from)
 }
 
 // The same, of so many rounds.
-fn seek(rounds: usize, cipher: u64, set: &[u8], block: &[u8], from: usize) -> NextBit
+fn seek(
+    rounds: usize,
+    cipher: u64,
+    set: &[u8],
+    block: &[u8],
+    from: usize,
+) -> Result<Option<usize>, Refusal>
     requires { Rounds rounds }
     ensures { Finds cipher rounds set.now block.now from result }
 {
-    match passes::judged(rounds, set.len(), block.len()) {
-        Answer::Accepted => search(rounds, cipher, set, block, from),
-        Answer::Refused(r) => NextBit::Refused(r),
-    }
+    passes::judged(rounds, set.len(), block.len())?;
+    Ok(search(rounds, cipher, set, block, from))
 }

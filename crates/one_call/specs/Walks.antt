@@ -2,9 +2,9 @@
 -- Definitions only.
 use Rattle.std.specs.Prelude.{List, ℕ, length}
 use Rattle.answers.specs.Answers.{wants_length, and_then, if_accepted}
-use Rattle.answers.specs.declared.Answer.{Answer}
 use Rattle.answers.specs.declared.Refusal.TheVariants.{BlockLength}
 use Rattle.calls.specs.Calls.{judge_whole, walked_over}
+use Rattle.answers.specs.Answer.{Answer}
 
 module _ (nr : ℕ) where
   -- For a set, a block and an answer of these lengths: 9, "set .. of wrong length", then 10, "block not 16 bytes, in or out".

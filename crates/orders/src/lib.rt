@@ -33,7 +33,8 @@ fn table_part<'a>(set: &'a [u8], n: usize) -> &'a [u8]
     &set[from..to]
 }
 
-// One order: its answer, and the walk handed back or left.
+// One order: its answer, and the walk handed back or left. Orders are numbers of 64 bits from outside, any of which may
+// be given.
 fn serve_one(walk: Walk, set: &[u8], order: u64, block: &mut [u8]) -> Move
     ensures { OneServed 10 set.now order walk block.old result block.new }
 {
@@ -43,8 +44,8 @@ fn serve_one(walk: Walk, set: &[u8], order: u64, block: &mut [u8]) -> Move
     if order == FETCH {
         let answer = fetch(walk, block);
         return Move {
-            answer: answer,
-            walk: walk,
+            answer,
+            walk,
             offset: NOWHERE,
         };
     }
@@ -57,13 +58,11 @@ pub fn serve_orders(walk: Walk, set: &[u8], orders: &mut [u64], block: &mut [u8]
         orders.new block.new }
 {
     let mut w = walk;
-    let mut i: usize = 0;
-    while i < orders.len() {
+    for i in 0..orders.len() {
         let m = serve_one(w, set, orders[i], block);
         w = m.walk;
         let answer = m.answer;
         orders[i] = number(answer);
-        i += 1;
     }
     w
 }

@@ -7,7 +7,7 @@ use Rattle.layout.specs.declared.stage.Place.{Place}
 use Rattle.rounds.specs.Rounds.{Rounds}
 use Rattle.calls.specs.Calls.{advance, read_next}
 use Rattle.calls.specs.PlaceRead.{InTable}
-use Rattle.lookups.specs.InPlace.{Lent, Fits, LookedUp}
+use Rattle.lookups.specs.InPlace.{Fits, LookedUp}
 use Rattle.passes.specs.declared.Lookup.{Lookup}
 
 -- The place that was read, in what is told of a lookup.
@@ -28,15 +28,14 @@ pub record MadeAt (reads : ℕ → ℕ) (set : List ℕ) (p : Place) (s a : List
   pub width : r.width ≡ width_of p.stage
 
 -- ---- by its number
--- What it asks: memory of the length of a set of nr rounds, a lookup n of that set, and the two arrays of a walk.
-pub record LookupAsked (nr : ℕ) (set : List ℕ) (n : ℕ) (s a : List ℕ) : Type 0 where
+-- What it asks: memory of the length of a set of nr rounds, and a lookup n of that set.
+pub record LookupAsked (nr : ℕ) (set : List ℕ) (n : ℕ) : Type 0 where
   pub sized : length set ≡ set_bytes nr
   pub within : n < lookups nr
-  pub lent : Lent s a
   pub rounds : Rounds nr
 
 -- Lookup n over the memory `set`, of nr rounds, where position p of a first half or of the exit reads byte `reads p`: r tells the place that it reads, which lies
--- in its table, its number in its stage or half and the bytes of a word there, and it turns standing bytes s and area a into s' and a' of the same lengths.
+-- in its table, its number in its stage or half and the bytes of a word there, and it turns standing bytes s and area a into s' and a'.
 pub record LookupMade (reads : ℕ → ℕ) (nr : ℕ) (set : List ℕ) (n : ℕ) (s a : List ℕ) (r : Lookup) (s' a' : List ℕ) : Type 0 where
   pub place : place_told r ≡ read_next reads nr (state_at n s a)
   pub inside : InTable nr n r.offset
@@ -44,5 +43,3 @@ pub record LookupMade (reads : ℕ → ℕ) (nr : ℕ) (set : List ℕ) (n : ℕ
   pub index : r.index ≡ index_of nr n
   pub width : r.width ≡ width_of (stage_of nr n)
   pub walk : advance reads nr set 1 (state_at n s a) ≡ state_at (suc n) s' a'
-  pub kept : length s' ≡ length s
-  pub long : length a' ≡ length a

@@ -7,10 +7,9 @@ ghost use Rattle.std.specs.Prelude.{◌≡◌, length};
 ghost use Rattle.layout.specs.Ciphers.{reads_of};
 ghost use Rattle.rounds.specs.Rounds.{Rounds};
 ghost use Rattle.calls.specs.Calls.{judge_whole};
-ghost use Rattle.lookups.specs.InPlace.{Lent};
 ghost use Rattle.passes.specs.InPlace.{StandsIn, MadeAt, LookupAsked, LookupMade};
 
-use answers::{Answer, Refusal};
+use answers::Refusal;
 use layout::stage::{Place, place_of, set_bytes, width_of};
 use lookups::layer;
 
@@ -25,18 +24,18 @@ pub struct Lookup {
 }
 
 // The answer for a whole set and a block of these lengths.
-pub fn judged(rounds: usize, set: usize, block: usize) -> Answer
+pub fn judged(rounds: usize, set: usize, block: usize) -> Result<(), Refusal>
     requires { Rounds rounds }
     ensures { result ≡ judge_whole rounds set block }
 {
     let bytes = set_bytes(rounds);
     if set != bytes {
-        return Answer::Refused(Refusal::SetLength);
+        return Err(Refusal::SetLength);
     }
     if block != 16 {
-        return Answer::Refused(Refusal::BlockLength);
+        return Err(Refusal::BlockLength);
     }
-    Answer::Accepted
+    Ok(())
 }
 
 // The lookup at a place that is found already, of a walk for a cipher, over its table in the set.
@@ -47,7 +46,7 @@ pub fn look_up_at(
     set: &[u8],
     place: Place,
 ) -> Lookup
-    requires { StandsIn place (length set.now) × Lent standing.old area.old }
+    requires { StandsIn place (length set.now) }
     ensures { MadeAt (reads_of cipher) set.now place
         standing.old area.old result standing.new area.new }
 {
@@ -73,7 +72,7 @@ pub fn look_up(
     set: &[u8],
     n: usize,
 ) -> Lookup
-    requires { LookupAsked rounds set.now n standing.old area.old }
+    requires { LookupAsked rounds set.now n }
     ensures { LookupMade (reads_of cipher) rounds set.now n
         standing.old area.old result standing.new area.new }
 {

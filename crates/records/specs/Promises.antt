@@ -1,9 +1,9 @@
 -- What the calls of src/record.rt and src/replay.rt ensure: their contracts cite these, at ten rounds, and so do the statements about calls in code. Definitions only.
 use Rattle.std.specs.Prelude.{List, ◌≡◌, ℕ, length}
 use Rattle.answers.specs.Answers.{reply_of}
-use Rattle.answers.specs.declared.Answer.{Answer}
 use Rattle.records.specs.Replay.{judge_record, record_left, verdict_answer, replayed}
-use Rattle.records.specs.declared.replay.Verdict.{Verdict}
+use Rattle.answers.specs.Answer.{Answer}
+use Rattle.records.specs.Replay.{Verdict}
 
 module _ (c nr : ℕ) (set block : List ℕ) where
   -- `record_walk` for the cipher c over this set and block, into memory that held `lent`, answers a, and the memory is `left` afterwards.

@@ -1,10 +1,8 @@
 -- RECORDS AND THEIR REPLAY, document 02, Ticket 3, for a reader; proved in proofs/laws/Proved.antt. Of any memory of a set's length, made or not, any block,
 -- any number nr of rounds and either cipher. Each statement is a type, and the last record gathers them.
-use Rattle.std.specs.Prelude.{List, ◌≡◌, ℕ, suc, ◌+◌, ◌*◌, ◌^◌, ◌≤◌, ◌<◌, length, take}
+use Rattle.std.specs.Prelude.{List, ◌≡◌, ℕ, suc, ◌+◌, ◌*◌, ◌^◌, ◌≤◌, ◌<◌, length, take, Ok, Some, None}
 use Rattle.answers.specs.Answers.{refused, reply_of}
 use Rattle.answers.specs.Search.{FirstBad}
-use Rattle.answers.specs.declared.Answer.{Answer}
-use Rattle.answers.specs.declared.Answer.TheVariants.{Accepted}
 use Rattle.bits.specs.Bytes.{Bytes, number_of, bytes_of}
 use Rattle.bits.specs.Lists.{at}
 use Rattle.layout.specs.Ciphers.{kept}
@@ -20,8 +18,8 @@ use Rattle.records.specs.Promises.{Records, Replays}
 use Rattle.records.specs.Record.{entry_at, record_of, record_bytes, entry_in}
 use Rattle.records.specs.Replay.{judge_record, verdict_answer, replayed}
 use Rattle.records.specs.Values.{ValuesPutDown}
-use Rattle.records.specs.declared.replay.Verdict.{Verdict}
-use Rattle.records.specs.declared.replay.Verdict.TheVariants.{Own, Differs}
+use Rattle.answers.specs.Answer.{Answer, Accepted}
+use Rattle.records.specs.Replay.{Verdict}
 
 -- ---- what is turned down, for a set, a block and a record of these lengths: 9 and 10 as in a walk, and "a record of a length other than 15,040 gets number 13, tested
 -- after 10. With this and every later number 0 is returned"
@@ -72,11 +70,11 @@ module _ (c nr : ℕ) (set block rec : List ℕ) where
 
   -- "Say whether the record is that walk's own, and if not give the first look-up that differs."
   pub record Exact : Type 0 where
-    pub own_only : replayed c nr set block rec ≡ Own → rec ≡ record_of c nr set block
-    pub own_if : rec ≡ record_of c nr set block → replayed c nr set block rec ≡ Own
-    pub first_only : (k : ℕ) → replayed c nr set block rec ≡ Differs k → FirstBad (lookups nr) Agrees k
-    pub first_if : (k : ℕ) → FirstBad (lookups nr) Agrees k → replayed c nr set block rec ≡ Differs k
-    pub byte : (k : ℕ) → replayed c nr set block rec ≡ Differs k → OtherByte k
+    pub own_only : replayed c nr set block rec ≡ Ok None → rec ≡ record_of c nr set block
+    pub own_if : rec ≡ record_of c nr set block → replayed c nr set block rec ≡ Ok None
+    pub first_only : (k : ℕ) → replayed c nr set block rec ≡ Ok (Some k) → FirstBad (lookups nr) Agrees k
+    pub first_if : (k : ℕ) → FirstBad (lookups nr) Agrees k → replayed c nr set block rec ≡ Ok (Some k)
+    pub byte : (k : ℕ) → replayed c nr set block rec ≡ Ok (Some k) → OtherByte k
 
 abbrev pub ReplaysExact : Type 0
 ReplaysExact =
@@ -87,7 +85,7 @@ ReplaysExact =
 abbrev pub WrittenIsOwn : Type 0
 WrittenIsOwn =
     (c nr : ℕ) (set block lent left : List ℕ) (a : Answer) (r : Verdict) → Records c nr set block lent a left → a ≡ Accepted → Replays c nr set block left r
-    → r ≡ Own
+    → r ≡ Ok None
 
 -- What it has for lookup k, by calls of the walk over the same memory, from the walk that a start hands back: b is what a move to the count k hands back, and r what
 -- one to k + 1 does.

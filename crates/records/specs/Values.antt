@@ -1,8 +1,6 @@
 -- THE VALUES OF A RECORD, document 02, Ticket 3, for a reader; proved in proofs/laws/Values.antt. What a record has behind the offset of a lookup is what that
 -- lookup put down, as the walk after it holds it. Of any set and block of bytes, any number nr of rounds and either cipher.
 use Rattle.std.specs.Prelude.{List, ◌≡◌, ℕ, suc, ◌-◌, ◌*◌, ◌≤◌, ◌<◌}
-use Rattle.answers.specs.declared.Answer.{Answer}
-use Rattle.answers.specs.declared.Answer.TheVariants.{Accepted}
 use Rattle.bits.specs.Bytes.{Bytes}
 use Rattle.bits.specs.Lists.{at}
 use Rattle.bits.specs.Nibbles.{nibble}
@@ -17,6 +15,7 @@ use Rattle.evaluate.specs.declared.walk.Opening.{Opening}
 use Rattle.layer_record.specs.Entries.{offset_bytes}
 use Rattle.records.specs.Promises.{Records}
 use Rattle.records.specs.Record.{entry_in}
+use Rattle.answers.specs.Answer.{Answer, Accepted}
 
 -- The value v is what lookup j of a stage or half of width m put down, where s is the state after it.
 pub record PutDown (m j v : ℕ) (s : State) : Type 0 where

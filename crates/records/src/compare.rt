@@ -1,7 +1,8 @@
 // Two parts of records, compared: the first entry of which they have other bytes.
 ghost use Rattle.std.specs.Prelude.{◌≡◌, ◌&&◌, ◌*◌, eqb, length};
 ghost use Rattle.layer_record.specs.Entries.{entry_size};
-ghost use Rattle.records.specs.InPlace.{FirstOther, other_in};
+ghost use Rattle.answers.specs.Search.{first};
+ghost use Rattle.records.specs.InPlace.{other_in};
 ghost use Rattle.records.specs.Replay.{same};
 
 use layer_record::ENTRY_BYTES;
@@ -23,30 +24,26 @@ fn all_same(a: &[u8], b: &[u8]) -> bool
 {
     let n = a.len();
     let mut alike = true;
-    let mut i = 0;
-    while i < n {
+    for i in 0..n {
         alike = and_same(alike, a[i], b[i]);
-        i += 1;
     }
     alike
 }
 
-// The first of n entries of which two parts of records have other bytes, or n.
-pub(crate) fn first_other(a: &[u8], b: &[u8], n: usize) -> usize
+// The first of n entries of which two parts of records have other bytes.
+pub(crate) fn first_other(a: &[u8], b: &[u8], n: usize) -> Option<usize>
     requires { (length a.now ≡ n * entry_size) × (length b.now ≡ n * entry_size) }
-    ensures { FirstOther n (other_in a.now b.now) result }
+    ensures { result ≡ first n (other_in a.now b.now) }
 {
     if all_same(a, b) {
-        return n;
+        return None;
     }
-    let mut k = 0;
-    while k < n {
+    for k in 0..n {
         let from = k * ENTRY_BYTES;
         let to = from + ENTRY_BYTES;
         if !all_same(&a[from..to], &b[from..to]) {
-            return k;
+            return Some(k);
         }
-        k += 1;
     }
-    n
+    None
 }

@@ -7,7 +7,7 @@ ghost use Rattle.records.specs.Record.{record_of};
 ghost use Rattle.records.specs.Replay.{judge_record};
 ghost use Rattle.records.specs.Promises.{Records};
 
-use answers::{Answer, Refusal};
+use answers::Refusal;
 use bits::block::load;
 use layer_record::{ENTRY_BYTES, record_layer};
 use layout::stage::{lookups_in, place_of, width_of};
@@ -15,19 +15,21 @@ use lookups::layer::lookups_of;
 use rounds::TEN;
 
 // The answer for these lengths.
-pub(crate) fn judged(rounds: usize, set: usize, block: usize, recorded: usize) -> Answer
+pub(crate) fn judged(
+    rounds: usize,
+    set: usize,
+    block: usize,
+    recorded: usize,
+) -> Result<(), Refusal>
     requires { Rounds rounds }
     ensures { result ≡ judge_record rounds set block recorded }
 {
     let bytes = lookups_in(rounds) * ENTRY_BYTES;
-    let whole = passes::judged(rounds, set, block);
-    let Answer::Accepted = whole else {
-        return whole;
-    };
+    passes::judged(rounds, set, block)?;
     if recorded != bytes {
-        return Answer::Refused(Refusal::RecordLength);
+        return Err(Refusal::RecordLength);
     }
-    Answer::Accepted
+    Ok(())
 }
 
 // The record of the walk for a cipher from a block, a stage or half at a time, where the lengths are right.
@@ -39,6 +41,7 @@ fn write_all(rounds: usize, cipher: u64, set: &[u8], block: &[u8], recorded: &mu
     let mut area = [0u8; 256];
     let all = lookups_in(rounds);
     let mut n = 0;
+    // From stage to stage, not from lookup to lookup.
     while n < all {
         let p = place_of(rounds, n);
         let stage = p.stage;
@@ -60,21 +63,29 @@ fn write_all(rounds: usize, cipher: u64, set: &[u8], block: &[u8], recorded: &mu
 }
 
 // Writes the record of the walk for a cipher from a block into lent memory. A refused call leaves the memory as it was.
-pub fn record_walk(cipher: u64, set: &[u8], block: &[u8], recorded: &mut [u8]) -> Answer
+pub fn record_walk(
+    cipher: u64,
+    set: &[u8],
+    block: &[u8],
+    recorded: &mut [u8],
+) -> Result<(), Refusal>
     ensures { Records cipher 10 set.now block.now recorded.old result recorded.new }
 {
     write_record(TEN, cipher, set, block, recorded)
 }
 
 // The same, of so many rounds.
-fn write_record(rounds: usize, cipher: u64, set: &[u8], block: &[u8], recorded: &mut [u8]) -> Answer
+fn write_record(
+    rounds: usize,
+    cipher: u64,
+    set: &[u8],
+    block: &[u8],
+    recorded: &mut [u8],
+) -> Result<(), Refusal>
     requires { Rounds rounds }
     ensures { Records cipher rounds set.now block.now recorded.old result recorded.new }
 {
-    let a = judged(rounds, set.len(), block.len(), recorded.len());
-    let Answer::Accepted = a else {
-        return a;
-    };
+    judged(rounds, set.len(), block.len(), recorded.len())?;
     write_all(rounds, cipher, set, block, recorded);
-    a
+    Ok(())
 }

@@ -5,12 +5,12 @@ ghost use Rattle.layout.specs.Ciphers.{reads_of};
 ghost use Rattle.layout.specs.Stages.{lookups, shape_at};
 ghost use Rattle.rounds.specs.Rounds.{Rounds};
 ghost use Rattle.records.specs.InPlace.{RecordAsked, CompareAsked, LayerCompared};
-ghost use Rattle.records.specs.Replay.{told, differs_at};
+ghost use Rattle.records.specs.Replay.{differs_at};
 ghost use Rattle.records.specs.Promises.{Replays};
 
 use crate::compare::first_other;
 use crate::record::judged;
-use answers::{Answer, Refusal};
+use answers::Refusal;
 use bits::block::load;
 use layer_record::{ENTRY_BYTES, record_layer};
 use layout::stage::{ENTRY_LOOKUPS, Stage, lookups_in, place_of, width_of};
@@ -20,17 +20,8 @@ use rounds::TEN;
 // The bytes that are recorded of a stage or half, at most: those of the entry.
 const STAGE_BYTES: usize = ENTRY_LOOKUPS * ENTRY_BYTES;
 
-// What a replay says of a record: that it is the walk's own, or the first lookup of which it has other bytes; or why
-// the call is refused.
-#[derive(Clone, Copy)]
-pub enum Verdict {
-    Own,
-    Differs(usize),
-    Refused(Refusal),
-}
-
 // Makes the lookups of a stage or half, with what is recorded of them in lent memory, and says which is the first of
-// which the record has other bytes, or how many they are.
+// which the record has other bytes.
 fn compare_layer(
     cipher: u64,
     standing: &mut [u8; 16],
@@ -41,8 +32,8 @@ fn compare_layer(
     recorded: &[u8],
     own: &mut [u8],
     all: usize,
-) -> usize
-    requires { CompareAsked stage from (length set.now) all standing.old area.old recorded.now own.old }
+) -> Option<usize>
+    requires { CompareAsked stage from (length set.now) all recorded.now own.old }
     ensures { LayerCompared (shape_at (reads_of cipher) stage) set.now from
         standing.old area.old standing.new area.new
         recorded.now own.new all result }
@@ -51,18 +42,24 @@ fn compare_layer(
     first_other(recorded, own, all)
 }
 
-// Compares a record with the walk, a stage or half at a time, up to the first lookup that differs, where the lengths
-// are right.
-fn compare_all(rounds: usize, cipher: u64, set: &[u8], block: &[u8], recorded: &[u8]) -> Verdict
+// Compares a record with the walk, a stage or half at a time, up to the first lookup that differs, if any, where the
+// lengths are right.
+fn compare_all(
+    rounds: usize,
+    cipher: u64,
+    set: &[u8],
+    block: &[u8],
+    recorded: &[u8],
+) -> Option<usize>
     requires { RecordAsked rounds set.now block.now recorded.now }
-    ensures { result
-        ≡ told (first (lookups rounds) (differs_at cipher rounds set.now block.now recorded.now)) }
+    ensures { result ≡ first (lookups rounds) (differs_at cipher rounds set.now block.now recorded.now) }
 {
     let mut standing = load(block);
     let mut area = [0u8; 256];
     let mut own = [0u8; STAGE_BYTES];
     let all = lookups_in(rounds);
     let mut n = 0;
+    // From stage to stage, not from lookup to lookup.
     while n < all {
         let p = place_of(rounds, n);
         let stage = p.stage;
@@ -72,7 +69,7 @@ fn compare_all(rounds: usize, cipher: u64, set: &[u8], block: &[u8], recorded: &
         let size = count * ENTRY_BYTES;
         let from = n * ENTRY_BYTES;
         let to = next * ENTRY_BYTES;
-        let k = compare_layer(
+        let other = compare_layer(
             cipher,
             &mut standing,
             &mut area,
@@ -83,30 +80,38 @@ fn compare_all(rounds: usize, cipher: u64, set: &[u8], block: &[u8], recorded: &
             &mut own[0..size],
             count,
         );
-        if k < count {
-            let other = n + k;
-            return Verdict::Differs(other);
+        if let Some(k) = other {
+            return Some(n + k);
         }
         n = next;
     }
-    Verdict::Own
+    None
 }
 
-// Says whether a record is the own one of the walk for a cipher from a block, and if not which lookup is the first that
-// differs; or why the call is refused.
-pub fn replay(cipher: u64, set: &[u8], block: &[u8], recorded: &[u8]) -> Verdict
+// Says whether a record is the own one of the walk for a cipher from a block, which is none, and if not which lookup is
+// the first that differs, of which it has other bytes; or why the call is refused.
+pub fn replay(
+    cipher: u64,
+    set: &[u8],
+    block: &[u8],
+    recorded: &[u8],
+) -> Result<Option<usize>, Refusal>
     ensures { Replays cipher 10 set.now block.now recorded.now result }
 {
     replay_record(TEN, cipher, set, block, recorded)
 }
 
 // The same, of so many rounds.
-fn replay_record(rounds: usize, cipher: u64, set: &[u8], block: &[u8], recorded: &[u8]) -> Verdict
+fn replay_record(
+    rounds: usize,
+    cipher: u64,
+    set: &[u8],
+    block: &[u8],
+    recorded: &[u8],
+) -> Result<Option<usize>, Refusal>
     requires { Rounds rounds }
     ensures { Replays cipher rounds set.now block.now recorded.now result }
 {
-    match judged(rounds, set.len(), block.len(), recorded.len()) {
-        Answer::Accepted => compare_all(rounds, cipher, set, block, recorded),
-        Answer::Refused(r) => Verdict::Refused(r),
-    }
+    judged(rounds, set.len(), block.len(), recorded.len())?;
+    Ok(compare_all(rounds, cipher, set, block, recorded))
 }

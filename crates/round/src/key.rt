@@ -95,11 +95,7 @@ fn lay(key: &[u8], w: &mut [u8])
     requires { length key.now ≤ length w.old }
     ensures { take (length key.now) w.new ≡ key.now }
 {
-    let mut i = 0;
-    while i < key.len() {
-        w[i] = key[i];
-        i += 1;
-    }
+    w[..key.len()].copy_from_slice(key);
 }
 
 // The round keys of a key of so many words, one after the other: 4 (Nr + 1) words, where Nr is six more than the words
@@ -110,11 +106,9 @@ pub fn expand(words: usize, key: &[u8], w: &mut [u8])
 {
     lay(key, w);
     let all = 4 * (words + 7);
-    let mut i: usize = words;
-    while i < all {
+    for i in words..all {
         let t = temp_of(words, word_at(w, i - 1), i);
         let x = xor_word(word_at(w, i - words), t);
         put_word(w, i, x);
-        i += 1;
     }
 }

@@ -5,6 +5,8 @@ ghost use Rattle.field.specs.Field.{mul};
 ghost use Rattle.round.specs.State.{cell, state, entry, mix_by, SubBytes, ShiftRows, MixColumns, AddRoundKey, InvSubBytes, InvShiftRows, InvMixColumns};
 ghost use Rattle.round.specs.Key.{key_of};
 
+use std::array;
+
 // The matrices of MixColumns and InvMixColumns, row after row.
 pub const MIX: [u8; 16] = [2, 3, 1, 1, 1, 2, 3, 1, 1, 1, 2, 3, 3, 1, 1, 2];
 
@@ -14,26 +16,14 @@ pub const INV_MIX: [u8; 16] = [14, 11, 13, 9, 9, 14, 11, 13, 13, 9, 14, 11, 11, 
 pub fn sub_bytes(s: [u8; 16]) -> [u8; 16]
     ensures { result ≡ SubBytes s }
 {
-    let mut t = [0u8; 16];
-    let mut i = 0;
-    while i < 16 {
-        t[i] = field::sub(s[i]);
-        i += 1;
-    }
-    t
+    s.map(|x| field::sub(x))
 }
 
 // Each byte through the inverse S-box.
 pub fn inv_sub_bytes(s: [u8; 16]) -> [u8; 16]
     ensures { result ≡ InvSubBytes s }
 {
-    let mut t = [0u8; 16];
-    let mut i = 0;
-    while i < 16 {
-        t[i] = field::inv_sub(s[i]);
-        i += 1;
-    }
-    t
+    s.map(|x| field::inv_sub(x))
 }
 
 // Row r turned to the left by `by` times r places.
@@ -41,14 +31,7 @@ fn turn_rows(s: [u8; 16], by: usize) -> [u8; 16]
     requires { by < 4 }
     ensures { result ≡ state (λ r c. cell s r ((c + by * r) % 4)) }
 {
-    let mut t = [0u8; 16];
-    let mut i = 0;
-    while i < 16 {
-        let r = i % 4;
-        t[i] = s[r + 4 * ((i / 4 + by * r) % 4)];
-        i += 1;
-    }
-    t
+    array::from_fn(|i| s[i % 4 + 4 * ((i / 4 + by * (i % 4)) % 4)])
 }
 
 // Row r turned to the left by r places.
@@ -71,10 +54,8 @@ fn row_by_column(m: [u8; 16], s: [u8; 16], r: usize, c: usize) -> u8
     ensures { result ≡ xor_all 4 (λ q. mul (entry m r q) (cell s q c)) }
 {
     let mut sum: u8 = 0;
-    let mut q = 0;
-    while q < 4 {
+    for q in 0..4 {
         sum = sum ^ field::product(m[4 * r + q], s[q + 4 * c]);
-        q += 1;
     }
     sum
 }
@@ -83,13 +64,7 @@ fn row_by_column(m: [u8; 16], s: [u8; 16], r: usize, c: usize) -> u8
 fn mix_by(m: [u8; 16], s: [u8; 16]) -> [u8; 16]
     ensures { result ≡ mix_by m s }
 {
-    let mut t = [0u8; 16];
-    let mut i = 0;
-    while i < 16 {
-        t[i] = row_by_column(m, s, i % 4, i / 4);
-        i += 1;
-    }
-    t
+    array::from_fn(|i| row_by_column(m, s, i % 4, i / 4))
 }
 
 // Each column times the matrix of section 5.1.3.
@@ -111,11 +86,5 @@ pub fn add_round_key(s: [u8; 16], w: &[u8], n: usize) -> [u8; 16]
     requires { 16 * (n + 1) ≤ length w.now }
     ensures { result ≡ AddRoundKey s (key_of w.now n) }
 {
-    let mut t = [0u8; 16];
-    let mut i = 0;
-    while i < 16 {
-        t[i] = s[i] ^ w[16 * n + i];
-        i += 1;
-    }
-    t
+    array::from_fn(|i| s[i] ^ w[16 * n + i])
 }

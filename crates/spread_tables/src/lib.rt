@@ -12,8 +12,8 @@ ghost use Rattle.encodings.specs.Encodings.{Nibbles};
 ghost use Rattle.spread_tables.specs.Spread.{encoded_byte, encoded_word};
 ghost use Rattle.spread_tables.specs.Words.{with_word, WordPut, ForWord, ForWords, ForTable};
 
+use bits::vector;
 use bits::vector::Vector;
-use bits::{encoding, vector};
 use matrices::nibbles;
 
 // The bytes of a word: of the entry and of the exit, and of a round.
@@ -27,8 +27,8 @@ fn encoded_byte(images: &[u8], k: usize, b: u8) -> u8
     requires { (k < 16) × Nibbles (32 * k + 32) images.now }
     ensures { result ≡ encoded_byte (at images.now) k b }
 {
-    let high = images[16 * (2 * k) + encoding::widened(b / 16)];
-    let low = images[16 * (2 * k + 1) + encoding::widened(b % 16)];
+    let high = images[16 * (2 * k) + usize::from(b / 16)];
+    let low = images[16 * (2 * k + 1) + usize::from(b % 16)];
     high * 16 + low
 }
 
@@ -40,10 +40,8 @@ fn write_word(v: Vector, images: &[u8], m: usize, x: usize, dst: &mut [u8])
     ensures alone { WordPut m x (encoded_word (at images.now) m (value v)) dst.old dst.new }
 {
     let a = x * m;
-    let mut k: usize = 0;
-    while k < m {
+    for k in 0..m {
         dst[a + k] = encoded_byte(images, k, vector::byte(v, m - 1 - k));
-        k += 1;
     }
 }
 
@@ -53,10 +51,8 @@ fn write_words(values: &[u8], words: &[u64], images: &[u8], m: usize, dst: &mut 
     ensures { dst.new
         ≡ concat 256 (λ x. encoded_word (at images.now) m (word_in words.now (at values.now x))) }
 {
-    let mut x: usize = 0;
-    while x < 256 {
+    for x in 0..256 {
         write_word(nibbles::word_of(words, values[x]), images, m, x, dst);
-        x += 1;
     }
 }
 

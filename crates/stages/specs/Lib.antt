@@ -1,3 +1,4 @@
 pub mod Spread
 pub mod Table
 pub mod Asked
+pub mod InRounds

@@ -2,4 +2,5 @@
 
 #![tactic(auto)]
 
+mod spread;
 pub mod table;

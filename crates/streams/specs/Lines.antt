@@ -1,12 +1,11 @@
 -- The lines that the programs write, as lists of bytes: document 01, "Programs"; document 02, Ticket 4. The numbers are those of crate answers. Definitions only.
 use Rattle.std.specs.Prelude.{cond, List, [], ◌∷◌, ◌++◌, ℕ, zero, suc, ◌+◌, ◌/◌, ◌%◌, ltb}
 use Rattle.answers.specs.Numbers.{cause_of, second_of}
-use Rattle.answers.specs.declared.Answer.{Answer}
-use Rattle.answers.specs.declared.Answer.TheVariants.{Accepted, Refused}
 use Rattle.answers.specs.declared.Refusal.{Refusal}
 use Rattle.bits.specs.Lists.{tabulate}
 use Rattle.bits.specs.Nibbles.{nibble}
 use Rattle.streams.specs.Digits.{hex_digit_ascii, last_digits}
+use Rattle.answers.specs.Answer.{Answer, Accepted, Refused}
 
 -- ---- numbers and blocks as text
 -- The decimal digits of n, the most significant first, with no 0 in front of another digit. `most` bounds their number, and n + 1 is enough.

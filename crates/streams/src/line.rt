@@ -1,12 +1,14 @@
-// The lines that the programs write, at the front of lent memory. Document 01, "Programs"; document 02, Ticket 4.
+// The lines that the programs write, at the front of lent memory, since there is no heap: each contract gives the
+// bytes (`Written`). Document 01, "Programs"; document 02, Ticket 4.
 ghost use Rattle.std.specs.Prelude.{◌≡◌, ◌+◌, ◌<◌, ◌≤◌, length, take};
 ghost use Rattle.streams.specs.Digits.{hex_digit_ascii as Digits·glyph, last_digits, IsDigitCount};
 ghost use Rattle.streams.specs.Lines.{line_room, cause_room, number_room, matrix_room};
 ghost use Rattle.streams.specs.Lines.{decimal, hex_digits, cause_text, cause_line, refusal_line, answer_line, matrix_line};
 ghost use Rattle.streams.specs.Written.{Put, Written};
 
-use answers::{Answer, Refusal, cause, second};
+use answers::{Refusal, cause, second};
 use bits::encoding::nibble;
+use std::array;
 
 // Room for every line of the maker and the walker, and for one of the catalogue, which has 4 digits.
 pub const ROOM: usize = 33;
@@ -23,15 +25,12 @@ fn put(line: &mut [u8], from: usize, text: &[u8]) -> usize
     requires { from + length text.now ≤ length line.old }
     ensures { Put text.now line.old from result line.new }
 {
-    let mut i = 0;
-    while i < text.len() {
-        line[from + i] = text[i];
-        i += 1;
-    }
-    from + i
+    let end = from + text.len();
+    line[from..end].copy_from_slice(text);
+    end
 }
 
-// How many digits a number has in decimal.
+// How many digits a number has in decimal: no index is counted, the number is divided away.
 fn digit_count(n: u32) -> usize
     ensures { IsDigitCount 10 1 n result }
 {
@@ -50,10 +49,8 @@ fn write_digits(n: u32, base: u32, k: usize, out: &mut [u8])
     requires room { k ≤ length out.old }
     ensures { take k out.new ≡ last_digits base k n }
 {
-    let mut i = k;
     let mut rest = n;
-    while i > 0 {
-        i -= 1;
+    for i in (0..k).rev() {
         out[i] = glyph((rest % base) as u8);
         rest /= base;
     }
@@ -76,7 +73,7 @@ fn put_cause(line: &mut [u8], refusal: Refusal) -> usize
     ensures { Written (cause_text refusal) line.old result line.new × (result ≤ cause_room) }
 {
     let end = put(line, 0, b"refused ");
-    put_decimal(line, end, cause(Answer::Refused(refusal)))
+    put_decimal(line, end, cause(Err(refusal)))
 }
 
 // The walker's refusal: `refused N` and a newline. Its length.
@@ -95,7 +92,7 @@ pub fn refusal_line(refusal: Refusal, line: &mut [u8]) -> usize
 {
     let end = put_cause(line, refusal);
     let gap = put(line, end, b" ");
-    let number = put_decimal(line, gap, second(Answer::Refused(refusal)));
+    let number = put_decimal(line, gap, second(Err(refusal)));
     put(line, number, b"\n")
 }
 
@@ -111,13 +108,7 @@ fn glyph(d: u8) -> u8
 fn hex_digits(block: &[u8]) -> [u8; 32]
     ensures { result ≡ hex_digits block.now }
 {
-    let mut digits = [0u8; 32];
-    let mut q = 0;
-    while q < 32 {
-        digits[q] = glyph(nibble(block, q));
-        q += 1;
-    }
-    digits
+    array::from_fn(|q| glyph(nibble(block, q)))
 }
 
 // The walker's answer: "32 lowercase hex digits and a newline". Its length.

@@ -22,6 +22,7 @@ pub fn receive<R: Read>(input: &mut R, errors: &impl Eprint, memory: &mut [u8]) 
     ensures { Front result memory.new }
 {
     let mut done = 0;
+    // By as many bytes as each read gave.
     while done < memory.len() {
         let more = read_some(input, errors, &mut memory[done..]);
         if more == 0 {

@@ -2,4 +2,5 @@
 
 #![tactic(auto)]
 
+pub mod source;
 pub mod values;

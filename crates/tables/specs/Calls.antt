@@ -2,12 +2,12 @@
 -- refusal. Over keys of nk words, whose ciphers have rounds_of nk rounds; the calls are those for AES-128, 4 words and ten rounds. Definitions only.
 use Rattle.std.specs.Prelude.{not, List, ℕ, ◌*◌, ltb, length}
 use Rattle.answers.specs.Answers.{refused_if, wants_length, and_then, if_accepted}
-use Rattle.answers.specs.declared.Answer.{Answer}
 use Rattle.answers.specs.declared.Refusal.TheVariants.{KeyLength, TableNumber, SetLength}
 use Rattle.round.specs.Key.{rounds_of}
 use Rattle.judgement.specs.Judge.{judge}
 use Rattle.layout.specs.Stages.{lookups, set_bytes, table_size}
 use Rattle.whitebox.specs.Bundles.{made_set, made_table}
+use Rattle.answers.specs.Answer.{Answer}
 
 module _ (nk : ℕ) where
   -- 1, "key not 16 bytes", then 2 to 7 by the bundle's judgement. Here the length of the key.

@@ -2,7 +2,6 @@
 -- `Given` keys and bundles and of the bytes `made_set`, `made_table`; here they are what the calls answer and leave, `set_left` and `table_left`, which
 -- their contracts cite. Over ciphers c and keys of nk words; the calls are those for 4 words.
 use Rattle.std.specs.Prelude.{List, ◌≢◌, ◌≡◌, ℕ, ◌<◌, length}
-use Rattle.answers.specs.declared.Answer.TheVariants.{Accepted}
 use Rattle.bits.specs.Bytes.{Bytes, Block}
 use Rattle.round.specs.Key.{rounds_of}
 use Rattle.layout.specs.Stages.{lookups, set_bytes, table_size}
@@ -12,6 +11,7 @@ use Rattle.whitebox.specs.Demand3.{Given, Presented}
 use Rattle.external.specs.Coding.{Crossed}
 use Rattle.whitebox.specs.RoundTrip.{GivesBack}
 use Rattle.tables.specs.Calls.{set_answer_for, table_answer_for, set_left, table_left}
+use Rattle.answers.specs.Answer.{Accepted}
 
 module _ (nk : ℕ) where
   -- ---- a key and an accepted bundle: what the demands assume is what the calls answer

@@ -1,7 +1,6 @@
 -- The next bit for C, which tells it through a pointer: what it leaves there, and what a host reads off it. Of nr rounds; the call is for ten. Definitions, and three
 -- statements, which are proved in proofs/laws/Bits.antt.
 use Rattle.std.specs.Prelude.{List, ◌≡◌, ℕ, ◌<◌, length}
-use Rattle.answers.specs.declared.Answer.TheVariants.{Accepted}
 use Rattle.bits.specs.Flips.{flipped}
 use Rattle.rounds.specs.Rounds.{Rounds}
 use Rattle.round.specs.Key.{rounds_of}
@@ -13,16 +12,14 @@ use Rattle.sensitivity.specs.Reads.{bits_read}
 use Rattle.sensitivity.specs.Theorems.{Lendable}
 use Rattle.next_bit.specs.NextBit.{next_bit_of}
 use Rattle.next_bit.specs.Search.{Smallest, AllBefore}
-use Rattle.next_bit.specs.declared.search.NextBit.{NextBit}
-use Rattle.next_bit.specs.declared.search.NextBit.TheVariants.{Bit, NoneLeft, Refused}
-use Rattle.told.specs.Told.{none}
+use Rattle.told.specs.Told.{none, told_left}
 use Rattle.one_call.specs.Walks.{walk_leaves_for}
+use Rattle.answers.specs.Answer.{Accepted}
+use Rattle.next_bit.specs.NextBit.{NextBit}
 
 -- What is left behind the pointer, which held `old`: the bit, `none` where none is left, and `old` in a refused call.
 abbrev pub bit_left : NextBit → ℕ → ℕ
-bit_left (Bit v) old = v
-bit_left NoneLeft old = none
-bit_left (Refused r) old = old
+bit_left r old = told_left r old
 
 -- In an accepted call (lengths alone decide, and what C lends is of bytes) `none` tells exactly that no bit at or after `from` is read, and any other number is the
 -- smallest such bit.

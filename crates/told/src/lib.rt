@@ -4,22 +4,37 @@
 #![tactic(auto)]
 
 ghost use Rattle.std.specs.Prelude.{◌≡◌, length};
+ghost use Rattle.answers.specs.Answer.{answer_in};
 ghost use Rattle.answers.specs.Numbers.{number_of};
 ghost use Rattle.calls.specs.Calls.{judge_whole};
 ghost use Rattle.catalogue.specs.Catalogue.{catalogue_entry, entry_answer};
 ghost use Rattle.records.specs.Replay.{judge_record, replayed};
 ghost use Rattle.next_bit.specs.NextBit.{next_bit_of};
-ghost use Rattle.told.specs.Told.{differs_left};
+ghost use Rattle.told.specs.Told.{told_left, differs_left};
 ghost use Rattle.told.specs.Bits.{bit_left};
 ghost use Rattle.told.specs.Entries.{matrix_left};
 
-use answers::{Answer, number};
-use catalogue::{Entry, entry_at};
-use next_bit::search::{NextBit, next_bit};
-use records::replay::{Verdict, replay};
+use answers::{Refusal, number};
+use catalogue::entry_at;
+use next_bit::search::next_bit;
+use records::replay::replay;
 
-// What stands for none, of lookups or of bits, behind a pointer: the largest number of 64 bits.
+// What stands for none, of lookups or of bits, behind a pointer of C: the largest number of 64 bits.
 const NONE: usize = 18446744073709551615;
+
+// What a call found is left behind a pointer, `NONE` where it found nothing; the answer's number is returned.
+fn tell(told: Result<Option<usize>, Refusal>, place: &mut usize) -> u64
+    ensures answer { result ≡ number_of (answer_in told) }
+    ensures left { place.new ≡ told_left told place.old }
+{
+    match told {
+        Ok(found) => {
+            *place = found.unwrap_or(NONE);
+            number(Ok(()))
+        }
+        Err(refusal) => number(Err(refusal)),
+    }
+}
 
 // Of a replay: `differs` gets the first lookup that differs, `NONE` where the record is the walk's own.
 pub fn tell_verdict(
@@ -34,17 +49,7 @@ pub fn tell_verdict(
     ensures lookup { differs.new ≡ differs_left
         (replayed cipher 10 set.now block.now recorded.now) differs.old }
 {
-    match replay(cipher, set, block, recorded) {
-        Verdict::Own => {
-            *differs = NONE;
-            number(Answer::Accepted)
-        }
-        Verdict::Differs(n) => {
-            *differs = n;
-            number(Answer::Accepted)
-        }
-        Verdict::Refused(r) => number(Answer::Refused(r)),
-    }
+    tell(replay(cipher, set, block, recorded), differs)
 }
 
 // Of the search for a bit that the walk reads: `bit` gets the smallest at or after `from`, `NONE` where none is left.
@@ -52,17 +57,7 @@ pub fn tell_bit(cipher: u64, set: &[u8], block: &[u8], from: usize, bit: &mut us
     ensures answer { result ≡ number_of (judge_whole 10 (length set.now) (length block.now)) }
     ensures bit { bit.new ≡ bit_left (next_bit_of cipher 10 set.now block.now from) bit.old }
 {
-    match next_bit(cipher, set, block, from) {
-        NextBit::Bit(v) => {
-            *bit = v;
-            number(Answer::Accepted)
-        }
-        NextBit::NoneLeft => {
-            *bit = NONE;
-            number(Answer::Accepted)
-        }
-        NextBit::Refused(r) => number(Answer::Refused(r)),
-    }
+    tell(next_bit(cipher, set, block, from), bit)
 }
 
 // Of the catalogue's entry at a position: `matrix` gets the number that its rows make.
@@ -71,10 +66,10 @@ pub fn tell_entry(position: usize, matrix: &mut usize) -> u64
     ensures matrix { matrix.new ≡ matrix_left (catalogue_entry position) matrix.old }
 {
     match entry_at(position) {
-        Entry::Matrix(v) => {
+        Ok(v) => {
             *matrix = v as usize;
-            number(Answer::Accepted)
+            number(Ok(()))
         }
-        Entry::Refused(r) => number(Answer::Refused(r)),
+        Err(r) => number(Err(r)),
     }
 }

@@ -2,11 +2,11 @@
 use Rattle.std.specs.Prelude.{List, [], ◌≡◌, ℕ}
 use Rattle.std.specs.Borrow.{Bor}
 use Rattle.bundle.specs.Format.{frame}
-use Rattle.answers.specs.declared.Answer.TheVariants.{Refused}
 use Rattle.answers.specs.declared.Refusal.{Refusal}
 use Rattle.view.specs.declared.part.Part.{Part}
 use Rattle.view.specs.declared.starts.Starts.{Starts}
 use Rattle.view.specs.Views.{view_of, starts_in, served_by, part_in}
+use Rattle.answers.specs.Answer.{Refused}
 
 -- The view of a bundle serves the bundle's parts.
 abbrev pub Serves : Type 0

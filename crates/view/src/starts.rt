@@ -2,7 +2,6 @@
 ghost use Rattle.std.specs.Prelude.{◌≡◌};
 ghost use Rattle.view.specs.Views.{starts_of};
 
-use answers::Answer;
 use bits::slices;
 use bundle::frame;
 use rounds::TEN;
@@ -21,14 +20,14 @@ pub fn starts_in(rounds: usize, bundle: &[u8]) -> Starts
     ensures { result ≡ starts_of rounds bundle.now }
 {
     match frame::judge_frame(rounds, bundle) {
-        Answer::Accepted => Starts {
+        Ok(()) => Starts {
             encodings: slices::number_at(bundle, 0),
             bytes: slices::number_at(bundle, 8),
             columns: slices::number_at(bundle, 16),
             input: slices::number_at(bundle, 24),
             output: slices::number_at(bundle, 32),
         },
-        Answer::Refused(_) => Starts {
+        Err(_) => Starts {
             encodings: 0,
             bytes: 0,
             columns: 0,

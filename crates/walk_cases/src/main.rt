@@ -8,8 +8,7 @@
 
 ghost use Rattle.std.specs.Prelude.{◌<◌};
 
-use answers::{Answer, cause};
-use bits::encoding;
+use answers::{Refusal, cause};
 use evaluate::walk::{Move, Walk, fetch, move_one, move_to, start};
 use layout::stage::{LOOKUPS, SET_BYTES, place_of};
 use passes::{Lookup, look_up_at};
@@ -28,34 +27,28 @@ fn byte_of(x: u64) -> u8 {
 
 fn fill(set: &mut [u8]) {
     let mut x: u64 = 197;
-    let mut i = 0;
-    while i < set.len() {
+    for b in set.iter_mut() {
         x = next(x);
-        set[i] = byte_of(x);
-        i += 1;
+        *b = byte_of(x);
     }
 }
 
 fn change(rt: &impl Print, i: usize, x: u8) -> io::Result<()> {
-    print!(rt; " {i}:{}", encoding::widened(x))
+    print!(rt; " {i}:{}", usize::from(x))
 }
 
 // The places where two lists of bytes differ, with the new byte.
 fn changes(rt: &impl Print, old: &[u8], new: &[u8]) -> io::Result<()> {
-    let mut i = 0;
-    while i < new.len() {
-        if i < old.len() {
-            if old[i] != new[i] {
-                change(rt, i, new[i])?;
-            }
+    for (i, (x, y)) in old.iter().zip(new).enumerate() {
+        if x != y {
+            change(rt, i, *y)?;
         }
-        i += 1;
     }
     Ok(())
 }
 
 // The beginning of a call's line: the cause, the cipher and the count.
-fn report_head(rt: &impl Print, answer: Answer, walk: Walk) -> io::Result<()> {
+fn report_head(rt: &impl Print, answer: Result<(), Refusal>, walk: Walk) -> io::Result<()> {
     print!(rt; "{} {} {}", cause(answer), walk.cipher, walk.count)
 }
 
@@ -72,7 +65,7 @@ fn report_changes(rt: &impl Print, old: Walk, new: Walk) -> io::Result<()> {
 }
 
 // The line of a start or of a given walk.
-fn report(rt: &impl Print, answer: Answer, old: Walk, new: Walk) -> io::Result<()> {
+fn report(rt: &impl Print, answer: Result<(), Refusal>, old: Walk, new: Walk) -> io::Result<()> {
     report_head(rt, answer, new)?;
     report_changes(rt, old, new)
 }
@@ -97,13 +90,13 @@ fn take(rt: &(impl Input + Eprint), b: &mut [u8], n: usize) {
 fn three(a: u8, b: u8, c: u8) -> usize
     ensures { result < 16777216 }
 {
-    (encoding::widened(a) * 256 + encoding::widened(b)) * 256 + encoding::widened(c)
+    (usize::from(a) * 256 + usize::from(b)) * 256 + usize::from(c)
 }
 
 fn four(a: u8, b: u8, c: u8, d: u8) -> usize
     ensures { result < 4294967296 }
 {
-    three(a, b, c) * 256 + encoding::widened(d)
+    three(a, b, c) * 256 + usize::from(d)
 }
 
 // The number of a cipher, the next 8 bytes of the input: any number of 64 bits.
@@ -150,12 +143,12 @@ fn given(rt: &(impl Input + Print + Eprint), walk: Walk, k: usize, n: usize) -> 
     receive(&mut input, rt, &mut standing);
     receive(&mut input, rt, &mut area);
     let w = Walk {
-        cipher: cipher,
+        cipher,
         count: far(k, n),
-        standing: standing,
-        area: area,
+        standing,
+        area,
     };
-    report(rt, Answer::Accepted, walk, w)?;
+    report(rt, Ok(()), walk, w)?;
     Ok(w)
 }
 
@@ -226,10 +219,10 @@ fn looked_up(rt: &impl Print, walk: Walk, mem: &[u8]) -> io::Result<Walk> {
     report_place(rt, read)?;
     let count = n + 1;
     Ok(Walk {
-        cipher: cipher,
-        count: count,
-        standing: standing,
-        area: area,
+        cipher,
+        count,
+        standing,
+        area,
     })
 }
 
@@ -254,10 +247,8 @@ fn fetched(rt: &impl Print, walk: Walk, k: usize) -> io::Result<()> {
 // Stop by stop.
 fn every(rt: &impl Print, walk: Walk, mem: &[u8]) -> io::Result<Walk> {
     let mut w = walk;
-    let mut stop: usize = 0;
-    while stop <= LOOKUPS {
+    for stop in 0..=LOOKUPS {
         w = long_move(rt, w, mem, 2, stop)?;
-        stop += 1;
     }
     Ok(w)
 }
@@ -302,14 +293,12 @@ fn run(rt: &(impl Input + Print + Eprint), mem: &mut [u8]) -> io::Result<()> {
         area: [0u8; 256],
     };
     let mut h = [0u8; 8];
-    let mut left = MOST_ORDERS;
-    while 0 < left {
+    for _ in 0..MOST_ORDERS {
         if receive(&mut rt.reader(), rt, &mut h) != 8 {
             return Ok(());
         }
         let n = three(h[2], h[3], h[4]) * 16777216 + three(h[5], h[6], h[7]);
-        walk = order(rt, walk, mem, h[0], encoding::widened(h[1]), n)?;
-        left -= 1;
+        walk = order(rt, walk, mem, h[0], usize::from(h[1]), n)?;
     }
     Ok(())
 }

@@ -2,8 +2,6 @@
 -- holding one table". No contract can say which bytes a read gives, so a contract says that there are such tables. The mark `Received` on them says nothing
 -- more: it shows in the proofs that they come from reads (crate streams, specs/Received.antt). Definitions only.
 use Rattle.std.specs.Prelude.{List, [], ◌∷◌, map, ◌≡◌, ℕ, ◌≤◌, ◌<◌, length, take}
-use Rattle.answers.specs.declared.Answer.{Answer}
-use Rattle.answers.specs.declared.Answer.TheVariants.{Accepted, Refused}
 use Rattle.answers.specs.declared.Refusal.{Refusal}
 use Rattle.answers.specs.declared.Refusal.TheVariants.{SetLength}
 use Rattle.layout.specs.Stages.{lookups, table_size}
@@ -12,6 +10,7 @@ use Rattle.evaluate.specs.Promises.{Moves}
 use Rattle.evaluate.specs.declared.walk.Move.{Move}
 use Rattle.evaluate.specs.declared.walk.Walk.{Walk}
 use Rattle.streams.specs.Received.{Received, AllReceived}
+use Rattle.answers.specs.Answer.{Answer, Accepted, Refused}
 
 -- Room for the largest table: "16 spread tables of 4,096 bytes".
 abbrev pub table_room : ℕ

@@ -10,7 +10,7 @@ ghost use Rattle.streams.specs.Written.{Written};
 ghost use Rattle.walker.specs.Tables.{table_room, Next, OverInput};
 ghost use Rattle.walker.specs.Writes.{line_of, Runs};
 
-use answers::{Answer, Refusal};
+use answers::Refusal;
 use evaluate::walk::{Move, Opening, Walk, fetch, move_one, start};
 use layout::cipher::FORWARD;
 use layout::stage::{LOOKUPS, place_of};
@@ -41,10 +41,11 @@ fn over_next<R: Read>(input: &mut R, errors: &impl Eprint, walk: Walk, table: &m
     move_one(walk, &table[..got])
 }
 
-// A walk over the input: the answer of the last move, and the walk that it reached.
+// A walk over the input: the answer of the last move, and the walk that it reached, which the contract has of a refused
+// one too (`OverInput`).
 #[derive(Clone, Copy)]
 struct Walked {
-    answer: Answer,
+    answer: Result<(), Refusal>,
     walk: Walk,
 }
 
@@ -54,19 +55,17 @@ fn over_input<R: Read>(input: &mut R, errors: &impl Eprint, walk: Walk, table: &
     ensures { OverInput 10 (held walk) result.answer (held result.walk) }
 {
     let mut w = walk;
+    // The count is the walk's own.
     while w.count < LOOKUPS {
         let m = over_next(input, errors, w, table);
         let answer = m.answer;
         w = m.walk;
-        let Answer::Accepted = answer else {
-            return Walked {
-                answer: answer,
-                walk: w,
-            };
+        let Ok(()) = answer else {
+            return Walked { answer, walk: w };
         };
     }
     Walked {
-        answer: Answer::Accepted,
+        answer: Ok(()),
         walk: w,
     }
 }
@@ -81,7 +80,7 @@ fn line_of(walk: Walk, rest: usize, line: &mut [u8]) -> usize
     }
     let mut block = [0u8; 16];
     let answer = fetch(walk, &mut block);
-    let Answer::Refused(refusal) = answer else {
+    let Err(refusal) = answer else {
         return answer_line(&block, line);
     };
     cause_line(refusal, line)
@@ -97,14 +96,14 @@ fn run<R: Read>(input: &mut R, errors: &impl Eprint, line: &mut [u8]) -> usize
     let opening = opened(&block[..got]);
     let judged = opening.answer;
     let walk = opening.walk;
-    if let Answer::Refused(refusal) = judged {
+    if let Err(refusal) = judged {
         return cause_line(refusal, line);
     }
     let mut table = [0u8; TABLE_ROOM];
     let m = over_input(input, errors, walk, &mut table);
     let answer = m.answer;
     let w = m.walk;
-    if let Answer::Refused(refusal) = answer {
+    if let Err(refusal) = answer {
         return cause_line(refusal, line);
     }
     let mut more = [0u8; 1];

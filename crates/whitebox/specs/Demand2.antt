@@ -2,7 +2,6 @@
 -- walk started for it, over the block under the input coding gives FIPS 197's cipher block, or its inverse cipher's block, under the output coding; uncoding
 -- and deciphering, or enciphering, gives the block again.
 use Rattle.std.specs.Prelude.{List, ◌≡◌, ℕ, ◌*◌, length}
-use Rattle.answers.specs.declared.Answer.TheVariants.{Accepted}
 use Rattle.bits.specs.Bytes.{Bytes, Block}
 use Rattle.round.specs.Key.{rounds_of}
 use Rattle.judgement.specs.Judge.{judge}
@@ -10,6 +9,7 @@ use Rattle.external.specs.Coding.{encode_input, encode_output, decode_output}
 use Rattle.layout.specs.Ciphers.{other}
 use Rattle.calls.specs.Calls.{walked_over}
 use Rattle.whitebox.specs.Bundles.{cipher_block, made_set}
+use Rattle.answers.specs.Answer.{Accepted}
 
 -- Of any memory `set`: the walk over it, from the block b under the input coding, answers as demand 2 says.
 pub record WalkIsCipher (c nk : ℕ) (key l set b lent : List ℕ) : Type 0 where

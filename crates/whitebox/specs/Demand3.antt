@@ -2,7 +2,6 @@
 -- list of calls of any length, from the walk that an accepted start hands back. The start names the cipher c that the set is made for (document 02, Ticket 1).
 use Rattle.std.specs.Prelude.{List, map, ◌≡◌, ℕ, ◌*◌, ◌≤◌, ◌<◌, length}
 use Rattle.answers.specs.Answers.{accepted}
-use Rattle.answers.specs.declared.Answer.TheVariants.{Accepted}
 use Rattle.bits.specs.Bytes.{Bytes}
 use Rattle.bits.specs.Nibbles.{nibble}
 use Rattle.round.specs.Key.{rounds_of}
@@ -17,6 +16,7 @@ use Rattle.calls.specs.Calls.{judge_start, started, Call, to_stop, reply, handed
 use Rattle.calls.specs.PlainCount.{args_of, plain_count, Lent, due_served, Alike, seen}
 use Rattle.whitebox.specs.Bundles.{codings_of, parts_of, cipher_block, made_set, made_table, due_held}
 use Rattle.whitebox.specs.Values.{due_standing, due_area}
+use Rattle.answers.specs.Answer.{Accepted}
 
 -- A key of nk words and an accepted bundle, both bytes.
 pub record Given (nk : ℕ) (key l : List ℕ) : Type 0 where

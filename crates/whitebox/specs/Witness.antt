@@ -1,7 +1,6 @@
 -- A key and an accepted bundle for demands 2 and 3 and for the round trip, so that they speak of something: a bundle whose byte and column matrices are built from
 -- blocks, and which is plain but for them. For a reader; proved in proofs/laws/Witness.antt.
 use Rattle.std.specs.Prelude.{List, ◌≡◌, ℕ, ◌*◌, length}
-use Rattle.answers.specs.declared.Answer.TheVariants.{Accepted}
 use Rattle.bits.specs.Bytes.{Bytes, Block}
 use Rattle.bundle.specs.Built.{PlainBut}
 use Rattle.judgement.specs.Judge.{judge}
@@ -10,6 +9,7 @@ use Rattle.calls.specs.Calls.{walked_over}
 use Rattle.whitebox.specs.Bundles.{cipher_block, made_set}
 use Rattle.whitebox.specs.Demand3.{Given}
 use Rattle.external.specs.Coding.{Crossed}
+use Rattle.answers.specs.Answer.{Accepted}
 
 pub record Witness : Type 0 where
   -- The bytes hold these codings, and the bundle is accepted.

@@ -10,7 +10,7 @@ ghost use Rattle.bits.specs.Nibbles.{packed};
 ghost use Rattle.encodings.specs.Encodings.{encoding_in, Nibbles};
 ghost use Rattle.xor_tables.specs.Xors.{ForSums, ForXors};
 
-use bits::{encoding, slices};
+use bits::slices;
 use encodings::lists;
 
 // The image of the sum of two nibbles.
@@ -18,7 +18,7 @@ fn image_of_sum(res: &[u8], a: u8, b: u8) -> u8
     requires { (16 ≤ length res.now) × (a < 16) × (b < 16) }
     ensures { result ≡ at res.now (bit_xor a b) }
 {
-    res[encoding::widened(a ^ b)]
+    res[usize::from(a ^ b)]
 }
 
 // The entries for one nibble `a` of the sum so far, decoded: `added` undoes the encoding of the nibble that is added,
@@ -27,12 +27,10 @@ fn write_row(a: u8, added: &[u8], res: &[u8], dst: &mut [u8])
     requires { (a < 16) × ForSums added.now res.now × (length dst.old ≡ 8) }
     ensures { dst.new ≡ packed 8 (λ j. at res.now (bit_xor a (at added.now j))) }
 {
-    let mut k: usize = 0;
-    while k < 8 {
+    for k in 0..8 {
         let high = image_of_sum(res, a, added[2 * k]);
         let low = image_of_sum(res, a, added[2 * k + 1]);
         dst[k] = high * 16 + low;
-        k += 1;
     }
 }
 
@@ -42,12 +40,10 @@ fn write_entries(sum: &[u8], added: &[u8], res: &[u8], dst: &mut [u8])
     ensures { dst.new ≡ packed 128 (λ e.
         at res.now (bit_xor (at sum.now (e / 16)) (at added.now (e % 16)))) }
 {
-    let mut i: usize = 0;
-    while i < 16 {
+    for i in 0..16 {
         let a = i * 8;
         let e = a + 8;
         write_row(sum[i], added, res, &mut dst[a..e]);
-        i += 1;
     }
 }
 

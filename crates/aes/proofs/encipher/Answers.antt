@@ -6,17 +6,17 @@ use Rattle.aes.proofs.laws.Answers.{lent_key, lent_from, lent_into, encipher_ref
 use borrow.Author.Rules.{rules}
 use Rattle.aes.proofs.encipher.Goals as goal
 
+pub returns-in_err-judged-clause-block : goal.returns-in_err-judged-clause-block
+returns-in_err-judged-clause-block c = encipher_refused _ _ _ c.judged.ensures c.in_err-judged.was
+
 pub expand-requires : goal.expand-requires
-expand-requires c = (search lent_key, search rules, search rules)
+expand-requires c = (lent_key _ _ _ c.judged.ensures c.in_ok-judged.was, search rules, search rules)
 
 pub load-requires : goal.load-requires
-load-requires c = search lent_from
+load-requires c = lent_from _ _ _ c.judged.ensures c.in_ok-judged.was
 
 pub store-requires : goal.store-requires
-store-requires c = search lent_into
+store-requires c = lent_into _ _ _ c.judged.ensures c.in_ok-judged.was
 
-pub returns-in-Accepted : goal.returns-in-Accepted
-returns-in-Accepted c = search encipher_done
-
-pub returns-in_default : goal.returns-in_default
-returns-in_default c = search encipher_refused
+pub returns-clause-block : goal.returns-clause-block
+returns-clause-block c = search (encipher_done, c.in_ok-judged.was)

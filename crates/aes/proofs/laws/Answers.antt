@@ -6,8 +6,6 @@ use Prim.Native.Nat.{ℕ}
 use lib.ListN.{length}
 use Rattle.bits.specs.Bytes.{Bytes, Block}
 use Rattle.answers.specs.Answers.{and_then, wants_length, if_accepted}
-use Rattle.answers.specs.declared.Answer.{Answer}
-use Rattle.answers.specs.declared.Answer.TheVariants.{Accepted, Refused}
 use Rattle.answers.specs.declared.Refusal.{Refusal}
 use Rattle.answers.specs.declared.Refusal.TheVariants.{KeyLength, BlockLength}
 use Rattle.answers.proofs.laws.Tests.{first_refuses, second_decides, both, length_wrong, length_right, length_was, left_new, left_old}
@@ -17,6 +15,7 @@ use Rattle.aes.specs.Cipher.{Cipher, InvCipher, encipher_of, decipher_of}
 use Rattle.aes.specs.Answers.{answer_of, enciphered, deciphered}
 use Rattle.aes.specs.Theorems.{ThereAndBack, BackAndThere}
 use Rattle.aes.proofs.laws.Cipher.{encipher_block, decipher_block, decipher_encipher, encipher_decipher}
+use Rattle.answers.specs.Answer.{Answer, Accepted, Refused}
 
 -- ---- The answer, test by test.
 module _ (key from into : List ℕ) where

@@ -7,11 +7,10 @@ use lib.Dec.{eqb}
 use native.Mathlib.Omega.{arith}
 use Rattle.answers.specs.Numbers.{cause_of, second_of, second_in, number_of, Readable}
 use Rattle.answers.specs.Answers.{refused_if, wants_length, and_then, reply_of, returned}
-use Rattle.answers.specs.declared.Answer.{Answer}
-use Rattle.answers.specs.declared.Answer.TheVariants.{Accepted, Refused}
 use Rattle.answers.specs.declared.Refusal.{Refusal}
 use Rattle.answers.specs.declared.Refusal.TheVariants.{KeyLength, BundleLength, Pair, Encoding, ByteMatrix, ColumnMatrix, InputMatrix}
 use Rattle.answers.specs.declared.Refusal.TheVariants.{OutputMatrix, TableNumber, SetLength, BlockLength, Stop, Unfinished, RecordLength, CataloguePosition}
+use Rattle.answers.specs.Answer.{Answer, Accepted, Refused}
 
 -- No cause has the number 0.
 positive : (r : Refusal) → 0 < cause_of r

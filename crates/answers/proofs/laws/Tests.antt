@@ -7,21 +7,14 @@ use lib.Dec.{eqb}
 use native.Mathlib.Omega.{arith}
 use borrow.Author.Tests.{eq-eqb, ne_eqb, eqb-true}
 use Rattle.answers.specs.Answers.{accepted, reply_of, refused_if, wants_length, and_then, if_accepted}
-use Rattle.answers.specs.declared.Answer.{Answer}
-use Rattle.answers.specs.declared.Answer.TheVariants.{Accepted, Refused}
 use Rattle.answers.specs.declared.Refusal.{Refusal}
+use Rattle.answers.specs.Answer.{Answer, Accepted, Refused}
+use Rattle.std.specs.Prelude.{Result, Ok, Err, IsErrAnd}
+use Rattle.std.proofs.lemmas.Result.{err_from_is_err_and}
 
 -- ---- a test, and an answer, is one or the other
 pub clash : (b : Bool) → b ≡ true → b ≡ false → ⊥
 clash b e f = let z : ◌≡◌ {A = ℕ} 0 1 = cc in omega arith
-
-pub not_false_true : (b : Bool) → (b ≡ false → ⊥) → b ≡ true
-not_false_true true h = refl
-not_false_true false h = absurd (h refl)
-
-pub denied_true : (b : Bool) → not b ≡ false → b ≡ true
-denied_true true e = refl
-denied_true false e = let y : ◌≡◌ {A = ℕ} 0 1 = cc in absurd (omega arith)
 
 -- One test or another.
 pub or_left : (a b : Bool) → (a || b) ≡ false → a ≡ false
@@ -127,6 +120,22 @@ module _ (due from to : ℕ) (r : Refusal) where
 
   pub lengths_were : Lengths ≡ Accepted → (from ≡ due) × (to ≡ due)
   lengths_were e = let b = both _ _ e in (length_was due from r b.first, length_was due to r b.second)
+
+-- ---- a result has one value
+value_in : {A E : Type 0} → A → Result A E → A
+value_in d (Ok x) = x
+value_in d (Err e) = d
+
+pub same_value : {A E : Type 0} {v : Result A E} {x y : A} → v ≡ Ok x → v ≡ Ok y → x ≡ y
+unfolding value_in
+same_value {x = x} a b = ap (value_in x) (sym a ∙ b)
+
+-- ---- what a `?` hands on, r, where the call before it was refused: the refusal of that call, and so its answer a
+pub handed_on : {A P E : Type 0} {e : E} {r : Result A E} → P × IsErrAnd r (λ y. y ≡ e) → r ≡ Err e
+handed_on {r = r} h = let e = err_from_is_err_and r h.1 in e.1 ∙ ap Err e.2
+
+pub handed_back : {A P E : Type 0} {e : E} {a r : Result A E} → P × IsErrAnd r (λ y. y ≡ e) → a ≡ Err e → r ≡ a
+handed_back h f = handed_on h ∙ sym f
 
 -- ---- what a call leaves
 pub left_new : {A : Type 0} (a : Answer) (new old : A) → a ≡ Accepted → new ≡ if_accepted a new old

@@ -8,7 +8,7 @@ use native.Mathlib.Nat.{add-zero}
 use native.Mathlib.Numerals.{add-one}
 use native.Mathlib.Omega.{arith}
 use lib.ListN.{length, set, take, drop, length-drop, get_or-append}
-use lib.Seq.{get_or-take, get_or-drop, get_or-append-add, paste, paste-zero, paste-suc, length-paste, length-take-le, length_paste_head}
+use lib.Seq.{get_or-take, get_or-drop, get_or-append-add, paste, paste-zero, paste-suc, length-take-le, length_paste_head}
 use Rattle.bits.specs.Lists.{at}
 
 -- The loop's invariant: b of them are copied, and d has become a.
@@ -40,9 +40,6 @@ module _ {d t : List ℕ} {to from m : ℕ} {a : List ℕ} {b : ℕ} (I : Pasted
   pasted_all h =
       let e : b ≡ m = omega arith in
       I.done ∙ ap (paste d to (drop from t)) e
-
-  pub length_pasted : length a ≡ length d
-  length_pasted = ap length I.done ∙ length-paste d to (drop from t) b (omega arith) (omega (arith, length-drop from t))
 
 -- ---- a list into which m elements were copied at place a: what stands before them, they themselves, and what stands behind them
 module _ (d : List ℕ) (a : ℕ) (s : List ℕ) (m : ℕ) (fa : a ≤ length d) (fs : m ≤ length s) where

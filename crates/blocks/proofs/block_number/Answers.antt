@@ -1,6 +1,6 @@
 -- `blocks::block_number` meets its contract. The loop's invariant, `Joined` of bits' `laws.Joined`: the number is that of the first r rows of the block. A turn
 -- joins row r, which is nibble j of row 4 i + r of the matrix (`joined_more`); behind the last row the number is the block's (`number_joined` of `laws.Code`). The
--- place of the nibble is small (`byte_small`), and a number of up to four rows is below 2^16 (`joined_room`), so nothing wraps. The measure is the rows left.
+-- place of the nibble is small, and a number of up to four rows is below 2^16 (`joined_room`), so nothing wraps.
 -- Assumes nothing.
 use mathlib.Core.List.{List}
 use Prim.Native.Nat.{ℕ, ◌+◌, ◌*◌, ◌^◌, ◌<◌, ◌≤◌}
@@ -9,7 +9,7 @@ use Rattle.bits.specs.Bytes.{Bytes}
 use Rattle.bits.proofs.laws.Joined.{Joined, joined_none, joined_more, joined_all, joined_room}
 use Rattle.bits.proofs.laws.Nibbles.{nibble_lt}
 use Rattle.catalogue.specs.Catalogue.{side}
-use Rattle.blocks.proofs.laws.Code.{first_byte_of, nibble_in, byte_small, number_joined}
+use Rattle.blocks.proofs.laws.Code.{first_byte_of, nibble_in, number_joined}
 use Rattle.blocks.proofs.block_number.Goals as goal
 
 -- the number of the first r rows, of four bits each
@@ -19,15 +19,6 @@ room w p i j bytes g b h = joined_room g b h (λ k. nibble_lt p bytes (2 * first
 
 pub loop-r-init : goal.loop-r-init
 loop-r-init c = search joined_none
-
-pub overflow_mul-i-in-loop-r : goal.overflow_mul-i-in-loop-r
-overflow_mul-i-in-loop-r c = omega (arith, byte_small c.requires.0 c.requires.1 c.loop-r-test.true)
-
-pub overflow_mul-i-in-loop-r-2 : goal.overflow_mul-i-in-loop-r-2
-overflow_mul-i-in-loop-r-2 c = omega (arith, byte_small c.requires.0 c.requires.1 c.loop-r-test.true)
-
-pub overflow_add-i-in-loop-r : goal.overflow_add-i-in-loop-r
-overflow_add-i-in-loop-r c = omega (arith, byte_small c.requires.0 c.requires.1 c.loop-r-test.true)
 
 pub overflow_mul-number : goal.overflow_mul-number
 overflow_mul-number c = omega (arith, room _ _ _ _ (λ k. (c.type_inv.p k).fits) c.loop-r.invariant 12 (omega arith))

@@ -1,6 +1,6 @@
 -- `blocks::block_row_bad` meets its contract. The loop's invariant, `Searched` of answers' `laws.Search`: none of the first j blocks is bad, and the search from j
 -- on has the answer of the search of all. The number of block j is tested in its place (`block_told` of `laws.Code`): a bad one is found (`searched_here`), another
--- is passed (`searched_next`), and behind the last there is none (`searched_all`). The measure is the number of blocks left.
+-- is passed (`searched_next`), and behind the last there is none (`searched_all`).
 -- Assumes nothing.
 use mathlib.Core.Bool.{not}
 use mathlib.Core.Path.{ap}

@@ -3,8 +3,7 @@
 use mathlib.Core.Bool.{Bool, not}
 use mathlib.Core.List.{List}
 use mathlib.Core.Path.{◌≡◌, sym, ap, ◌∙◌}
-use Prim.Native.Nat.{ℕ, ◌+◌, ◌*◌, ◌≤◌, ◌<◌}
-use native.Mathlib.Nat.{mul-le-mul_right}
+use Prim.Native.Nat.{ℕ, ◌+◌, ◌*◌, ◌<◌}
 use native.Mathlib.Omega.{arith}
 use Rattle.bits.specs.Bytes.{Bytes}
 use Rattle.bits.specs.Groups.{joined, group}
@@ -26,11 +25,6 @@ first_byte_of w i r = (side * i + r) * w
 
 abbrev pub nibble_in : ℕ → List ℕ → ℕ → ℕ → ℕ → ℕ
 nibble_in w p i j r = nibble p (2 * first_byte_of w i r + j)
-
-pub byte_small : {w i r : ℕ} → w ≤ 16 → i < 2 * w → r < side → first_byte_of w i r ≤ 2048
-byte_small {w} {i} {r} few hi hr =
-    let row : side * i + r ≤ 128 = omega arith in
-    omega (arith, mul-le-mul_right w row)
 
 module _ (w : ℕ) (p : List ℕ) (bytes : Bytes p) (i j : ℕ) (hi : i < 2 * w) (hj : j < 2 * w) where
   row_nibble : (r : ℕ) → r < side → at (block (2 * w) (matrix_of w p) i j) r ≡ nibble_in w p i j r

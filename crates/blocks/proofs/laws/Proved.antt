@@ -6,13 +6,14 @@ use mathlib.Core.Logic.{inl, inr}
 use mathlib.Core.Path.{◌≡◌, ap}
 use Prim.Native.Nat.{ℕ}
 use Rattle.answers.proofs.laws.Search.{none_picked, all_passed, some_picked}
-use Rattle.answers.proofs.laws.Tests.{clash, not_false_true, denied_true}
+use Rattle.answers.proofs.laws.Tests.{clash}
 use Rattle.matrices.specs.Matrices.{Invertible}
 use Rattle.inversion.proofs.laws.Inverses.{passes_invertible, invertible_passes}
 use Rattle.catalogue.specs.Catalogue.{side}
 use Rattle.blocks.specs.Blocks.{block, block_bad, block_row_bad, some_block_bad}
 use Rattle.blocks.specs.Theorems.{BlocksAligned, BlocksBuilt, EachBlockInvertible, SingularBlock, TestExact, BlockInvertible, Unfit}
 use Rattle.blocks.proofs.laws.Blocks.{block_square, block_bit, built_square, built_block}
+use Rattle.std.proofs.lemmas.Bool.{not-false, true_from_ne_false}
 
 pub blocks_aligned : BlocksAligned
 blocks_aligned q m i j h = record { square = block_square q m i j; bits = λ r c hr hc. block_bit q m i j r c h hr hc }
@@ -24,7 +25,7 @@ blocks_built q f squares = record { square = built_square q f squares; blocks = 
 module _ (q : ℕ) (m : List ℕ) where
   block_good : (i j : ℕ) → block_bad q m i j ≡ false → Invertible side (block q m i j)
   unfolding block_bad
-  block_good i j e = passes_invertible side (block q m i j) (block_square q m i j).fits (denied_true _ e)
+  block_good i j e = passes_invertible side (block q m i j) (block_square q m i j).fits (not-false _ e)
 
   good_block : (i j : ℕ) → Invertible side (block q m i j) → block_bad q m i j ≡ false
   unfolding block_bad
@@ -52,7 +53,7 @@ module _ (q : ℕ) (m : List ℕ) where
       }
 
   failed : SingularBlock q m → some_block_bad q m ≡ true
-  failed b = not_false_true (some_block_bad q m) (λ e. b.singular (passes e b.i b.j b.row b.column))
+  failed b = true_from_ne_false (some_block_bad q m) (λ e. b.singular (passes e b.i b.j b.row b.column))
 
 pub test_exact : TestExact
 test_exact q m = record { passes = (passes q m, passed q m); fails = (fails q m, failed q m) }

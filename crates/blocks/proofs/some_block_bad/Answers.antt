@@ -1,6 +1,6 @@
 -- `blocks::some_block_bad` meets its contract. The loop's invariant, `Searched` of answers' `laws.Search`: none of the first i rows of blocks is bad, and the search
 -- from i on has the answer of the search of all. A bad row is found (`searched_here`), another is passed (`searched_next`), and behind the last there is none
--- (`searched_all`). The measure is the number of rows of blocks left.
+-- (`searched_all`).
 -- Assumes nothing.
 use mathlib.Core.Path.{ap}
 use Rattle.answers.specs.Search.{is_found}

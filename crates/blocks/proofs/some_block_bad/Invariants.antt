@@ -1,4 +1,4 @@
-use Prim.Native.Nat.{◌-◌, ◌*◌}
+use Prim.Native.Nat.{◌*◌}
 use Rattle.answers.proofs.laws.Search.{Searched}
 use Rattle.matrices.specs.Matrices.{matrix_of}
 use Rattle.blocks.specs.Blocks.{block_row_bad}
@@ -6,6 +6,3 @@ use Rattle.blocks.proofs.some_block_bad.Given as goal
 
 abbrev pub invariant-loop-i : goal.invariant-loop-i
 invariant-loop-i l = Searched (2 * l.w) (block_row_bad (2 * l.w) (matrix_of l.w l.p)) l.i
-
-abbrev pub decreases-loop-i : goal.decreases-loop-i
-decreases-loop-i l = 2 * l.w - l.i

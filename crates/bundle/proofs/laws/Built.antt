@@ -26,8 +26,8 @@ use Rattle.bundle.specs.Built.{bytes_before, built_offset, pair_bytes, part_byte
 use Rattle.bundle.specs.Built.{PlainBytes, Writable, Holds, Built, Building, PlainBuilt}
 use Rattle.bundle.specs.Format.{encodings, byte_matrices, column_matrices, part_count, part_size, section_length, shortest, longest}
 use Rattle.bundle.specs.Format.{offset, stated, end_before, PairRight, frame, section_of, part_at}
-use Rattle.answers.specs.declared.Answer.TheVariants.{Accepted}
 use Rattle.bundle.proofs.laws.Frame.{longest_small, frame_accepted, section_is}
+use Rattle.answers.specs.Answer.{Accepted}
 
 -- ---- sizes
 module _ (nr : ℕ) where

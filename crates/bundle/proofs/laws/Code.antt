@@ -17,17 +17,15 @@ use Rattle.rounds.proofs.laws.Known.{known_rounds, rounds_known}
 use Rattle.bundle.specs.Format.{encodings, most_encodings, byte_matrices, column_matrices, part_count, part_size}
 use Rattle.bundle.specs.Format.{section_length, shortest, longest, offset, stated, end_before, pair_bad, length_bad, frame, section_of, part_at}
 use Rattle.answers.specs.Search.{first, refused_at}
-use Rattle.answers.specs.declared.found.Found.{Found}
-use Rattle.answers.specs.declared.found.Found.TheVariants.{At, Nothing}
 use Rattle.answers.specs.Answers.{refused_if, and_then, if_accepted}
-use Rattle.answers.specs.declared.Answer.{Answer}
-use Rattle.answers.specs.declared.Answer.TheVariants.{Accepted, Refused}
 use Rattle.answers.specs.declared.Refusal.{Refusal}
 use Rattle.answers.specs.declared.Refusal.TheVariants.{BundleLength, Pair}
 use Rattle.answers.proofs.laws.Tests.{differ}
 use Rattle.answers.proofs.laws.Search.{found_refuses, found_passes}
 use Rattle.bundle.proofs.laws.Frame.{framed, right_good, range_good, section_is, section_none, section_fits}
 use Rattle.bundle.proofs.laws.Parts.{part_long}
+use Rattle.answers.specs.Answer.{Answer, Accepted, Refused}
+use Rattle.std.specs.Prelude.{Some, None, Option}
 
 -- ---- a section from 3 on holds one block matrix, and behind the fifth there is none
 block_size : (s : ℕ) → 3 ≤ s → part_size s ≡ 2048
@@ -174,17 +172,17 @@ module _ (nr : ℕ) (l : List ℕ) {low : ℕ} (eo : shortest nr ≡ low) where
     frame_long b = simp (le-ltb (length l) (shortest nr) (omega arith), lt-ltb (longest nr) (length l) (omega arith))
 
     -- The length is in range, and the search for a bad pair found f.
-    module _ (b : length l ≤ high) {f : Found} (e : f ≡ first 5 (pair_bad nr l)) where
+    module _ (b : length l ≤ high) {f : Option ℕ} (e : f ≡ first 5 (pair_bad nr l)) where
       found : refused_at f Pair ≡ frame nr l
       unfolding frame
       found =
           let range = range_good nr l (record { low = omega arith; high = omega arith }) in
           rw (range, ← e)
 
-      pub frame_pair : {i : ℕ} → f ≡ At i → Refused (Pair i) ≡ frame nr l
+      pub frame_pair : {i : ℕ} → f ≡ Some i → Refused (Pair i) ≡ frame nr l
       frame_pair q = found_refuses f Pair _ q ∙ found
 
-      pub frame_right : f ≡ Nothing → Accepted ≡ frame nr l
+      pub frame_right : f ≡ None → Accepted ≡ frame nr l
       frame_right q = found_passes f Pair q ∙ found
 
 -- ---- sections and parts; j is the judgement of the frame

@@ -13,14 +13,13 @@ use Rattle.bundle.specs.Format.{encodings, byte_matrices, column_matrices, part_
 use Rattle.bundle.specs.Format.{offset, stated, end_before, PairRight, pair_bad, length_bad, frame, section_of}
 use Rattle.bundle.specs.Frames.{Sizes, LengthRight, Framed, Apart}
 use Rattle.answers.specs.Search.{first, refused_at}
-use Rattle.answers.specs.declared.found.Found.{Found}
-use Rattle.answers.specs.declared.found.Found.TheVariants.{Nothing}
 use Rattle.answers.specs.Answers.{refused_if, and_then}
-use Rattle.answers.specs.declared.Answer.TheVariants.{Accepted, Refused}
 use Rattle.answers.specs.declared.Refusal.{Refusal}
 use Rattle.answers.specs.declared.Refusal.TheVariants.{BundleLength, Pair}
 use Rattle.answers.proofs.laws.Tests.{both, passed, or_left, or_right, neither}
 use Rattle.answers.proofs.laws.Search.{none_all, all_none, none_found}
+use Rattle.answers.specs.Answer.{Accepted, Refused}
+use Rattle.std.specs.Prelude.{None, Option}
 
 pub sizes : Sizes
 unfolding known encodings byte_matrices column_matrices part_count part_size section_length shortest longest
@@ -87,10 +86,10 @@ module _ (nr : ℕ) (l : List ℕ) where
   range_good R =
       neither (ltb (length l) (shortest nr)) (ltb (longest nr) (length l)) (le-ltb (length l) (shortest nr) R.low) (le-ltb (longest nr) (length l) R.high)
 
-  pub pairs_all : first 5 (pair_bad nr l) ≡ Nothing → (i : ℕ) → i < 5 → PairRight nr l i
+  pub pairs_all : first 5 (pair_bad nr l) ≡ None → (i : ℕ) → i < 5 → PairRight nr l i
   pairs_all = none_all 5 (pair_bad nr l) (PairRight nr l) (pair_good nr l) (right_good nr l)
 
-  pub pairs_none : ((i : ℕ) → i < 5 → PairRight nr l i) → first 5 (pair_bad nr l) ≡ Nothing
+  pub pairs_none : ((i : ℕ) → i < 5 → PairRight nr l i) → first 5 (pair_bad nr l) ≡ None
   pairs_none = all_none 5 (pair_bad nr l) (PairRight nr l) (pair_good nr l) (right_good nr l)
 
   -- ---- the frame
@@ -106,7 +105,7 @@ module _ (nr : ℕ) (l : List ℕ) where
   pub frame_accepted : Framed nr l → frame nr l ≡ Accepted
   unfolding frame
   frame_accepted F =
-      ap₂ (λ (b : Bool) (f : Found). and_then (refused_if b BundleLength) (refused_at f Pair)) (range_good F.range) (pairs_none F.pairs)
+      ap₂ (λ (b : Bool) (f : Option ℕ). and_then (refused_if b BundleLength) (refused_at f Pair)) (range_good F.range) (pairs_none F.pairs)
 
   -- ---- sections
   pub section_is : frame nr l ≡ Accepted → (s : ℕ) → section_of nr l s ≡ take (section_length nr s) (drop (offset l s) l)

@@ -16,13 +16,12 @@ use Rattle.bundle.specs.Format.{shortest, longest, offset, stated, end_before, p
 use Rattle.bundle.specs.Format.{frame, part_size, section_of, part_at}
 use Rattle.bundle.specs.FreeBytes.{SameButFree, FreeBytes}
 use Rattle.answers.specs.Search.{refused_at}
-use Rattle.answers.specs.declared.found.Found.{Found}
 use Rattle.answers.specs.Answers.{refused_if, and_then}
-use Rattle.answers.specs.declared.Answer.{Answer}
-use Rattle.answers.specs.declared.Answer.TheVariants.{Accepted, Refused}
 use Rattle.answers.specs.declared.Refusal.TheVariants.{BundleLength, Pair}
 use Rattle.answers.proofs.laws.Search.{first_same}
 use Rattle.bundle.proofs.laws.Frame.{framed, section_is, section_none}
+use Rattle.answers.specs.Answer.{Answer, Accepted, Refused}
+use Rattle.std.specs.Prelude.{Option}
 
 module _ (nr : ℕ) (l l' : List ℕ) (agree : SameButFree nr l l') where
   -- ---- the pairs
@@ -55,7 +54,7 @@ module _ (nr : ℕ) (l l' : List ℕ) (agree : SameButFree nr l l') where
   frame_same : frame nr l ≡ frame nr l'
   unfolding frame
   frame_same =
-      ap₂ (λ (b : Bool) (f : Found). and_then (refused_if b BundleLength) (refused_at f Pair)) length_same (first_same 5 (pair_bad nr l) (pair_bad nr l') pair_same)
+      ap₂ (λ (b : Bool) (f : Option ℕ). and_then (refused_if b BundleLength) (refused_at f Pair)) length_same (first_same 5 (pair_bad nr l) (pair_bad nr l') pair_same)
 
   -- ---- the sections: where the frame is right they have the stated lengths, else both are empty
   section_by : (j : Answer) → frame nr l ≡ j → (s : ℕ) → s < 5 → section_of nr l s ≡ section_of nr l' s

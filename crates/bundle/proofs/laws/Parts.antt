@@ -13,10 +13,9 @@ use Rattle.bits.proofs.laws.Cuts.{take_bytes, drop_bytes, take_inside, part_none
 use Rattle.bits.proofs.laws.Multiples.{row_inside}
 use Rattle.bundle.specs.Format.{part_count, part_size, section_length, offset, frame, section_of, part_at}
 use Rattle.answers.specs.Answers.{if_accepted}
-use Rattle.answers.specs.declared.Answer.{Answer}
-use Rattle.answers.specs.declared.Answer.TheVariants.{Accepted, Refused}
 use Rattle.answers.specs.declared.Refusal.{Refusal}
 use Rattle.bundle.proofs.laws.Frame.{section_is, section_none, section_fits, section_length_lem}
+use Rattle.answers.specs.Answer.{Answer, Accepted, Refused}
 
 -- ---- parts of a bundle
 when_bytes : (j : Answer) (l : List ℕ) → Bytes l → Bytes (if_accepted j l [])

@@ -11,8 +11,6 @@ use native.Mathlib.Omega.{arith}
 use borrow.Author.Tests.{lt-ltb, le-ltb, eq-eqb, ne_eqb}
 use lib.ListN.{length}
 use Rattle.answers.specs.Answers.{accepted, reply_of, if_accepted}
-use Rattle.answers.specs.declared.Answer.{Answer}
-use Rattle.answers.specs.declared.Answer.TheVariants.{Accepted, Refused}
 use Rattle.answers.specs.declared.Refusal.{Refusal}
 use Rattle.answers.specs.declared.Refusal.TheVariants.{SetLength, BlockLength, Stop, Unfinished}
 use Rattle.answers.proofs.laws.Tests.{left_new, left_old}
@@ -26,6 +24,7 @@ use Rattle.calls.specs.Calls.{Mark, marked, kept_mark, Held, holding, changed, z
 use Rattle.calls.specs.Calls.{table_part, judge_start, judge_stop, judge_one, judge_fetch, started, answer}
 use Rattle.calls.specs.PlainCount.{Args, stop_args, one_args, fetch_args, args_of, Counted, plain, plain_count}
 use Rattle.calls.proofs.laws.Judged.{set_wrong, stop_above, stop_below, stop_right, none_left, table_wrong, table_right, block_wrong, count_wrong, count_right}
+use Rattle.answers.specs.Answer.{Answer, Accepted, Refused}
 
 -- ---- each kind of call, by cases: accepted, or turned down for one cause by the call and by the plain count alike
 pub record Turned (J : Answer) (p : Counted) (n : ℕ) : Type 0 where

@@ -8,12 +8,12 @@ use native.Mathlib.Omega.{arith}
 use lib.Dec.{ltb}
 use borrow.Author.Tests.{lt-ltb, le-ltb}
 use Rattle.answers.specs.Answers.{refused_if, wants_length}
-use Rattle.answers.specs.declared.Answer.TheVariants.{Accepted, Refused}
 use Rattle.answers.specs.declared.Refusal.{Refusal}
 use Rattle.answers.specs.declared.Refusal.TheVariants.{SetLength, BlockLength, Stop, Unfinished}
 use Rattle.answers.proofs.laws.Tests.{differ, first_refuses, second_decides, test_refuses, test_passes, length_wrong, length_right, length_was}
 use Rattle.layout.specs.Stages.{lookups, set_bytes, table_size}
 use Rattle.calls.specs.Calls.{judge_start, judge_stop, judge_one, judge_fetch}
+use Rattle.answers.specs.Answer.{Accepted, Refused}
 
 -- ---- start: the length of the block
 module _ (len : ℕ) where

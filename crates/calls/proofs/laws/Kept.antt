@@ -6,8 +6,6 @@ use Prim.Native.Nat.{ℕ, ◌-◌}
 use native.Mathlib.Omega.{arith}
 use lib.ListN.{length}
 use Rattle.answers.specs.Answers.{accepted, reply_of, if_accepted}
-use Rattle.answers.specs.declared.Answer.{Answer}
-use Rattle.answers.specs.declared.Answer.TheVariants.{Accepted, Refused}
 use Rattle.answers.proofs.laws.Tests.{left_back}
 use Rattle.network.specs.Lookups.{State}
 use Rattle.layout.specs.Ciphers.{kept, reads_of, inv_shifted}
@@ -16,6 +14,7 @@ use Rattle.layout.proofs.laws.Ciphers.{kept_names}
 use Rattle.calls.specs.Calls.{kept_mark, Held, holding, changed, Call, to_stop, one_lookup, fetch, step, advance, answer, handed, block_left}
 use Rattle.calls.specs.Calls.{judge_stop, judge_one, reply, read_next, last_offset, passed_on}
 use Rattle.calls.specs.Kept.{with_kept, ActsAsKept, MovesHandBackKept, RefusedLeaves, NotRefusedForCipher}
+use Rattle.answers.specs.Answer.{Answer, Accepted, Refused}
 
 -- ---- a walk with any number: f are the lookups that it makes, f' those of the walk with the number kept
 either_way : (a : Answer) (f f' : State → State) (w : Held) → f w.state ≡ f' w.state

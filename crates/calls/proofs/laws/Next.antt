@@ -6,7 +6,6 @@ use Prim.Native.Nat.{ℕ, suc, ◌-◌, ◌<◌}
 use native.Mathlib.Omega.{arith}
 use lib.ListN.{length, length-take, length-drop}
 use Rattle.answers.specs.Answers.{reply_of}
-use Rattle.answers.specs.declared.Answer.TheVariants.{Accepted}
 use Rattle.answers.proofs.laws.Tests.{left_new}
 use Rattle.layout.specs.Ciphers.{reads_of}
 use Rattle.layout.specs.Stages.{lookups, set_bytes, table_size}
@@ -16,6 +15,7 @@ use Rattle.calls.specs.Calls.{Held, table_part, changed, to_stop, step, advance,
 use Rattle.calls.specs.Next.{NextMove, OneIsNext}
 use Rattle.calls.proofs.laws.Calls.{one_handed, step_count}
 use Rattle.calls.proofs.laws.Judged.{stop_right, table_right}
+use Rattle.answers.specs.Answer.{Accepted}
 
 module _ (nr : ℕ) (mem : List ℕ) (long : length mem ≡ set_bytes nr) (w : Held) (left : w.state.count < lookups nr) where
   abbrev n : ℕ

@@ -11,7 +11,6 @@ use lib.Dec.{ltb}
 use lib.ListN.{length, take, drop}
 use lib.Seq.{take_all}
 use Rattle.answers.specs.Answers.{accepted, reply_of, if_accepted}
-use Rattle.answers.specs.declared.Answer.TheVariants.{Accepted}
 use Rattle.answers.proofs.laws.Tests.{differ, reply_was, left_new, left_back, left_either}
 use Rattle.bits.proofs.laws.Checked.{either_has}
 use Rattle.network.specs.Lookups.{State, Shape, lookup_in, lookup}
@@ -31,6 +30,7 @@ use Rattle.calls.proofs.laws.Next.{stop_accepted}
 use Rattle.calls.proofs.laws.Judged.{accepted_was, stop_right}
 use Rattle.calls.proofs.laws.KeepsBytes.{advance_bytes}
 use Rattle.calls.proofs.laws.Kept.{reads_kept}
+use Rattle.answers.specs.Answer.{Accepted}
 
 -- ---- one lookup
 -- Lookup k of the shape S that the layout has for it, over the part of a memory that begins at byte `from`.

@@ -11,7 +11,6 @@ use borrow.Author.Tests.{ltb-true, lt-ltb}
 use lib.Dec.{eqb, ltb}
 use lib.ListN.{length, take, drop, set, replicate, length-replicate, replicate-append-replicate}
 use lib.Seq.{paste, set-get_or}
-use Rattle.answers.specs.declared.Answer.TheVariants.{Accepted}
 use Rattle.answers.proofs.laws.Tests.{left_new}
 use Rattle.bits.specs.Lists.{at}
 use Rattle.bits.specs.Nibbles.{pack, set_nibble}
@@ -29,6 +28,7 @@ use Rattle.layout.proofs.laws.Ranges.{by_stage}
 use Rattle.calls.specs.Calls.{Mark, marked, kept_mark, holding, changed, started, judge_start, judge_stop, step, advance, to_stop, fetch, handed, block_left}
 use Rattle.calls.specs.Zeros.{ZerosFor, Zeros}
 use Rattle.calls.proofs.laws.Judged.{stop_right, count_right}
+use Rattle.answers.specs.Answer.{Accepted}
 
 -- ---- parts of n zeros
 abbrev noughts : ℕ → List ℕ

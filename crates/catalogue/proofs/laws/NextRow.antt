@@ -7,7 +7,7 @@ use native.Mathlib.Numerals.{add-one}
 use native.Mathlib.Omega.{arith}
 use borrow.Author.Tests.{eq-eqb, ne_eqb}
 use Rattle.bits.specs.Counts.{sum_below}
-use Rattle.catalogue.specs.Kernels.{vectors, kernel_with, completions, NextRow}
+use Rattle.catalogue.specs.Kernels.{vectors, kernel_with, completions}
 
 -- ---- the loop over the choices of a row. Its invariant: the rows before this one lead to all but `rest` of what stands before the position.
 pub record Searching (k each position row rest : ℕ) : Type 0 where
@@ -19,11 +19,7 @@ unfolding sum_below
 searching_none = record { small = omega arith; passed = omega arith }
 
 module _ {k each position row rest : ℕ} (I : Searching k each position row rest) {here : ℕ} (e : here ≡ completions k each row) where
-  -- It is this row.
-  pub searching_here : {next : ℕ} → rest < here → next ≡ kernel_with k row → NextRow k each position row next rest
-  searching_here h n = record { small = I.small; kernel = n; inside = omega arith; passed = I.passed }
-
-  -- It is a later one, and there is one, for all rows together lead beyond the position.
+  -- It is a later row, and there is one, for all rows together lead beyond the position.
   pub searching_more : here ≤ rest → position < sum_below vectors (completions k each) → Searching k each position (row + 1) (rest - here)
   unfolding sum_below
   searching_more h asks =

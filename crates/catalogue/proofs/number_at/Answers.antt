@@ -9,10 +9,6 @@ use Rattle.catalogue.proofs.number_at.Goals as goal
 pub loop-left-init : goal.loop-left-init
 loop-left-init c = unranked_none c.requires
 
-pub ways_at-requires : goal.ways_at-requires
-ways_at-requires c =
-    omega (arith, c.loop-left.invariant.within)
-
 pub next_row-next-requires : goal.next_row-next-requires
 next_row-next-requires c =
     unranked_asks c.loop-left.invariant (omega arith) c.ways_at.ensures
@@ -28,10 +24,6 @@ overflow_add-number c =
 pub loop-left-preserved : goal.loop-left-preserved
 loop-left-preserved c =
     unranked_more c.loop-left.invariant (omega arith) c.ways_at.ensures c.next_row-next.ensures
-
-pub overflow_cast-result : goal.overflow_cast-result
-overflow_cast-result c =
-    omega (arith, unranked_small c.loop-left.invariant)
 
 pub returns : goal.returns
 returns c =

@@ -1,27 +1,26 @@
 -- Laws, not definitions: of the loop that puts the lines into lent memory, and the statement of specs/Lines.antt.
 -- Assumes nothing.
 use mathlib.Core.List.{List, [], ◌∷◌}
-use mathlib.Core.Path.{◌≡◌, refl, sym, ap, ◌∙◌}
-use Prim.Native.Nat.{ℕ, ◌+◌, ◌*◌, ◌-◌, ◌/◌, ◌%◌, ◌<◌}
+use mathlib.Core.Path.{◌≡◌, refl, sym, ap, subst, ◌∙◌}
+use Prim.Native.Nat.{ℕ, ◌+◌, ◌*◌, ◌-◌, ◌/◌, ◌%◌, ◌<◌, ◌≤◌}
 use native.Mathlib.Omega.{arith}
 use borrow.Rule.Slice.PartMut.{put_mid}
 use lib.ListN.{length}
-use Rattle.answers.specs.declared.Refusal.{Refusal}
 use Rattle.bits.specs.Groups.{group}
 use Rattle.bits.specs.Lists.{at, concat, part_of}
 use Rattle.bits.proofs.laws.Lists.{length_concat, cut}
 use Rattle.bits.proofs.laws.Offsets.{concat_row}
-use Rattle.bits.proofs.laws.Parts.{Parts, Part, part_lent, parts_more, parts_all}
+use Rattle.bits.proofs.laws.Parts.{Parts, part_lent, parts_more, parts_all}
 use Rattle.catalogue.specs.Catalogue.{rows_of_number, side, catalogue, catalogue_length, catalogue_entry}
-use Rattle.catalogue.specs.declared.Entry.{Entry}
-use Rattle.catalogue.specs.declared.Entry.TheVariants.{Matrix, Refused}
 use Rattle.catalogue.proofs.laws.Numbered.{row_at}
-use Rattle.catalogue.proofs.laws.Proved.{given_inside, given_number, refused_beyond, catalogued}
+use Rattle.catalogue.proofs.laws.Proved.{entry_given, given_number, catalogued}
 use Rattle.streams.specs.Digits.{hex_digit_ascii}
 use Rattle.streams.specs.Lines.{matrix_line, matrix_room}
 use Rattle.streams.specs.Written.{Written}
 use Rattle.streams.proofs.laws.Written.{written_whole}
 use Rattle.catalogue_list.specs.Lines.{lines_of, list_bytes, LinesOfCatalogue}
+use Rattle.catalogue.specs.Catalogue.{Entry}
+use Rattle.std.specs.Prelude.{Ok, IsOk}
 
 unfoldable pub line_at : ℕ → List ℕ
 line_at p = matrix_line (at catalogue p)
@@ -54,24 +53,23 @@ pub lines_of_catalogue : LinesOfCatalogue
 unfolding line_at
 lines_of_catalogue = record { long = text_long; line = λ p h. text_line p h ∙ line_rows (at catalogue p) }
 
--- ---- the loop. Its invariant is `Parts` of bits: the first p parts of 5 bytes hold the lines of the first p entries. What the call gave at position p is r.
-module _ {d₀ d : List ℕ} {p : ℕ} (I : Parts catalogue_length matrix_room line_at d₀ d p) {r : Entry} (e : r ≡ catalogue_entry p) where
-  -- An entry: there is a part for its line, which comes back with it.
-  module _ {v : ℕ} (m : r ≡ Matrix v) where
-    pub line_lent : (p < catalogue_length) × Part I
-    line_lent = let inside = given_inside p (sym e ∙ m) in (inside, part_lent I inside)
+-- ---- the loop. Its invariant is `Parts` of bits: the first p parts of 5 bytes hold the lines of the first p entries. The call gives v at position p.
+pub given_at : {p : ℕ} {r : Entry} → r ≡ catalogue_entry p → p < catalogue_length → IsOk r
+given_at {p} e h = subst IsOk (sym (e ∙ entry_given p h)) refl
 
-    pub lines_more : {end : ℕ} {ys : List ℕ}
-        → length ys ≡ length (cut d (p * matrix_room) (p * matrix_room + matrix_room))
-        → Written (matrix_line v) (cut d (p * matrix_room) (p * matrix_room + matrix_room)) end ys
-        → Parts catalogue_length matrix_room line_at d₀ (put_mid (p * matrix_room) (p * matrix_room + matrix_room - p * matrix_room) d ys) (p + 1)
-    unfolding line_at
-    lines_more {end} {ys} l w =
-        let whole : length (matrix_line v) ≡ length ys = line_long v ∙ sym (l ∙ line_lent.1.long) in
-        parts_more I line_lent.0 l (written_whole w whole ∙ ap matrix_line (sym (given_number p (sym e ∙ m))))
+module _ {d₀ d : List ℕ} {p : ℕ} (I : Parts catalogue_length matrix_room line_at d₀ d p) where
+  -- There is a part for its line, which comes back with it.
+  pub lines_more : {v end : ℕ} {ys : List ℕ} → p < catalogue_length → Ok v ≡ catalogue_entry p
+      → length ys ≡ length (cut d (p * matrix_room) (p * matrix_room + matrix_room))
+      → Written (matrix_line v) (cut d (p * matrix_room) (p * matrix_room + matrix_room)) end ys
+      → Parts catalogue_length matrix_room line_at d₀ (put_mid (p * matrix_room) (p * matrix_room + matrix_room - p * matrix_room) d ys) (p + 1)
+  unfolding line_at
+  lines_more {v} {end} {ys} h e l w =
+      let whole : length (matrix_line v) ≡ length ys = line_long v ∙ sym (l ∙ (part_lent I h).long) in
+      parts_more I h l (written_whole w whole ∙ ap matrix_line (sym (given_number p (sym e))))
 
-  -- None: all lines are put.
-  pub lines_all : {why : Refusal} → r ≡ Refused why → length d₀ ≡ list_bytes → d ≡ lines_of catalogue
+  -- Behind the last entry all lines are put.
+  pub lines_all : catalogue_length ≤ p → length d₀ ≡ list_bytes → d ≡ lines_of catalogue
   unfolding lines_of line_at
-  lines_all m l =
-      parts_all I (refused_beyond p (sym e ∙ m)) l ∙ ap (λ (n : ℕ). concat n line_at) (sym catalogued.calls.long)
+  lines_all h l =
+      parts_all I h l ∙ ap (λ (n : ℕ). concat n line_at) (sym catalogued.calls.long)

@@ -10,8 +10,6 @@ use native.Mathlib.Omega.{arith}
 use borrow.Author.Tests.{eq-eqb, le-ltb}
 use lib.ListN.{length}
 use Rattle.answers.specs.Answers.{refused_if, wants_length, and_then}
-use Rattle.answers.specs.declared.Answer.{Answer}
-use Rattle.answers.specs.declared.Answer.TheVariants.{Accepted}
 use Rattle.answers.specs.declared.Refusal.TheVariants.{KeyLength, BlockLength, Unfinished}
 use Rattle.answers.proofs.laws.Tests.{together, behind, front, back, length_right}
 use Rattle.bits.proofs.laws.Nibbles.{length_packed}
@@ -30,6 +28,7 @@ use Rattle.whitebox.proofs.laws.Joined.{made_in_set}
 use Rattle.tables.specs.Calls.{set_answer}
 use Rattle.chains.specs.Whole.{present_answer, over_answer, off_answer, coded_answer, whole_answer, Refusals}
 use Rattle.chains.proofs.laws.Whole.{set_given}
+use Rattle.answers.specs.Answer.{Answer, Accepted}
 
 -- ---- every coding gives 16 bytes
 module _ (nr : ℕ) (l x : List ℕ) where

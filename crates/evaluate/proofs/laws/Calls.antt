@@ -8,7 +8,6 @@ use native.Mathlib.Numerals.{add-one}
 use native.Mathlib.Omega.{arith}
 use lib.ListN.{length}
 use Rattle.answers.specs.Answers.{accepted}
-use Rattle.answers.specs.declared.Answer.TheVariants.{Accepted, Refused}
 use Rattle.answers.specs.declared.Refusal.{Refusal}
 use Rattle.answers.specs.declared.Refusal.TheVariants.{SetLength, BlockLength, Stop, Unfinished}
 use Rattle.answers.proofs.laws.Tests.{differ, reply_was, left_new, left_old}
@@ -32,6 +31,7 @@ use Rattle.evaluate.specs.Held.{held}
 use Rattle.evaluate.specs.Promises.{Opens, Refuses, Moves, Fetches}
 use Rattle.evaluate.specs.declared.walk.Move.{Move}
 use Rattle.evaluate.specs.declared.walk.Walk.{Walk}
+use Rattle.answers.specs.Answer.{Accepted, Refused}
 
 -- ---- start
 pub start_refused : (c : ℕ) (block : List ℕ) (w : Walk) → (length block ≡ 16 → ⊥) → held w ≡ zero_held

@@ -6,7 +6,6 @@ use Prim.Native.Nat.{ℕ, suc, ◌-◌}
 use native.Mathlib.Omega.{arith}
 use lib.ListN.{take, drop}
 use Rattle.answers.specs.Answers.{accepted, reply_of}
-use Rattle.answers.specs.declared.Answer.TheVariants.{Accepted}
 use Rattle.answers.proofs.laws.Tests.{reply_was}
 use Rattle.network.specs.Lookups.{Shape, lookup_in}
 use Rattle.network.specs.Read.{lookup_from}
@@ -24,6 +23,7 @@ use Rattle.evaluate.specs.Promises.{Moves}
 use Rattle.evaluate.specs.PlaceRead.{LookupsMade, MovesMade, SingleMovesMade, NoLookupMade, PlacesMade}
 use Rattle.evaluate.specs.declared.walk.Move.{Move}
 use Rattle.evaluate.specs.declared.walk.Walk.{Walk}
+use Rattle.answers.specs.Answer.{Accepted}
 
 module _ (nr : ℕ) where
   -- ---- a lookup

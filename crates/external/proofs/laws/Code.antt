@@ -1,6 +1,6 @@
 -- Laws, not definitions: the definitions as the code meets them.
 -- Assumes nothing.
-use mathlib.Core.Bool.{Bool, true, false}
+use mathlib.Core.Bool.{true}
 use mathlib.Core.List.{List}
 use mathlib.Core.Path.{◌≡◌, sym, ap, ap₂, ◌∙◌, subst}
 use Prim.Native.Nat.{ℕ, ◌+◌, ◌*◌, ◌/◌, ◌%◌, ◌≤◌, ◌<◌}
@@ -8,8 +8,6 @@ use native.Mathlib.Nat.{zero-add}
 use native.Mathlib.Omega.{arith}
 use lib.ListN.{length}
 use Rattle.answers.specs.Answers.{wants_length, and_then, if_accepted}
-use Rattle.answers.specs.declared.Answer.{Answer}
-use Rattle.answers.specs.declared.Answer.TheVariants.{Accepted, Refused}
 use Rattle.answers.specs.declared.Refusal.{Refusal}
 use Rattle.answers.specs.declared.Refusal.TheVariants.{BlockLength}
 use Rattle.answers.proofs.laws.Tests.{first_refuses, second_decides, both, from_wrong, to_wrong, lengths_right, lengths_were, left_new, left_old}
@@ -36,6 +34,7 @@ use Rattle.external.specs.Calls.{answer, leaves}
 use Rattle.external.specs.Coding.{encode_nibbles, decode_nibbles, multiply, encode_by, decode_by}
 use Rattle.external.specs.Coding.{encode_input, decode_input, output_first, encode_output, decode_output}
 use Rattle.external.proofs.laws.Coding.{multiply_block, accepted_encodings, output_room}
+use Rattle.answers.specs.Answer.{Answer, Accepted, Refused}
 
 -- ---- encodings on nibbles, byte by byte: g is `encode` or `decode`
 abbrev pub byte_by : (List ℕ → ℕ → ℕ) → (ℕ → List ℕ) → ℕ → List ℕ → ℕ → ℕ
@@ -94,14 +93,11 @@ module _ (p : List ℕ) (has : has_inverse (invert 128 (matrix_of 16 p)) ≡ tru
       → d ≡ multiply (rows_of 128 a) x → d ≡ multiply (inverse_of 128 (matrix_of 16 p)) x
   multiplied_back bytes x a b d h e q = q ∙ ap (λ (r : List ℕ). multiply r x) (inverse_left 16 p bytes b a has h e)
 
-  pub never_singular : (r : Bool) → r ≡ has_inverse (invert 128 (matrix_of 16 p)) → r ≡ false → ⊥
-  never_singular r e f = let y : ◌≡◌ {A = ℕ} 0 1 = cc in omega arith
-
 -- ---- answers: j is what the code's judgement answers
 module _ (nr : ℕ) (l : List ℕ) (from to : ℕ) (j : Answer) (judged : j ≡ judge nr l) where
-  pub answer_bundle : (r : Refusal) → j ≡ Refused r → j ≡ answer nr l from to
+  pub answer_bundle : {r : Refusal} → j ≡ Refused r → Refused r ≡ answer nr l from to
   unfolding answer
-  answer_bundle r e = e ∙ first_refuses _ _ r (sym judged ∙ e)
+  answer_bundle {r} e = first_refuses _ _ r (sym judged ∙ e)
 
   by_blocks : j ≡ Accepted → and_then (wants_length 16 from BlockLength) (wants_length 16 to BlockLength) ≡ answer nr l from to
   unfolding answer
@@ -113,8 +109,8 @@ module _ (nr : ℕ) (l : List ℕ) (from to : ℕ) (j : Answer) (judged : j ≡ 
   pub answer_to : j ≡ Accepted → from ≡ 16 → (to ≡ 16 → ⊥) → Refused BlockLength ≡ answer nr l from to
   answer_to e p n = to_wrong 16 from to BlockLength p n ∙ by_blocks e
 
-  pub answer_accepted : j ≡ Accepted → from ≡ 16 → to ≡ 16 → j ≡ answer nr l from to
-  answer_accepted e p q = e ∙ lengths_right 16 from to BlockLength p q ∙ by_blocks e
+  pub answer_accepted : j ≡ Accepted → from ≡ 16 → to ≡ 16 → Accepted ≡ answer nr l from to
+  answer_accepted e p q = lengths_right 16 from to BlockLength p q ∙ by_blocks e
 
 -- What an accepted call was lent.
 pub record Ready (nr : ℕ) (l : List ℕ) (from to : ℕ) : Type 0 where

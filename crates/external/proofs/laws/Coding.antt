@@ -20,12 +20,12 @@ use Rattle.inversion.specs.Elimination.{inverse_of}
 use Rattle.inversion.specs.Inverses.{UndoesBothWays}
 use Rattle.inversion.proofs.laws.Inverses.{inverse_undoes}
 use Rattle.bundle.specs.Format.{encodings, encoding_of, input_matrix, output_matrix, input_matrix_part, output_matrix_part}
-use Rattle.answers.specs.declared.Answer.TheVariants.{Accepted}
 use Rattle.bundle.proofs.laws.Parts.{at_bytes}
 use Rattle.judgement.specs.Judge.{judge}
 use Rattle.judgement.proofs.laws.Judgements.{accepted_sound}
 use Rattle.external.specs.Coding.{encode_nibbles, decode_nibbles, multiply, encode_by, decode_by, encode_input, decode_input, output_first, encode_output, decode_output}
 use Rattle.external.specs.Undoing.{OutputFirst, Undoing, PlainCoding}
+use Rattle.answers.specs.Answer.{Accepted}
 
 -- Nibble q of packed bytes, where only the nibbles that are packed are known to be below 16.
 nibble_of : (n : ℕ) (f : ℕ → ℕ) → ((j : ℕ) → j < 2 * n → f j < 16) → (q : ℕ) → q < 2 * n → nibble (packed n f) q ≡ f q

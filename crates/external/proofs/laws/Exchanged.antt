@@ -9,7 +9,6 @@ use native.Mathlib.Omega.{arith}
 use borrow.Author.Tests.{lt-ltb, le-ltb}
 use lib.Dec.{ltb}
 use lib.ListN.{replicate}
-use Rattle.answers.specs.declared.Answer.TheVariants.{Accepted}
 use Rattle.bits.specs.Bytes.{Bytes, Block}
 use Rattle.bits.specs.Encodings.{encode, decode, Permutation, plain_encoding}
 use Rattle.bits.specs.Lists.{at, tabulate}
@@ -30,6 +29,7 @@ use Rattle.external.specs.Coding.{encode_nibbles, multiply, encode_by, output_fi
 use Rattle.external.specs.Exchanged.{EqualCodeAlike, ExchangedCross, outer_lists, house_bundle, HousesCross}
 use Rattle.external.specs.Exchanged.{turned_round, next_nibble, SomeHouse}
 use Rattle.external.proofs.laws.Coding.{input_room, output_room, plain_multiply}
+use Rattle.answers.specs.Answer.{Accepted}
 
 -- ---- a coding goes by its lists and its matrix
 same_coding : (E E' : ℕ → List ℕ) (first first' : ℕ) (m m' x : List ℕ) → ((q : ℕ) → q < 32 → E (first + q) ≡ E' (first' + q)) → m ≡ m'

@@ -3,7 +3,7 @@
 use mathlib.Core.Path.{◌≡◌, ap, ◌∙◌}
 use Prim.Native.Nat.{ℕ}
 use Rattle.answers.specs.Numbers.{number_of}
-use Rattle.answers.specs.declared.Answer.{Answer}
+use Rattle.answers.specs.Answer.{Answer}
 
 -- The call below answered a, which is due, and n is its number.
 pub numbered : {n : ℕ} {a due : Answer} → n ≡ number_of a → a ≡ due → n ≡ number_of due

@@ -6,13 +6,13 @@ use Prim.Native.Nat.{ℕ, ◌<◌}
 use native.Mathlib.Omega.{arith}
 use borrow.Author.Tests.{lt-ltb}
 use lib.ListN.{length}
-use Rattle.answers.specs.declared.Answer.TheVariants.{Accepted}
 use Rattle.answers.proofs.laws.Tests.{both}
 use Rattle.bundle.specs.Format.{byte_matrices, column_matrices, part_count, part_size, frame}
 use Rattle.bundle.specs.Format.{byte_matrix_part, column_matrix_part, input_matrix_part, output_matrix_part, byte_matrix, column_matrix}
 use Rattle.bundle.proofs.laws.Parts.{part_long}
 use Rattle.judgement.specs.Judge.{judge}
 use Rattle.whitebox.specs.Bundles.{codings_of}
+use Rattle.answers.specs.Answer.{Accepted}
 
 -- ---- parts of an accepted bundle
 pub frame_of : (nr : ℕ) (l : List ℕ) → judge nr l ≡ Accepted → frame nr l ≡ Accepted

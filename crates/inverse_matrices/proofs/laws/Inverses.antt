@@ -9,8 +9,8 @@ use native.Mathlib.Omega.{arith}
 use borrow.Author.Tests.{lt-ltb, le-ltb}
 use borrow.Rule.Slice.PartMut.{put_mid}
 use lib.ListN.{length, take, drop, length-take}
-use lib.Seq.{drop-length, take-length, take-append_seam}
-use Rattle.answers.specs.declared.Answer.TheVariants.{Accepted}
+use lib.Seq.{drop-length, take-length}
+use Rattle.answers.specs.Answer.{Accepted}
 use Rattle.bits.specs.Bytes.{Bytes}
 use Rattle.bits.proofs.laws.Lists.{length_concat, cut, cut_is}
 use Rattle.bits.proofs.laws.Offsets.{concat_row}
@@ -52,17 +52,10 @@ column_below nr h = h
 all_written : (w d d' : List ℕ) (k : ℕ) → d' ≡ w ++ drop k d → length d ≡ k → d' ≡ w
 all_written w d d' k e h = e ∙ ap (λ (r : List ℕ). w ++ r) (ap (λ (n : ℕ). drop n d) (sym h) ∙ drop-length d) ∙ append-nil w
 
-pub written_begins : (w r m : List ℕ) → m ≡ w ++ r → Begins w m
-written_begins w r m e = ap (take (length w)) e ∙ take-append_seam w r
-
 -- ---- the inverses, from the part p that holds the matrix: what the words d have become
 pub input_inverse_lem : (nr : ℕ) (l p d d' : List ℕ) → p ≡ input_matrix_part nr l → length d ≡ input_words
     → d' ≡ words_of 128 (inverse_of 128 (matrix_of 16 p)) ++ drop input_words d → d' ≡ input_inverse nr l
 input_inverse_lem nr l p d d' e h w = all_written _ d d' input_words w h ∙ ap (λ (t : List ℕ). words_of 128 (inverse_of 128 (matrix_of 16 t))) e
-
-pub column_inverse_lem : (nr n : ℕ) (l p d d' : List ℕ) → p ≡ column_matrix_part nr l n
-    → d' ≡ words_of 32 (inverse_of 32 (matrix_of 4 p)) ++ drop column_words d → d' ≡ column_inverse nr l n ++ drop column_words d
-column_inverse_lem nr n l p d d' e w = w ∙ ap (λ (t : List ℕ). words_of 32 (inverse_of 32 (matrix_of 4 t)) ++ drop column_words d) e
 
 -- Those of all column matrices: a loop that fills their parts of the words d, and gets the part of matrix n back as ys.
 pub columns_more : (nr count n : ℕ) (l d₀ d ys : List ℕ) → Parts count column_words (column_inverse nr l) d₀ d n → n < count

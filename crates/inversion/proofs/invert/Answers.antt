@@ -1,20 +1,13 @@
--- `inversion::invert` meets its contract. `start` lays the matrix out beside the identity, and `eliminate` ensures that its answer and the right
--- side are what the elimination of these ends in. Where it is true, `take_right` stores the right side, which is the inverse (`inverted` of
--- `laws.Loops`); else there is none, and b is as it was (`not_inverted`). The laws' premises are what the calls ensure and the test.
+-- `inversion::invert` is the elimination of rows in two words each, which any such row fits (`row_small` of `laws.Rows`).
 -- Assumes nothing.
-use Rattle.inversion.specs.Work.{lefts, rights}
-use Rattle.inversion.proofs.laws.Loops.{inverted, not_inverted}
+use Rattle.inversion.proofs.laws.Rows.{row_small}
+use native.Mathlib.Omega.{arith}
 use Rattle.inversion.proofs.invert.Goals as goal
 
-pub returns-then-eliminate : goal.returns-then-eliminate
-unfolding lefts rights
-returns-then-eliminate c =
-    let done = inverted _ _ _ _ _ _ c.start.ensures.left c.start.ensures.right c.eliminate.ensures _ _
-    c.if-eliminate.true c.take_right.ensures in
-    record { answer = done.0; rows = done.1 }
-
-pub returns : goal.returns
-unfolding lefts rights
-returns c =
-    let done = not_inverted _ _ _ _ _ _ c.start.ensures.left c.start.ensures.right c.eliminate.ensures c.args.b.now c.if-eliminate.false in
-    record { answer = done.0; rows = done.1 }
+pub invert-requires-clause-start : goal.invert-requires-clause-start
+invert-requires-clause-start c = record {
+  within = c.requires.0;
+  rows = c.requires.1;
+  room = omega arith;
+  fit = λ i h. row_small _ i (λ j. (c.type_inv.a j).fits);
+}

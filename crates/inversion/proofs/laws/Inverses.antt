@@ -190,6 +190,10 @@ module _ (w : ℕ) (p : List ℕ) (bytes : Bytes p) where
   fits : RowsFit (8 * w) (at (matrix_of w p))
   fits = matrix_of_fits w p bytes
 
+  -- Where it has an inverse, `invert_bytes` finds it.
+  pub inverse_found : Invertible (8 * w) (matrix_of w p) → has_inverse (invert (8 * w) (matrix_of w p)) ≡ true
+  inverse_found I = invertible_passes (8 * w) (matrix_of w p) fits I
+
   -- `invert_bytes` leaves the rows b' in the place of b.
   pub inverse_left : (b b' : List ℕ) → has_inverse (invert (8 * w) (matrix_of w p)) ≡ true → 16 * w ≤ length b
       → b' ≡ with_inverse (8 * w) (invert (8 * w) (matrix_of w p)) b → rows_of (8 * w) b' ≡ inverse_of (8 * w) (matrix_of w p)

@@ -1,5 +1,6 @@
--- Laws, not definitions: the loops of the elimination. Each has an invariant over the work area, with a law for its start, a turn and its ends;
--- m₀ is the work area at the start, m what it has become. At the end, what `invert` puts together.
+-- Laws, not definitions: the loops of the elimination, over lists of rows of any kind. Each has an invariant over the rows, with a law for a turn and its ends, and
+-- for its start where that is no record of plain facts; m₀ is the list at the start, m what it has become, l the number of a row and r that of the row of the
+-- future inverse beside it. At the end, what `invert` puts together.
 -- Assumes nothing.
 use mathlib.Core.Bool.{Bool, true, false}
 use mathlib.Core.List.{List}
@@ -7,92 +8,62 @@ use mathlib.Core.Logic.{◌≢◌}
 use mathlib.Core.Path.{◌≡◌, refl, sym, ap, ap₂, ◌∙◌, subst}
 use Prim.Native.Nat.{ℕ, suc, ◌+◌, ◌-◌, ◌*◌, ◌/◌, ◌%◌, ◌^◌, ◌≤◌, ◌<◌}
 use native.Mathlib.Decide.{ℕ_discrete}
-use native.Mathlib.Nat.{mul-suc, mul-le-mul_left, mul-le-mul_right}
+use native.Mathlib.Nat.{mod-eq_of_lt}
 use native.Mathlib.Omega.{arith}
 use lib.Bits.{bit_xor}
-use lib.ListN.{length}
+use lib.ListN.{length, get_or, set, length-set}
 use Rattle.bits.specs.Lists.{at, tabulate}
 use Rattle.bits.specs.Vectors.{bit, unit}
 use Rattle.bits.proofs.laws.Lists.{tabulate_ext, at_tabulate}
-use Rattle.bits.proofs.laws.Words.{power_fits}
+use Rattle.bits.proofs.laws.Vectors.{bit_lt}
 use Rattle.matrices.specs.Matrices.{identity}
-use Rattle.matrices.specs.Rows.{row_at, rows_of, set_row, stored}
-use Rattle.matrices.proofs.laws.Rows.{row_set_same, row_set_other, length_set_row, stored_same}
+use Rattle.matrices.specs.Rows.{row_at, rows_of, stored}
+use Rattle.matrices.proofs.laws.Rows.{stored_same}
 use Rattle.inversion.specs.Elimination.{add_row, pivot_by, clear_by, pivot_from, Inversion, inverse, singular, columns, invert, has_inverse, with_inverse}
-use Rattle.inversion.specs.Work.{left_at, right_at, lefts, rights, both_set, added_to, ended}
+use Rattle.inversion.specs.Work.{row_in, Stepped, ended}
 use Rattle.inversion.proofs.laws.Elimination.{clear_by_pivot}
 use Rattle.inversion.proofs.laws.Inverses.{pivot_found}
-use Rattle.inversion.proofs.laws.Work.{Replaced, set_left, set_right, stays, Swept, swept_none, swept_one, clear_by_bit, digit_of_row}
-use Rattle.inversion.proofs.laws.Work.{pivot_here, pivot_on, pivot_end, Stepped, column_none, column_next, columns_done}
+use Rattle.inversion.proofs.laws.Rows.{Replaced, row_is, row_put}
+use Rattle.inversion.proofs.laws.Work.{stays, Swept, swept_none, swept_one, clear_by_bit, digit_of_row, side_pivoted}
+use Rattle.inversion.proofs.laws.Work.{pivot_here, pivot_on, pivot_end, column_none, column_next, columns_done}
 
 -- ---- the start: the first i rows of a stand on the left, those of the identity on the right
-pub record Started (n : ℕ) (a m₀ m : List ℕ) (i : ℕ) : Type 0 where
+pub record Started {R : Type 0} (l r : R → ℕ) (n : ℕ) (a : List ℕ) (m₀ m : List R) (i : ℕ) : Type 0 where
   pub within : i ≤ n
   pub long : length m ≡ length m₀
-  pub left : (j : ℕ) → j < i → left_at m j ≡ row_at a j
-  pub right : (j : ℕ) → j < i → right_at m j ≡ unit n j
+  pub left : (j : ℕ) → j < i → row_in l m j ≡ row_at a j
+  pub right : (j : ℕ) → j < i → row_in r m j ≡ unit n j
 
-pub started_none : {n : ℕ} {a m : List ℕ} → Started n a m m 0
-started_none = record {
-  within = omega arith;
-  long = refl;
-  left = λ j h. absurd (omega arith);
-  right = λ j h. absurd (omega arith);
-}
+-- One side: y is stored as row i.
+pub side_started : (f g g' : ℕ → ℕ) (i y : ℕ) → ((j : ℕ) → j < i → g j ≡ f j) → y ≡ f i → Replaced g i y g' → (j : ℕ) → j < i + 1 → g' j ≡ f j
+side_started f g g' i y before is put j h = elim (ℕ_discrete i j) [
+  | yes q ↦ subst (λ (j : ℕ). g' j ≡ f j) q (put.here ∙ is)
+  | no q ↦ put.others j (omega arith) ∙ before j (omega arith)
+]
 
-module _ {n : ℕ} {a m₀ m : List ℕ} {i : ℕ} (g : Started n a m₀ m i) where
-  -- Rows x and y are stored, one after the other.
-  pub started_more : {x y : ℕ} {m₁ m₂ : List ℕ} → n ≤ 128 → 4 * n ≤ length m₀ → i < n → x ≡ row_at a i → m₁ ≡ set_row m (2 * i) x
-      → y ≡ 2 ^ (n - 1 - i) % 2 ^ 128 → m₂ ≡ set_row m₁ (2 * i + 1) y
-      → Started n a m₀ m₂ (i + 1)
-  started_more {x} {y} {m₁} {m₂} few room h ex e₁ ey e₂ =
+module _ {R : Type 0} {l r : R → ℕ} {n : ℕ} {a : List ℕ} {m₀ m : List R} {i : ℕ} (g : Started l r n a m₀ m i) where
+  -- v is row i of a, and x the row that is stored.
+  pub started_more : {v : ℕ} {x : R} → n ≤ length m₀ → i < n → v ≡ row_at a i → l x ≡ v → r x ≡ 2 ^ (n - 1 - i) → Started l r n a m₀ (set m i x) (i + 1)
+  started_more {v} {x} room h row left right =
       let long-m = g.long in
-      let long : length m₁ ≡ length m = ap length e₁ ∙ length_set_row m (2 * i) x in
       let place : n - 1 - i ≡ n - suc i = omega arith in
-      let left-kept : (j : ℕ) → left_at m₂ j ≡ left_at m₁ j =
-      λ j. ap (λ (z : List ℕ). left_at z j) e₂ ∙ row_set_other m₁ (2 * i + 1) y (2 * j) (omega arith) in
-      let right_kept : (j : ℕ) → right_at m₁ j ≡ right_at m j =
-      λ j. ap (λ (z : List ℕ). right_at z j) e₁ ∙ row_set_other m (2 * i) x (2 * j + 1) (omega arith) in
-      let left_here : left_at m₁ i ≡ row_at a i =
-      ap (λ (z : List ℕ). left_at z i) e₁ ∙ row_set_same m (2 * i) x (omega arith) ∙ ex in
-      let right-here : right_at m₂ i ≡ unit n i =
-      ap (λ (z : List ℕ). right_at z i) e₂ ∙ row_set_same m₁ (2 * i + 1) y (omega arith) ∙ ey ∙ power_fits (n - 1 - i) (omega arith)
-      ∙ ap (λ (z : ℕ). 2 ^ z) place in
+      let there : i < length m = omega arith in
       record {
         within = omega arith;
-        long = ap length e₂ ∙ length_set_row m₁ (2 * i + 1) y ∙ long ∙ long-m;
-        left = λ j k. left-kept j ∙ elim (ℕ_discrete i j) [
-          | yes q ↦ subst (λ (j : ℕ). left_at m₁ j ≡ row_at a j) q left_here
-          | no q ↦ ap (λ (z : List ℕ). left_at z j) e₁ ∙ row_set_other m (2 * i) x (2 * j) (omega arith) ∙ g.left j (omega arith)
-        ];
-        right = λ j k. elim (ℕ_discrete i j) [
-          | yes q ↦ subst (λ (j : ℕ). right_at m₂ j ≡ unit n j) q right-here
-          | no q ↦
-              ap (λ (z : List ℕ). right_at z j) e₂ ∙ row_set_other m₁ (2 * i + 1) y (2 * j + 1) (omega arith) ∙ right_kept j
-              ∙ g.right j (omega arith)
-        ];
+        long = length-set m i x ∙ long-m;
+        left = side_started (row_at a) _ _ i (l x) g.left (left ∙ row) (row_put l m i x there);
+        right = side_started (unit n) _ _ i (r x) g.right (right ∙ ap (λ (z : ℕ). 2 ^ z) place) (row_put r m i x there);
       }
 
-  pub started_all : n ≤ i → (lefts n m ≡ rows_of n a) × (rights n m ≡ identity n)
-  unfolding lefts rights rows_of identity
+  pub started_all : n ≤ i → (tabulate n (row_in l m) ≡ rows_of n a) × (tabulate n (row_in r m) ≡ identity n)
+  unfolding rows_of identity
   started_all h = (tabulate_ext n _ _ (λ j k. g.left j (omega arith)), tabulate_ext n _ _ (λ j k. g.right j (omega arith)))
-
--- ---- row i of a matrix lies within the words: it is row step * i of them
-module _ {step n i : ℕ} (few : step ≤ 2) (h : i < n) where
-  pub row_small : n ≤ 128 → step * i ≤ 256
-  row_small short = omega (arith, mul-le-mul_right i few)
-
-  pub row_fits : {x : ℕ} → 0 < step → 2 * (step * n) ≤ x → 2 * (step * i) + 1 < x
-  row_fits pos room = omega (arith, mul-le-mul_left step h, mul-suc step i)
 
 -- ---- the search for a pivot among the rows f 0, f 1, ..: of those from k on, none before row i has bit k
 pub record Sought (n k : ℕ) (f : ℕ → ℕ) (i : ℕ) : Type 0 where
   pub behind : k ≤ i
   pub within : i ≤ n
   pub same : pivot_from n k f (n - k) k ≡ pivot_from n k f (n - i) i
-
-pub sought_none : {n k : ℕ} {f : ℕ → ℕ} → k < n → Sought n k f k
-sought_none h = record { behind = omega arith; within = omega arith; same = refl }
 
 module _ {n k : ℕ} {f : ℕ → ℕ} {i : ℕ} (g : Sought n k f i) where
   -- b is bit k of x, which is row i.
@@ -105,46 +76,42 @@ module _ {n k : ℕ} {f : ℕ → ℕ} {i : ℕ} (g : Sought n k f i) where
       let from = g.behind in
       record { behind = omega arith; within = omega arith; same = g.same ∙ passed }
 
-  pub sought_all : n ≤ i → n ≡ pivot_from n k f (n - k) k
+  pub sought_all : n ≤ i → pivot_from n k f (n - k) k ≡ n
   sought_all h =
       let upto = g.within in
-      pivot_end n k f i (omega arith) ∙ sym g.same
+      g.same ∙ sym (pivot_end n k f i (omega arith))
 
--- ---- the clearing of column k: l and r, which are rows k of m₀, have been added to those of the first i rows that have bit k, row k too
-length_both_set : (m : List ℕ) (i x y : ℕ) → length (both_set m i x y) ≡ length m
-unfolding both_set
-length_both_set m i x y = simp length_set_row
+-- ---- the clearing of column k: `top`, which is row k of m₀, has been added to those of the first i rows that have bit k, row k too
+-- Bit k of row i, of every row.
+abbrev has : {R : Type 0} → (R → ℕ) → ℕ → ℕ → List R → ℕ → ℕ
+has l n k m i = bit n k (row_in l m i)
 
--- Bit k of row i on the left, of every row.
-abbrev has : ℕ → ℕ → List ℕ → ℕ → ℕ
-has n k m i = bit n k (left_at m i)
-
-pub record Cleared (n k : ℕ) (m₀ : List ℕ) (l r : ℕ) (m : List ℕ) (i : ℕ) : Type 0 where
+pub record Cleared {R : Type 0} (l r : R → ℕ) (n k : ℕ) (m₀ : List R) (top : R) (m : List R) (i : ℕ) : Type 0 where
   pub within : i ≤ n
   pub long : length m ≡ length m₀
-  pub top_left : l ≡ left_at m₀ k
-  pub top_right : r ≡ right_at m₀ k
-  pub left : Swept (has n k m₀) k (left_at m₀) i (left_at m)
-  pub right : Swept (has n k m₀) k (right_at m₀) i (right_at m)
+  pub top_left : l top ≡ row_in l m₀ k
+  pub top_right : r top ≡ row_in r m₀ k
+  pub left : Swept (has l n k m₀) k (row_in l m₀) i (row_in l m)
+  pub right : Swept (has l n k m₀) k (row_in r m₀) i (row_in r m)
 
-pub cleared_none : {n k l r : ℕ} (m : List ℕ) → l ≡ left_at m k → r ≡ right_at m k → Cleared n k m l r m 0
-cleared_none {n} {k} m el er = record {
+pub cleared_none : {R : Type 0} {l r : R → ℕ} {n k : ℕ} {m : List R} {top : R} → k < length m → top ≡ get_or m k top → Cleared l r n k m top m 0
+cleared_none {R} {l} {r} {n} {k} {m} {top} h e = record {
   within = omega arith;
   long = refl;
-  top_left = el;
-  top_right = er;
-  left = swept_none (has n k m) k (left_at m);
-  right = swept_none (has n k m) k (right_at m);
+  top_left = row_is l m k top h e;
+  top_right = row_is r m k top h e;
+  left = swept_none (has l n k m) k (row_in l m);
+  right = swept_none (has l n k m) k (row_in r m);
 }
 
--- One side: g, with y at row i, where b is bit k of that row.
-side_more : (c : ℕ → ℕ) (k : ℕ) (f : ℕ → ℕ) (i b t : ℕ) (g g' : ℕ → ℕ) → Swept c k f i g → b ≡ c i → t ≡ f k
-    → Replaced g i (bit_xor (g i) (b * t)) g'
+-- One side: row x, with t added where b, is replaced by y.
+side_more : (c : ℕ → ℕ) (k : ℕ) (f : ℕ → ℕ) (i b t x y : ℕ) (g g' : ℕ → ℕ) → Swept c k f i g → b % 2 ≡ c i → t ≡ f k → x ≡ g i
+    → y ≡ bit_xor x (b % 2 * t) → Replaced g i y g'
     → Swept c k f (i + 1) g'
 unfolding add_row
-side_more c k f i b t g g' S is top put =
+side_more c k f i b t x y g g' S is top row added put =
     swept_one c k f i g g' S
-    (put.here ∙ ap₂ (λ (u v : ℕ). bit_xor u v) (S.left i (omega arith)) (ap₂ (λ (u v : ℕ). u * v) is top)) put.others
+    (put.here ∙ added ∙ ap₂ (λ (u v : ℕ). bit_xor u v) (row ∙ S.left i (omega arith)) (ap₂ (λ (u v : ℕ). u * v) is top)) put.others
 
 -- One side at the end, with row k put back: that is the step which leaves row k alone.
 side_all : (n k : ℕ) (e f : ℕ → ℕ) (i t : ℕ) (g g' : ℕ → ℕ) → Swept (λ j. bit n k (e j)) k f i g → n ≤ i → t ≡ f k → Replaced g k t g'
@@ -158,75 +125,83 @@ side_all n k e f i t g g' S h top put = tabulate_ext n _ _ (λ j l. elim (ℕ_di
       put.others j other ∙ S.done j (omega arith) ∙ ap (λ (c : ℕ). bit_xor (f j) (c * f k)) (clear_by_bit n k e j other)
 ])
 
-module _ {n k : ℕ} {m₀ : List ℕ} {l r : ℕ} {m : List ℕ} {i : ℕ} (g : Cleared n k m₀ l r m i) where
-  -- b is bit k of x, which is row i on the left.
-  pub cleared_more : {m₁ : List ℕ} {x b : ℕ} → 4 * n ≤ length m₀ → i < n → x ≡ left_at m i → b ≡ x / 2 ^ (n - 1 - k) % 2 → m₁ ≡ added_to m i b l r
-      → Cleared n k m₀ l r m₁ (i + 1)
-  unfolding added_to
-  cleared_more {m₁} {x} {b} room h row digit e =
+module _ {R : Type 0} {l r : R → ℕ} {n k : ℕ} {m₀ : List R} {top : R} {m : List R} {i : ℕ} (g : Cleared l r n k m₀ top m i) where
+  -- x is row i, b its bit k, and y the row that is stored.
+  pub cleared_more : {x y : R} {b : ℕ} → n ≤ length m₀ → i < n → x ≡ get_or m i x → b ≡ l x / 2 ^ (n - 1 - k) % 2
+      → l y ≡ bit_xor (l x) (b % 2 * l top) → r y ≡ bit_xor (r x) (b % 2 * r top)
+      → Cleared l r n k m₀ top (set m i y) (i + 1)
+  cleared_more {x} {y} {b} room h row digit on_left on_right =
       let long-m = g.long in
-      let is : b ≡ has n k m₀ i = digit_of_row n k (left_at m₀) i x b (row ∙ g.left.left i (omega arith)) digit in
-      let u = bit_xor (left_at m i) (b * l) in
-      let v = bit_xor (right_at m i) (b * r) in
+      let there : i < length m = omega arith in
+      let same : l x ≡ row_in l m₀ i = row_is l m i x there row ∙ g.left.left i (omega arith) in
+      let is : b ≡ has l n k m₀ i = digit_of_row n k (row_in l m₀) i (l x) b same digit in
+      let small : b % 2 ≡ has l n k m₀ i = mod-eq_of_lt (subst (λ (z : ℕ). z < 2) (sym is) (bit_lt n k (row_in l m₀ i))) ∙ is in
       record {
         within = omega arith;
-        long = ap length e ∙ length_both_set m i u v ∙ long-m;
+        long = length-set m i y ∙ long-m;
         top_left = g.top_left;
         top_right = g.top_right;
-        left = subst (λ (w : List ℕ). Swept (has n k m₀) k (left_at m₀) (i + 1) (left_at w)) (sym e)
-            (side_more (has n k m₀) k (left_at m₀) i b l (left_at m) _ g.left is g.top_left (set_left m i u v (omega arith)));
-        right = subst (λ (w : List ℕ). Swept (has n k m₀) k (right_at m₀) (i + 1) (right_at w)) (sym e)
-            (side_more (has n k m₀) k (right_at m₀) i b r (right_at m) _ g.right is g.top_right (set_right m i u v (omega arith)));
+        left = side_more _ k _ i b (l top) (l x) (l y) _ _ g.left small g.top_left (row_is l m i x there row) on_left (row_put l m i y there);
+        right = side_more _ k _ i b (r top) (r x) (r y) _ _ g.right small g.top_right (row_is r m i x there row) on_right (row_put r m i y there);
       }
 
-  pub cleared_all : {m₁ : List ℕ} → 4 * n ≤ length m₀ → k < n → n ≤ i → m₁ ≡ both_set m k l r
-      → Stepped n (clear_by n k (left_at m₀)) k (left_at m₀) (right_at m₀) (left_at m₁) (right_at m₁)
-  cleared_all {m₁} room hk h e =
-      let long-m = g.long in (
-        ap (λ (w : List ℕ). tabulate n (left_at w)) e
-            ∙ side_all n k (left_at m₀) (left_at m₀) i l (left_at m) _ g.left h g.top_left (set_left m k l r (omega arith)),
-        ap (λ (w : List ℕ). tabulate n (right_at w)) e
-            ∙ side_all n k (left_at m₀) (right_at m₀) i r (right_at m) _ g.right h g.top_right (set_right m k l r (omega arith)),
-      )
+  -- Row k is put back.
+  pub cleared_all : n ≤ length m₀ → k < n → n ≤ i
+      → Stepped l r n (clear_by n k (row_in l m₀)) k m₀ (set m k top)
+  cleared_all room hk h =
+      let long-m = g.long in
+      let there : k < length m = omega arith in
+      record {
+        left = side_all n k (row_in l m₀) (row_in l m₀) i (l top) _ _ g.left h g.top_left (row_put l m k top there);
+        right = side_all n k (row_in l m₀) (row_in r m₀) i (r top) _ _ g.right h g.top_right (row_put r m k top there);
+      }
 
--- ---- the columns, of a work area m that holds row i as l m i on the left and r m i on the right: k of them are behind, and those left give what all would
-pub record Reduced (l r : List ℕ → ℕ → ℕ) (m₀ : List ℕ) (n : ℕ) (m : List ℕ) (k : ℕ) : Type 0 where
+-- ---- the pivoting of column k: x is row k, b its bit k, q row p, and y the row that is stored
+pub pivot_stepped : {R : Type 0} {l r : R → ℕ} {n k p : ℕ} {m : List R} {x q : R} (y : R) {b : ℕ} → k < length m → p < length m
+    → x ≡ get_or m k x → q ≡ get_or m p q → b ≡ l x / 2 ^ (n - 1 - k) % 2
+    → l y ≡ bit_xor (l x) ((1 - b) % 2 * l q) → r y ≡ bit_xor (r x) ((1 - b) % 2 * r q)
+    → Stepped l r n (pivot_by n k (row_in l m)) p m (set m k y)
+pivot_stepped {R} {l} {r} {n} {k} {p} {m} {x} {q} y {b} hk hp row other digit on_left on_right =
+    let has = digit_of_row n k (row_in l m) k (l x) b (row_is l m k x hk row) digit in
+    record {
+      left = side_pivoted n k p _ _ _ b (l x) (l q) (l y) has (row_is l m k x hk row) (row_is l m p q hp other) on_left (row_put l m k y hk);
+      right = side_pivoted n k p _ _ _ b (r x) (r q) (r y) has (row_is r m k x hk row) (row_is r m p q hp other) on_right (row_put r m k y hk);
+    }
+
+-- ---- the columns: k of them are behind, and those left give what all would
+pub record Reduced {R : Type 0} (l r : R → ℕ) (m₀ : List R) (n : ℕ) (m : List R) (k : ℕ) : Type 0 where
   pub within : k ≤ n
   pub long : length m ≡ length m₀
-  pub same : columns n n 0 (tabulate n (l m₀)) (tabulate n (r m₀)) ≡ columns n (n - k) k (tabulate n (l m)) (tabulate n (r m))
-
-pub reduced_none : {l r : List ℕ → ℕ → ℕ} (m : List ℕ) (n : ℕ) → Reduced l r m n m 0
-reduced_none {l} {r} m n =
-    let all : n ≡ n - 0 = omega arith in
-    record { within = omega arith; long = refl; same = ap (λ (d : ℕ). columns n d 0 (tabulate n (l m)) (tabulate n (r m))) all }
+  pub same : columns n n 0 (tabulate n (row_in l m₀)) (tabulate n (row_in r m₀)) ≡ columns n (n - k) k (tabulate n (row_in l m)) (tabulate n (row_in r m))
 
 pub found_within : (n k : ℕ) (f : ℕ → ℕ) (p : ℕ) → k < n → p ≡ pivot_from n k f (n - k) k → (k ≤ p) × (p ≤ n)
 found_within n k f p h e =
     let found = pivot_found n k f (n - k) k (omega arith) in
     subst (λ (x : ℕ). (k ≤ x) × (x ≤ n)) (sym e) (found.from, found.upto)
 
-module _ {l r : List ℕ → ℕ → ℕ} {m₀ m : List ℕ} {n k : ℕ} (g : Reduced l r m₀ n m k) where
-  pub reduced_singular : {p : ℕ} → k < n → p ≡ pivot_from n k (l m) (n - k) k → p ≡ n
-      → columns n n 0 (tabulate n (l m₀)) (tabulate n (r m₀)) ≡ singular
-  reduced_singular h e q = g.same ∙ column_none n k h (l m) (r m) _ e q
+module _ {R : Type 0} {l r : R → ℕ} {m₀ m : List R} {n k : ℕ} (g : Reduced l r m₀ n m k) where
+  pub reduced_singular : k < n → pivot_from n k (row_in l m) (n - k) k ≡ n
+      → columns n n 0 (tabulate n (row_in l m₀)) (tabulate n (row_in r m₀)) ≡ singular
+  reduced_singular h e = g.same ∙ column_none n k h (row_in l m) (row_in r m) _ refl e
 
-  -- m₁ is the work area behind the pivoting, m₂ behind the clearing.
-  pub reduced_next : {p : ℕ} {m₂ : List ℕ} (m₁ : List ℕ) → k < n → p ≡ pivot_from n k (l m) (n - k) k → p ≢ n
-      → Stepped n (pivot_by n k (l m)) p (l m) (r m) (l m₁) (r m₁)
-      → Stepped n (clear_by n k (l m₁)) k (l m₁) (r m₁) (l m₂) (r m₂)
+  -- m₁ is the list behind the pivoting, m₂ behind the clearing.
+  pub reduced_next : {p : ℕ} {m₁ m₂ : List R} → k < n → p ≡ pivot_from n k (row_in l m) (n - k) k → p < n
+      → Stepped l r n (pivot_by n k (row_in l m)) p m m₁
+      → Stepped l r n (clear_by n k (row_in l m₁)) k m₁ m₂
       → length m₁ ≡ length m
       → length m₂ ≡ length m₁
       → Reduced l r m₀ n m₂ (k + 1)
-  reduced_next {p = p} {m₂ = m₂} m₁ h e q s₁ s₂ l₁ l₂ =
-      let below = found_within n k (l m) p h e in
-      record {
-        within = omega arith;
-        long = l₂ ∙ l₁ ∙ g.long;
-        same = g.same ∙ column_next n k h (l m) (r m) p (l m₁) (r m₁) (l m₂) (r m₂) e (omega arith) s₁ s₂;
-      }
+  reduced_next {p} {m₁} {m₂} h e inside s₁ s₂ l₁ l₂ = record {
+    within = omega arith;
+    long = l₂ ∙ l₁ ∙ g.long;
+    same = g.same ∙ column_next n k h (row_in l m) (row_in r m) p (row_in l m₁) (row_in r m₁) (row_in l m₂) (row_in r m₂) e inside s₁.left s₁.right s₂.left
+        s₂.right;
+  }
 
-  pub reduced_all : n ≤ k → columns n n 0 (tabulate n (l m₀)) (tabulate n (r m₀)) ≡ inverse (tabulate n (r m))
-  reduced_all h = g.same ∙ columns_done n k _ _ (omega arith)
+  pub reduced_all : n ≤ k → columns n n 0 (tabulate n (row_in l m₀)) (tabulate n (row_in r m₀)) ≡ inverse (tabulate n (row_in r m))
+  reduced_all h =
+      let upto = g.within in
+      g.same ∙ columns_done n k _ _ (omega arith)
 
 -- ---- the whole, as `invert` puts it together: the elimination of a work area with `rows` on the left, a, and the identity on the right, b, leaves the rows g there
 module _ (n : ℕ) (rows a b : List ℕ) (g : ℕ → ℕ) (t : Bool) (l : a ≡ rows) (r : b ≡ identity n) (e : columns n n 0 a b ≡ ended t (tabulate n g)) where

@@ -9,47 +9,19 @@ use native.Mathlib.Nat.{zero-mul, one-mul}
 use native.Mathlib.Numerals.{add-one}
 use native.Mathlib.Omega.{arith}
 use lib.Bits.{bit_xor, xor_zero_r}
-use lib.ListN.{length}
 use Rattle.bits.specs.Lists.{at, tabulate}
 use Rattle.bits.specs.Vectors.{bit, delta}
 use Rattle.bits.proofs.laws.Lists.{tabulate_ext, at_tabulate}
 use Rattle.bits.proofs.laws.Vectors.{delta_same, delta_other, bit_lt, bit_shift}
-use Rattle.matrices.specs.Rows.{set_row}
-use Rattle.matrices.proofs.laws.Rows.{row_set_same, row_set_other, length_set_row}
 use Rattle.inversion.specs.Elimination.{add_row, pivot_by, clear_by, left_step, right_step, pivoted, choose, pivot_from}
 use Rattle.inversion.specs.Elimination.{Inversion, inverse, singular, unless_zero, columns}
-use Rattle.inversion.specs.Work.{left_at, right_at, both_set, added_to}
 use Rattle.inversion.proofs.laws.Elimination.{clear_by_lt}
+use Rattle.inversion.proofs.laws.Rows.{Replaced}
 
 -- ---- c times row s added to row i
 pub record Added (f : ℕ → ℕ) (i s c : ℕ) (g : ℕ → ℕ) : Type 0 where
   pub here : g i ≡ bit_xor (f i) (c * f s)
   pub others : (j : ℕ) → j ≢ i → g j ≡ f j
-
--- ---- row i replaced by x
-pub record Replaced (f : ℕ → ℕ) (i x : ℕ) (g : ℕ → ℕ) : Type 0 where
-  pub here : g i ≡ x
-  pub others : (j : ℕ) → j ≢ i → g j ≡ f j
-
--- Both sides of a work area are replaced apart.
-module _ (m : List ℕ) (i x y : ℕ) (h : 4 * i + 3 < length m) where
-  pub set_left : Replaced (left_at m) i x (left_at (both_set m i x y))
-  unfolding both_set
-  set_left =
-      let a = set_row m (2 * i) x in
-      record {
-        here = row_set_other a (2 * i + 1) y (2 * i) (omega arith) ∙ row_set_same m (2 * i) x (omega arith);
-        others = λ j q. row_set_other a (2 * i + 1) y (2 * j) (omega arith) ∙ row_set_other m (2 * i) x (2 * j) (omega arith);
-      }
-
-  pub set_right : Replaced (right_at m) i y (right_at (both_set m i x y))
-  unfolding both_set
-  set_right =
-      let a = set_row m (2 * i) x in
-      record {
-        here = row_set_same a (2 * i + 1) y (omega (arith, length_set_row m (2 * i) x));
-        others = λ j q. row_set_other a (2 * i + 1) y (2 * j + 1) (omega arith) ∙ row_set_other m (2 * i) x (2 * j + 1) (omega arith);
-      }
 
 -- ---- a step row by row: the rows below i are done
 pub stays : (c : ℕ → ℕ) (s : ℕ) (f : ℕ → ℕ) (i : ℕ) → c i ≡ 0 → add_row c s f i ≡ f i
@@ -149,32 +121,17 @@ pivot_same n k f g (suc d) i e =
     ap₂ (λ (x y : ℕ). choose (bit n k x) i y) (e i (omega arith) (omega arith))
     (pivot_same n k f g d (suc i) (λ j l h. e j (omega arith) (omega arith)))
 
--- ---- a step of a whole work area, whose rows f on the left and g on the right become f₁ and g₁: row s is added on both sides by the coefficients c
-abbrev pub Stepped : ℕ → (ℕ → ℕ) → ℕ → (ℕ → ℕ) → (ℕ → ℕ) → (ℕ → ℕ) → (ℕ → ℕ) → Type 0
-Stepped n c s f g f₁ g₁ = (tabulate n f₁ ≡ tabulate n (add_row c s f)) × (tabulate n g₁ ≡ tabulate n (add_row c s g))
-
--- b is bit k of row k on the left; where it lacks the bit, l and r, rows p of the two sides, are added to row k.
-pub pivot_step : (n k p : ℕ) (m m₁ : List ℕ) (x b l r : ℕ) → 4 * k + 3 < length m → x ≡ left_at m k → b ≡ x / 2 ^ (n - 1 - k) % 2
-    → l ≡ left_at m p → r ≡ right_at m p → m₁ ≡ added_to m k (1 - b) l r
-    → Stepped n (pivot_by n k (left_at m)) p (left_at m) (right_at m) (left_at m₁) (right_at m₁)
-unfolding added_to
-pivot_step n k p m m₁ x b l r h row digit el er e =
-    let has = digit_of_row n k (left_at m) k x b row digit in
-    let u = bit_xor (left_at m k) ((1 - b) * l) in
-    let v = bit_xor (right_at m k) ((1 - b) * r) in
-    let left = set_left m k u v h in
-    let right = set_right m k u v h in
-    let same_left = pivot_rows n k p (left_at m) (left_at m) _ b has (record {
-      here = left.here ∙ ap (λ (z : ℕ). bit_xor (left_at m k) ((1 - b) * z)) el;
-      others = left.others;
-    }) in
-    let same-right = pivot_rows n k p (left_at m) (right_at m) _ b has (record {
-      here = right.here ∙ ap (λ (z : ℕ). bit_xor (right_at m k) ((1 - b) * z)) er;
-      others = right.others;
-    }) in (
-      ap (λ (w : List ℕ). tabulate n (left_at w)) e ∙ tabulate_ext n _ _ same_left,
-      ap (λ (w : List ℕ). tabulate n (right_at w)) e ∙ tabulate_ext n _ _ same-right,
-    )
+-- ---- a step on one side
+-- The pivoting: x is row k, b its bit k on the left, q row p, and x is replaced by y.
+pub side_pivoted : (n k p : ℕ) (e f f₁ : ℕ → ℕ) (b x q y : ℕ) → b ≡ bit n k (e k) → x ≡ f k → q ≡ f p → y ≡ bit_xor x ((1 - b) % 2 * q)
+    → Replaced f k y f₁
+    → tabulate n f₁ ≡ tabulate n (add_row (pivot_by n k e) p f)
+side_pivoted n k p e f f₁ b x q y has row other added put =
+    let lacks : (1 - b) % 2 ≡ 1 - b = omega arith in
+    tabulate_ext n _ _ (pivot_rows n k p e f f₁ b has (record {
+      here = put.here ∙ added ∙ ap₂ (λ (u v : ℕ). bit_xor u v) row (ap₂ (λ (u v : ℕ). u * v) lacks other);
+      others = put.others;
+    }))
 
 -- ---- one column of the elimination of a beside b, whose pivot is in row p; n where it has none
 module _ (n k : ℕ) (hk : k < n) (a b : List ℕ) (p : ℕ) (e : pivot_from n k (at a) (n - k) k ≡ p) where
@@ -233,15 +190,17 @@ module _ (n k : ℕ) (hk : k < n) (f g : ℕ → ℕ) where
 
   -- f₁ and g₁ are the rows behind the pivoting, f₂ and g₂ behind the clearing.
   pub column_next : (p : ℕ) (f₁ g₁ f₂ g₂ : ℕ → ℕ) → p ≡ pivot_from n k f (n - k) k → p < n
-      → Stepped n (pivot_by n k f) p f g f₁ g₁
-      → Stepped n (clear_by n k f₁) k f₁ g₁ f₂ g₂
+      → tabulate n f₁ ≡ tabulate n (add_row (pivot_by n k f) p f)
+      → tabulate n g₁ ≡ tabulate n (add_row (pivot_by n k f) p g)
+      → tabulate n f₂ ≡ tabulate n (add_row (clear_by n k f₁) k f₁)
+      → tabulate n g₂ ≡ tabulate n (add_row (clear_by n k f₁) k g₁)
       → columns n (n - k) k (tabulate n f) (tabulate n g) ≡ columns n (n - (k + 1)) (k + 1) (tabulate n f₂) (tabulate n g₂)
   unfolding a b
-  column_next p f₁ g₁ f₂ g₂ e hp s₁ s₂ =
+  column_next p f₁ g₁ f₂ g₂ e hp l₁ r₁ l₂ r₂ =
       columns_next n k hk a b p (found_same p e) hp
       ∙ ap₂ (λ (u v : List ℕ). columns n (n - (k + 1)) (k + 1) u v)
-      (sym (s₂.0 ∙ step_same n _ _ k _ _ hk clears lefts_same))
-      (sym (s₂.1 ∙ step_same n _ _ k _ _ hk clears rights_same))
+      (sym (l₂ ∙ step_same n _ _ k _ _ hk clears lefts_same))
+      (sym (r₂ ∙ step_same n _ _ k _ _ hk clears rights_same))
     where
       pivots : (i : ℕ) → i < n → pivot_by n k f i ≡ pivot_by n k (at a) i
       pivots i h = unfold pivot_by in ap (λ (x : ℕ). delta i k * (1 - bit n k x)) (sym (at_a k hk))
@@ -249,13 +208,13 @@ module _ (n k : ℕ) (hk : k < n) (f g : ℕ → ℕ) where
       lefts_same : (i : ℕ) → i < n → f₁ i ≡ pivoted n k p (at a) i
       lefts_same i h =
           sym (at_tabulate n f₁ i h)
-          ∙ ap (λ (l : List ℕ). at l i) (s₁.0 ∙ step_same n _ _ p _ _ hp pivots (λ j g. sym (at_a j g)))
+          ∙ ap (λ (l : List ℕ). at l i) (l₁ ∙ step_same n _ _ p _ _ hp pivots (λ j g. sym (at_a j g)))
           ∙ at_tabulate n (pivoted n k p (at a)) i h
 
       rights_same : (i : ℕ) → i < n → g₁ i ≡ add_row (pivot_by n k (at a)) p (at b) i
       rights_same i h =
           sym (at_tabulate n g₁ i h)
-          ∙ ap (λ (l : List ℕ). at l i) (s₁.1 ∙ step_same n _ _ p _ _ hp pivots (λ j g. sym (at_b j g)))
+          ∙ ap (λ (l : List ℕ). at l i) (r₁ ∙ step_same n _ _ p _ _ hp pivots (λ j g. sym (at_b j g)))
           ∙ at_tabulate n (add_row (pivot_by n k (at a)) p (at b)) i h
 
       clears : (i : ℕ) → i < n → clear_by n k f₁ i ≡ clear_by n k (pivoted n k p (at a)) i

@@ -1,25 +1,19 @@
 -- Laws, not definitions: whether a matrix has an inverse shows, from column k on, in the rows from row k on alone. The clearing of a column and the loop over the
--- columns each have an invariant over the rows, with a law for its start, a turn and its ends; f₀ is the rows at the start, f what they have become. A row may be held
--- in one word or in two.
+-- columns each have an invariant over the rows, with a law for its start, a turn and its ends; f₀ is the rows at the start, f what they have become.
 -- Assumes nothing.
 use mathlib.Core.Bool.{true, false}
 use mathlib.Core.List.{List}
-use mathlib.Core.Logic.{◌≢◌}
 use mathlib.Core.Path.{◌≡◌, refl, sym, ap, ◌∙◌, subst}
 use Prim.Native.Nat.{ℕ, ◌+◌, ◌-◌, ◌*◌, ◌/◌, ◌%◌, ◌^◌, ◌≤◌, ◌<◌}
 use native.Mathlib.Decide.{ℕ_discrete}
-use native.Mathlib.Nat.{one-mul}
 use native.Mathlib.Omega.{arith}
 use lib.Bits.{bit_xor}
-use lib.ListN.{length, set}
-use lib.Seq.{get_or-set_same, get_or-set_other}
 use Rattle.bits.specs.Lists.{at, tabulate}
 use Rattle.bits.proofs.laws.Lists.{at_tabulate}
 use Rattle.matrices.specs.Matrices.{identity}
-use Rattle.matrices.specs.Rows.{row_at, set_row}
-use Rattle.matrices.proofs.laws.Rows.{row_set_same, row_set_other}
 use Rattle.inversion.specs.Elimination.{add_row, pivot_by, clear_by, pivoted, left_step, right_step, pivot_from, columns, invert, has_inverse}
 use Rattle.inversion.proofs.laws.Loops.{found_within}
+use Rattle.inversion.proofs.laws.Rows.{Replaced}
 use Rattle.inversion.proofs.laws.Work.{stays, pivot_by_own, pivot_by_other, clear_by_other, coefficient_small, digit_of_row}
 use Rattle.inversion.proofs.laws.Work.{pivot_same, columns_none, columns_next, columns_done}
 use Rattle.invertible.specs.Forward.{ClearedBehind}
@@ -39,7 +33,7 @@ module _ (n k p : ℕ) (f : ℕ → ℕ) where
       → y ≡ left_step n k p f i
   unfolding add_row
   row_cleared i x b v y h top row digit added =
-      let other : i ≢ k = omega arith in
+      let other : i ≡ k → ⊥ = omega arith in
       let same : pivoted n k p f i ≡ f i = stays (pivot_by n k f) p f i (pivot_by_other n k f i other) in
       let has : b ≡ clear_by n k (pivoted n k p f) i = clear_by_other n k (pivoted n k p f) i x b other (row ∙ sym same) digit in
       let small : b % 2 ≡ b = omega (arith, coefficient_small n k (pivoted n k p f) i b has) in
@@ -49,20 +43,6 @@ module _ (n k p : ℕ) (f : ℕ → ℕ) where
   step_rows : (g : ℕ → ℕ) (i : ℕ) → f i ≡ g i → f k ≡ g k → f p ≡ g p → left_step n k p f i ≡ left_step n k p g i
   unfolding add_row pivot_by clear_by
   step_rows g i x y z = cc
-
--- ---- a row stored: in two words, and in one
-pub record Put (f : ℕ → ℕ) (i y : ℕ) (g : ℕ → ℕ) : Type 0 where
-  pub here : g i ≡ y
-  pub others : (j : ℕ) → j ≢ i → g j ≡ f j
-
-pub put_row : (m m₁ : List ℕ) (i y : ℕ) → 2 * i + 1 < length m → m₁ ≡ set_row m i y → Put (row_at m) i y (row_at m₁)
-put_row m m₁ i y fits e = record {
-  here = ap (λ (w : List ℕ). row_at w i) e ∙ row_set_same m i y fits;
-  others = λ j q. ap (λ (w : List ℕ). row_at w j) e ∙ row_set_other m i y j q;
-}
-
-pub put_word : (m : List ℕ) (i y : ℕ) → i < length m → Put (at m) i y (at (set m i y))
-put_word m i y fits = record { here = get_or-set_same m i y 0 fits; others = λ j q. get_or-set_other m i j y 0 q }
 
 -- ---- the clearing of column k: v is row k behind the pivoting, and of the rows behind row k those before row i are done
 pub record Clearing (n k p : ℕ) (f₀ : ℕ → ℕ) (v : ℕ) (f : ℕ → ℕ) (i : ℕ) : Type 0 where
@@ -86,7 +66,7 @@ clearing_none {n} {k} {p} {f} {x} {b} {q} {v} h row digit other added = record {
 module _ {n k p : ℕ} {f₀ : ℕ → ℕ} {v : ℕ} {f : ℕ → ℕ} {i : ℕ} (g : Clearing n k p f₀ v f i) where
   -- Row x, with v added where it has bit k, is stored as y.
   pub clearing_more : {x b y : ℕ} {f₁ : ℕ → ℕ} → i < n → x ≡ f i → b ≡ x / 2 ^ (n - 1 - k) % 2
-      → y ≡ bit_xor x (b % 2 * v) → Put f i y f₁
+      → y ≡ bit_xor x (b % 2 * v) → Replaced f i y f₁
       → Clearing n k p f₀ v f₁ (i + 1)
   clearing_more {x} {b} {y} {f₁} h row digit added put =
       let from = g.behind in
@@ -127,24 +107,20 @@ reduced_none f n =
     }
 
 module _ {f₀ f : ℕ → ℕ} {n k : ℕ} (g : ReducedFrom f₀ n f k) where
-  -- The pivot that the code looks for, in rows that are those of f.
-  found_same : (h : ℕ → ℕ) (p : ℕ) → ((i : ℕ) → h i ≡ f i) → p ≡ pivot_from n k h (n - k) k → pivot_from n k (at g.left) (n - k) k ≡ p
-  found_same h p are e =
+  -- The pivot that the code looks for.
+  found_same : (p : ℕ) → p ≡ pivot_from n k f (n - k) k → pivot_from n k (at g.left) (n - k) k ≡ p
+  found_same p e =
       let upto = g.within in
-      sym (e ∙ pivot_same n k h (at g.left) (n - k) k (λ j a l. are j ∙ g.rows j a (omega arith)))
+      sym (e ∙ pivot_same n k f (at g.left) (n - k) k (λ j a l. g.rows j a (omega arith)))
 
-  pub reduced_singular : {h : ℕ → ℕ} {p : ℕ} → k < n → ((i : ℕ) → h i ≡ f i) → p ≡ pivot_from n k h (n - k) k → p ≡ n
-      → false ≡ has_inverse (invert n (tabulate n f₀))
-  reduced_singular {h} {p} below are e q =
-      sym (ap has_inverse (g.same ∙ columns_none n k below g.left g.right p (found_same h p are e) q))
+  pub reduced_singular : k < n → pivot_from n k f (n - k) k ≡ n → false ≡ has_inverse (invert n (tabulate n f₀))
+  reduced_singular below e =
+      sym (ap has_inverse (g.same ∙ columns_none n k below g.left g.right _ (found_same _ refl) e))
 
-  pub reduced_next : {h : ℕ → ℕ} {p : ℕ} {f₁ : ℕ → ℕ} → k < n → ((i : ℕ) → h i ≡ f i) → p ≡ pivot_from n k h (n - k) k → p ≢ n
-      → ClearedBehind n k p f f₁
-      → ReducedFrom f₀ n f₁ (k + 1)
+  pub reduced_next : {p : ℕ} {f₁ : ℕ → ℕ} → k < n → p ≡ pivot_from n k f (n - k) k → p < n → ClearedBehind n k p f f₁ → ReducedFrom f₀ n f₁ (k + 1)
   unfolding ClearedBehind
-  reduced_next {h} {p} {f₁} below are e q cleared =
-      let found = found_within n k h p below e in
-      let inside : p < n = omega arith in
+  reduced_next {p} {f₁} below e inside cleared =
+      let found = found_within n k f p below e in
       let step = left_step n k p (at g.left) in
       record {
         within = omega arith;
@@ -154,14 +130,10 @@ module _ {f₀ f : ℕ → ℕ} {n k : ℕ} (g : ReducedFrom f₀ n f k) where
             cleared i (omega arith) l
             ∙ step_rows n k p f (at g.left) i (g.rows i (omega arith) l) (g.rows k (omega arith) below) (g.rows p found.0 inside)
             ∙ sym (at_tabulate n step i l);
-        same = g.same ∙ columns_next n k below g.left g.right p (found_same h p are e) inside;
+        same = g.same ∙ columns_next n k below g.left g.right p (found_same p e) inside;
       }
 
   pub reduced_all : n ≤ k → true ≡ has_inverse (invert n (tabulate n f₀))
   reduced_all h =
       let upto = g.within in
       sym (ap has_inverse (g.same ∙ columns_done n k g.left g.right (omega arith)))
-
--- ---- in two words a row, the pivot is looked for among every row of m
-pub each_row : (m : List ℕ) (i : ℕ) → row_at m (1 * i) ≡ row_at m i
-each_row m i = ap (row_at m) (one-mul i)

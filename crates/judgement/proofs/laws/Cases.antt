@@ -11,8 +11,6 @@ use lib.Dec.{eqb}
 use Rattle.answers.specs.Answers.{and_then}
 use Rattle.answers.specs.Numbers.{cause_of}
 use Rattle.answers.specs.Search.{All, first, refused_at}
-use Rattle.answers.specs.declared.Answer.{Answer}
-use Rattle.answers.specs.declared.Answer.TheVariants.{Accepted, Refused}
 use Rattle.answers.specs.declared.Refusal.TheVariants.{BundleLength, Pair, Encoding, ByteMatrix, ColumnMatrix}
 use Rattle.answers.proofs.laws.Search.{by_refused_at}
 use Rattle.answers.proofs.laws.Tests.{by_test}
@@ -39,6 +37,7 @@ use Rattle.judgement.proofs.laws.Matrices.{equal_rows}
 use Rattle.judgement.proofs.laws.Mixing.{mixing_square, mixing_matrices, identity_block, last_bad_square, last_bad_block, last_bad_byte, last_bad_column}
 use Rattle.judgement.proofs.laws.Mixing.{twins, twins_square, twins_blocks, twins_equal}
 use Rattle.judgement.proofs.laws.Witness.{ten_fits}
+use Rattle.answers.specs.Answer.{Answer, Accepted, Refused}
 
 -- ---- where no cause below 4 is given, the frame is right
 abbrev Low : Answer → Type 0

@@ -16,14 +16,10 @@ use Rattle.bundle.specs.FreeBytes.{SameParts}
 use Rattle.answers.specs.Answers.{refused_if, and_then}
 use Rattle.answers.specs.Numbers.{cause_of}
 use Rattle.answers.specs.Search.{FirstBad, first, refused_at}
-use Rattle.answers.specs.declared.found.Found.{Found}
-use Rattle.answers.specs.declared.found.Found.TheVariants.{At, Nothing}
-use Rattle.answers.specs.declared.Answer.{Answer}
-use Rattle.answers.specs.declared.Answer.TheVariants.{Accepted, Refused}
 use Rattle.answers.specs.declared.Refusal.{Refusal}
 use Rattle.answers.specs.declared.Refusal.TheVariants.{KeyLength, BundleLength, Pair, Encoding, ByteMatrix, ColumnMatrix, InputMatrix}
 use Rattle.answers.specs.declared.Refusal.TheVariants.{OutputMatrix, TableNumber, SetLength, BlockLength, Stop, Unfinished, RecordLength, CataloguePosition}
-use Rattle.answers.proofs.laws.Tests.{clash, not_false_true, by_test}
+use Rattle.answers.proofs.laws.Tests.{clash, by_test}
 use Rattle.answers.proofs.laws.Search.{by_refused_at, first_same, none_all, all_none, at_bad, bad_at}
 use Rattle.bundle.proofs.laws.Frame.{pair_good, right_good, length_good, range_good, pairs_all, frame_accepted}
 use Rattle.bundle.proofs.laws.FreeBytes.{free_bytes}
@@ -35,6 +31,9 @@ use Rattle.judgement.specs.Judgements.{GoodEncodings, GoodByteMatrices, GoodColu
 use Rattle.judgement.specs.Judgements.{AcceptedExactly, RefusedExactly, Parts, FreeBytes}
 use Rattle.judgement.proofs.laws.Encodings.{good_permutation, permutation_good}
 use Rattle.judgement.proofs.laws.Matrices.{good_invertible, invertible_good, good_mixing, mixing_good, not_unfit}
+use Rattle.answers.specs.Answer.{Answer, Accepted, Refused}
+use Rattle.std.specs.Prelude.{Some, None, Option}
+use Rattle.std.proofs.lemmas.Bool.{true_from_ne_false}
 
 -- The judgement from a cause on.
 module _ (nr : ℕ) (l : List ℕ) where
@@ -94,40 +93,40 @@ module _ (nr : ℕ) (l : List ℕ) (bytes : Bytes l) where
   output_from = invertible_good 16 (output_matrix_part nr l) (at_bytes nr l 4 0 bytes)
 
   -- ---- what a search says of the good ones
-  lists_all : first (encodings nr) (encoding_bad nr l) ≡ Nothing → GoodEncodings nr l
+  lists_all : first (encodings nr) (encoding_bad nr l) ≡ None → GoodEncodings nr l
   lists_all = none_all (encodings nr) (encoding_bad nr l) (GoodEncoding nr l) list_to list_from
 
-  lists_none : GoodEncodings nr l → first (encodings nr) (encoding_bad nr l) ≡ Nothing
+  lists_none : GoodEncodings nr l → first (encodings nr) (encoding_bad nr l) ≡ None
   lists_none = all_none (encodings nr) (encoding_bad nr l) (GoodEncoding nr l) list_to list_from
 
-  bytes_all : first (byte_matrices nr) (byte_matrix_bad nr l) ≡ Nothing → GoodByteMatrices nr l
+  bytes_all : first (byte_matrices nr) (byte_matrix_bad nr l) ≡ None → GoodByteMatrices nr l
   bytes_all = none_all (byte_matrices nr) (byte_matrix_bad nr l) (GoodByteMatrix nr l) byte_to byte_from
 
-  bytes_none : GoodByteMatrices nr l → first (byte_matrices nr) (byte_matrix_bad nr l) ≡ Nothing
+  bytes_none : GoodByteMatrices nr l → first (byte_matrices nr) (byte_matrix_bad nr l) ≡ None
   bytes_none = all_none (byte_matrices nr) (byte_matrix_bad nr l) (GoodByteMatrix nr l) byte_to byte_from
 
-  columns_all : first (column_matrices nr) (column_matrix_bad nr l) ≡ Nothing → GoodColumnMatrices nr l
+  columns_all : first (column_matrices nr) (column_matrix_bad nr l) ≡ None → GoodColumnMatrices nr l
   columns_all = none_all (column_matrices nr) (column_matrix_bad nr l) (GoodColumnMatrix nr l) column_to column_from
 
-  columns_none : GoodColumnMatrices nr l → first (column_matrices nr) (column_matrix_bad nr l) ≡ Nothing
+  columns_none : GoodColumnMatrices nr l → first (column_matrices nr) (column_matrix_bad nr l) ≡ None
   columns_none = all_none (column_matrices nr) (column_matrix_bad nr l) (GoodColumnMatrix nr l) column_to column_from
 
   -- ---- the first that a search finds
-  byte_found : (n : ℕ) → first (byte_matrices nr) (byte_matrix_bad nr l) ≡ At n → FirstUnfit (byte_matrices nr) 2 (byte_matrix nr l) n
+  byte_found : (n : ℕ) → first (byte_matrices nr) (byte_matrix_bad nr l) ≡ Some n → FirstUnfit (byte_matrices nr) 2 (byte_matrix nr l) n
   byte_found n e =
       bad_unfit (byte_matrices nr) 1 (byte_matrix_part nr l) n (at_bytes nr l 1 n bytes)
       (at_bad (byte_matrices nr) (byte_matrix_bad nr l) (GoodByteMatrix nr l) byte_to byte_from n e)
 
-  found_byte : (n : ℕ) → FirstUnfit (byte_matrices nr) 2 (byte_matrix nr l) n → first (byte_matrices nr) (byte_matrix_bad nr l) ≡ At n
+  found_byte : (n : ℕ) → FirstUnfit (byte_matrices nr) 2 (byte_matrix nr l) n → first (byte_matrices nr) (byte_matrix_bad nr l) ≡ Some n
   found_byte n unfit =
       bad_at (byte_matrices nr) (byte_matrix_bad nr l) (GoodByteMatrix nr l) byte_to byte_from n (unfit_bad (byte_matrices nr) 1 (byte_matrix_part nr l) n unfit)
 
-  column_found : (n : ℕ) → first (column_matrices nr) (column_matrix_bad nr l) ≡ At n → FirstUnfit (column_matrices nr) 8 (column_matrix nr l) n
+  column_found : (n : ℕ) → first (column_matrices nr) (column_matrix_bad nr l) ≡ Some n → FirstUnfit (column_matrices nr) 8 (column_matrix nr l) n
   column_found n e =
       bad_unfit (column_matrices nr) 4 (column_matrix_part nr l) n (at_bytes nr l 2 n bytes)
       (at_bad (column_matrices nr) (column_matrix_bad nr l) (GoodColumnMatrix nr l) column_to column_from n e)
 
-  found_column : (n : ℕ) → FirstUnfit (column_matrices nr) 8 (column_matrix nr l) n → first (column_matrices nr) (column_matrix_bad nr l) ≡ At n
+  found_column : (n : ℕ) → FirstUnfit (column_matrices nr) 8 (column_matrix nr l) n → first (column_matrices nr) (column_matrix_bad nr l) ≡ Some n
   found_column n unfit =
       bad_at (column_matrices nr) (column_matrix_bad nr l) (GoodColumnMatrix nr l) column_to column_from n
       (unfit_bad (column_matrices nr) 4 (column_matrix_part nr l) n unfit)
@@ -195,7 +194,7 @@ module _ (nr : ℕ) (l : List ℕ) (bytes : Bytes l) where
   unfolding judge frame judge_encodings judge_byte_matrices judge_column_matrices judge_block_matrices
   why_judge Accepted S =
       past_columns S.framed S.lists S.bytes S.columns ∙ rw (input_from S.input, output_from S.output)
-  why_judge (Refused BundleLength) W = rw (not_false_true (length_bad nr l) (λ e. W (length_good nr l e)))
+  why_judge (Refused BundleLength) W = rw (true_from_ne_false (length_bad nr l) (λ e. W (length_good nr l e)))
   why_judge (Refused (Pair i)) W =
       rw (range_good nr l W.0, bad_at 5 (pair_bad nr l) (PairRight nr l) (pair_good nr l) (right_good nr l) i W.1)
   why_judge (Refused (Encoding n)) W =
@@ -205,10 +204,10 @@ module _ (nr : ℕ) (l : List ℕ) (bytes : Bytes l) where
   why_judge (Refused (ColumnMatrix n)) W =
       past_bytes W.0 W.1 W.2 ∙ rw (found_column n W.3)
   why_judge (Refused InputMatrix) W =
-      past_columns W.0 W.1 W.2 W.3 ∙ rw (not_false_true (no_inverse 16 (input_matrix_part nr l)) (λ e. W.4 (input_to e)))
+      past_columns W.0 W.1 W.2 W.3 ∙ rw (true_from_ne_false (no_inverse 16 (input_matrix_part nr l)) (λ e. W.4 (input_to e)))
   why_judge (Refused OutputMatrix) W =
       past_columns W.0 W.1 W.2 W.3
-      ∙ rw (input_from W.4, not_false_true (no_inverse 16 (output_matrix_part nr l)) (λ e. W.5 (output_to e)))
+      ∙ rw (input_from W.4, true_from_ne_false (no_inverse 16 (output_matrix_part nr l)) (λ e. W.5 (output_to e)))
   why_judge (Refused KeyLength) W = absurd W
   why_judge (Refused TableNumber) W = absurd W
   why_judge (Refused SetLength) W = absurd W
@@ -270,7 +269,7 @@ parts nr l s n h = record {
 
 -- ---- free bytes: the judgement is of the frame and of the parts
 found_same : (count : ℕ) (p q : ℕ → Bool) (r : ℕ → Refusal) → ((n : ℕ) → p n ≡ q n) → refused_at (first count p) r ≡ refused_at (first count q) r
-found_same count p q r e = ap (λ (f : Found). refused_at f r) (first_same count p q (λ n h. e n))
+found_same count p q r e = ap (λ (f : Option ℕ). refused_at f r) (first_same count p q (λ n h. e n))
 
 module _ (nr : ℕ) (l l' : List ℕ) (S : SameParts nr l l') where
   encodings_same : judge_encodings nr l ≡ judge_encodings nr l'

@@ -12,9 +12,6 @@ use Rattle.inversion.specs.Elimination.{invert, has_inverse}
 use Rattle.blocks.specs.Blocks.{some_block_bad}
 use Rattle.bundle.specs.Format.{most_encodings, part_count, part_size, section_length, frame, section_of, part_at, input_matrix_part, output_matrix_part}
 use Rattle.answers.specs.Search.{first, refused_at}
-use Rattle.answers.specs.declared.found.Found.{Found}
-use Rattle.answers.specs.declared.Answer.{Answer}
-use Rattle.answers.specs.declared.Answer.TheVariants.{Accepted, Refused}
 use Rattle.answers.specs.declared.Refusal.{Refusal}
 use Rattle.answers.specs.declared.Refusal.TheVariants.{Encoding, ByteMatrix, ColumnMatrix, InputMatrix, OutputMatrix}
 use Rattle.bundle.proofs.laws.Frame.{section_length_lem}
@@ -22,6 +19,8 @@ use Rattle.bits.proofs.laws.Cuts.{part_cut}
 use Rattle.judgement.specs.Asked.{MatricesIn, MatrixSection}
 use Rattle.judgement.specs.Judge.{no_permutation, no_inverse, mixing_bad}
 use Rattle.judgement.specs.Judge.{judge_encodings, judge_byte_matrices, judge_column_matrices, judge_block_matrices, judge}
+use Rattle.answers.specs.Answer.{Answer, Accepted, Refused}
+use Rattle.std.specs.Prelude.{Option}
 
 -- ---- a matrix: r is what the elimination of the matrix that the bytes p write answers
 pub inverse_told : (w : ℕ) (p : List ℕ) {r : Bool} → r ≡ has_inverse (invert (8 * w) (matrix_of w p)) → not r ≡ no_inverse w p
@@ -64,7 +63,7 @@ module _ (nr : ℕ) (l : List ℕ) (s : ℕ) {t : List ℕ} {size count : ℕ} (
     room = section_room nr l s a b c.0 S.framed S.there;
   }
 
-  pub matrices_searched : {f : Found} → f ≡ first count (bad_mixing_in w size t) → f ≡ first (part_count nr s) (λ n. mixing_bad w (part_at nr l s n))
+  pub matrices_searched : {f : Option ℕ} → f ≡ first count (bad_mixing_in w size t) → f ≡ first (part_count nr s) (λ n. mixing_bad w (part_at nr l s n))
   unfolding part_at
   matrices_searched e = e ∙ rw (a, b, c.0)
 
@@ -74,19 +73,19 @@ unfolding part_size
 encodings_asked nr l a c f = (c.1, section_room nr l 0 {size = 8} a refl c.0 f (omega arith))
 
 -- ---- causes 4 to 6: the search found f, and the judgement is the refusal for it
-pub encodings_judged : (nr : ℕ) (l : List ℕ) {t : List ℕ} {count : ℕ} {f : Found} → t ≡ section_of nr l 0 → (count ≡ part_count nr 0) × (count ≤ most_encodings)
+pub encodings_judged : (nr : ℕ) (l : List ℕ) {t : List ℕ} {count : ℕ} {f : Option ℕ} → t ≡ section_of nr l 0 → (count ≡ part_count nr 0) × (count ≤ most_encodings)
     → f ≡ first count (λ n. no_permutation (part_of 8 t n)) → refused_at f Encoding ≡ judge_encodings nr l
 unfolding judge_encodings part_at part_size part_count
 encodings_judged nr l a c e = rw (e, a, c.0)
 
-module _ (nr : ℕ) (l : List ℕ) {f : Found} where
+module _ (nr : ℕ) (l : List ℕ) {f : Option ℕ} where
   pub bytes_judged : f ≡ first (part_count nr 1) (λ n. mixing_bad 1 (part_at nr l 1 n)) → refused_at f ByteMatrix ≡ judge_byte_matrices nr l
   unfolding judge_byte_matrices part_count
-  bytes_judged e = ap (λ (x : Found). refused_at x ByteMatrix) e
+  bytes_judged e = ap (λ (x : Option ℕ). refused_at x ByteMatrix) e
 
   pub columns_judged : f ≡ first (part_count nr 2) (λ n. mixing_bad 4 (part_at nr l 2 n)) → refused_at f ColumnMatrix ≡ judge_column_matrices nr l
   unfolding judge_column_matrices part_count
-  columns_judged e = ap (λ (x : Found). refused_at x ColumnMatrix) e
+  columns_judged e = ap (λ (x : Option ℕ). refused_at x ColumnMatrix) e
 
 -- ---- cause 7: p is the input matrix, and x says that it has no inverse; q and y, the output matrix
 module _ (nr : ℕ) (l : List ℕ) {p : List ℕ} {x : Bool} (P : p ≡ input_matrix_part nr l) (X : x ≡ no_inverse 16 p) where
@@ -108,9 +107,6 @@ module _ (nr : ℕ) (l : List ℕ) {a : Answer} (A : a ≡ frame nr l) where
   pub judge_frame : {r : Refusal} → a ≡ Refused r → Refused r ≡ judge nr l
   unfolding judge
   judge_frame t = rw (← A, t)
-
-  pub frame_accepted : a ≡ Accepted → frame nr l ≡ Accepted
-  frame_accepted t = sym A ∙ t
 
   module _ (t : a ≡ Accepted) {b : Answer} (B : b ≡ judge_encodings nr l) where
     pub judge_encodings_lem : {r : Refusal} → b ≡ Refused r → Refused r ≡ judge nr l

@@ -6,7 +6,7 @@ use mathlib.Core.Logic.{◌≢◌, inl, inr}
 use mathlib.Core.Path.{◌≡◌, refl, sym, ap, ◌∙◌, subst}
 use Prim.Native.Nat.{ℕ, ◌*◌, ◌<◌}
 use native.Mathlib.Omega.{arith}
-use Rattle.answers.proofs.laws.Tests.{clash, not_false_true, denied_true, or_left, or_right, neither}
+use Rattle.answers.proofs.laws.Tests.{clash, or_left, or_right, neither}
 use Rattle.bits.specs.Bytes.{Bytes}
 use Rattle.bits.specs.Lists.{at}
 use Rattle.bits.specs.Vectors.{bit, unit, dot}
@@ -21,6 +21,7 @@ use Rattle.blocks.specs.Theorems.{TestTells, BlockInvertible, Unfit}
 use Rattle.blocks.proofs.laws.Proved.{test_exact, unfit_not}
 use Rattle.judgement.specs.Judge.{no_inverse, mixing_bad}
 use Rattle.judgement.specs.Judgements.{MixingExact}
+use Rattle.std.proofs.lemmas.Bool.{not-false, true_from_ne_false}
 
 module _ (n : ℕ) (m : List ℕ) (fits : RowsFit n (at m)) where
   -- Two equal rows: some vector has a product with a one in the one row and a zero in the other.
@@ -37,7 +38,7 @@ module _ (n : ℕ) (m : List ℕ) (fits : RowsFit n (at m)) where
 module _ (w : ℕ) (p : List ℕ) (bytes : Bytes p) where
   pub good_invertible : no_inverse w p ≡ false → Invertible (8 * w) (matrix_of w p)
   unfolding no_inverse
-  good_invertible e = passes_invertible (8 * w) (matrix_of w p) (matrix_of_fits w p bytes) (denied_true _ e)
+  good_invertible e = passes_invertible (8 * w) (matrix_of w p) (matrix_of_fits w p bytes) (not-false _ e)
 
   pub invertible_good : Invertible (8 * w) (matrix_of w p) → no_inverse w p ≡ false
   unfolding no_inverse
@@ -76,7 +77,7 @@ module _ (w : ℕ) (p : List ℕ) (bytes : Bytes p) where
     where
       by : (b : Bool) → no_inverse w p ≡ b → Unfit (2 * w) (matrix_of w p)
       by true e = inl (λ whole. clash (no_inverse w p) e (whole_good whole))
-      by false e = inr (exactly.fails.0 (not_false_true blocks_bad (λ t. none (record { whole = good_whole e; blocks = exactly.passes.0 t }))))
+      by false e = inr (exactly.fails.0 (true_from_ne_false blocks_bad (λ t. none (record { whole = good_whole e; blocks = exactly.passes.0 t }))))
 
 pub mixing_exact : MixingExact
 mixing_exact w p bytes =
@@ -84,7 +85,7 @@ mixing_exact w p bytes =
     record {
       refuses = (
         λ e. not_unfit w p bytes (λ good. clash (mixing_bad w p) e (mixing_good w p bytes good)),
-        λ bad. not_false_true (mixing_bad w p) (λ e. unfit_not (2 * w) m bad (good_mixing w p bytes e)),
+        λ bad. true_from_ne_false (mixing_bad w p) (λ e. unfit_not (2 * w) m bad (good_mixing w p bytes e)),
       );
       passes = (good_mixing w p bytes, mixing_good w p bytes);
     }

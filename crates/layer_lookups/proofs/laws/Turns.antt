@@ -7,10 +7,10 @@ use Prim.Native.Nat.{ℕ, ◌+◌, ◌-◌, ◌*◌, ◌≤◌, ◌<◌}
 use native.Mathlib.Nat.{zero-mul}
 use native.Mathlib.Omega.{arith}
 use lib.ListN.{length}
-use Rattle.bits.proofs.laws.Lists.{cut, cut_is, length_cut}
+use Rattle.bits.proofs.laws.Lists.{cut, cut_is}
 use Rattle.network.specs.Lookups.{xor_index}
 use Rattle.network.specs.Sizes.{layer_bytes}
-use Rattle.lookups.specs.InPlace.{XorTables, PairRead}
+use Rattle.lookups.specs.InPlace.{PairRead}
 use Rattle.lookups.specs.Layer.{WordIn, WordAt, xors_in, word_first, table_from}
 use Rattle.lookups.specs.declared.layer.Word.{Word}
 use Rattle.lookups.proofs.laws.Words.{pair_second, pair_area, high_table, low_table, xors_split, length_xors}
@@ -30,7 +30,6 @@ made_more {m} {set} {from} {x} {k} {l} {a} h I L =
           (ap (xors_in m set from (k + x) (l - 1)) I.area ∙ sym (xors_split m set from x k (l - 1) a) ∙ ap (λ (n : ℕ). xors_in m set from x n a) (sym last));
       below = L.below;
       area = L.area ∙ ap (xors_in m set from (k + x) l) I.area ∙ sym (xors_split m set from x k l a);
-      long = L.long;
     }
 
 -- i of n turns are made, w lookups each, from lookup x on: the area a₀ has become a, and the last lookup has read entry e.
@@ -38,10 +37,9 @@ pub record Turns (m : ℕ) (set : List ℕ) (from x w n : ℕ) (a₀ : List ℕ)
   pub within : i ≤ n
   pub made : XorsMade m set from x (i * w) a₀ e a
 
-pub turns_none : {m : ℕ} {set : List ℕ} {from x w n e : ℕ} {a : List ℕ} → length a ≡ 256 → e < 256 → Turns m set from x w n a e a 0
+pub turns_none : {m : ℕ} {set : List ℕ} {from x w n e : ℕ} {a : List ℕ} → e < 256 → Turns m set from x w n a e a 0
 unfolding xors_in
-turns_none {m} {set} {from} {x} {w} {n} {e} {a} l h =
-    record { within = omega arith; made = rw (zero-mul w) (record { entry = λ z. absurd (omega arith); below = h; area = refl; long = l }) }
+turns_none {w = w} h = record { within = omega arith; made = rw (zero-mul w) (record { entry = λ z. absurd (omega arith); below = h; area = refl }) }
 
 module _ {m : ℕ} {set : List ℕ} {from x w n : ℕ} {a₀ : List ℕ} {e : ℕ} {a : List ℕ} {i : ℕ} (I : Turns m set from x w n a₀ e a i) where
   -- A turn, from lookup y on.
@@ -50,15 +48,15 @@ module _ {m : ℕ} {set : List ℕ} {from x w n : ℕ} {a₀ : List ℕ} {e : �
       let next : i * w + w ≡ (i + 1) * w = omega arith in
       record { within = omega arith; made = rw (sym next) (made_more h I.made (rw (sym s) L)) }
 
+  -- Lookups keep the area's length.
+  pub turns_long : length a₀ ≡ 256 → length a ≡ 256
+  turns_long l = ap length I.made.area ∙ length_xors m set from x (i * w) a₀ ∙ l
+
   -- Behind the last.
   pub turns_all : {k : ℕ} → n ≤ i → k ≡ n * w → XorsMade m set from x k a₀ e a
   turns_all h s =
       let all : i ≡ n = omega (arith, I.within) in
       rw (s, sym all) I.made
-
--- Two tables one behind the other, parts of the set.
-pub pair_asked : (set : List ℕ) (start : ℕ) → start + 256 ≤ length set → XorTables (cut set start (start + 128)) (cut set (start + 128) (start + 128 + 128))
-pair_asked set start h = record { high = length_cut set start 128 (omega arith); low = length_cut set (start + 128) 128 (omega arith) }
 
 -- The turn of byte i of a word: two lookups, over the tables that begin at byte `start` of the set.
 pub pair_made : {m g t : ℕ} {r : Word} {set : List ℕ} {from start i : ℕ} {a a' : List ℕ} {e : ℕ} → WordIn m g t → WordAt m g t r → i < m → length a ≡ 256
@@ -77,5 +75,4 @@ pair_made {m} {g} {t} {r} {set} {from} {start} {i} {a} {a'} w W h l room s p =
       entry = λ z. p.entry ∙ pair_second w W i h H L a l;
       below = p.below;
       area = made;
-      long = ap length made ∙ length_xors m set from x 2 a ∙ l;
     }

@@ -1,12 +1,11 @@
 -- Laws, not definitions: all lookups of a stage or half, made in place, and the place that the last one reads.
 -- Assumes nothing.
 use mathlib.Core.List.{List}
-use mathlib.Core.Logic.{⊎_elim, ◌⊎◌}
+use mathlib.Core.Logic.{⊎_elim}
 use mathlib.Core.Path.{◌≡◌, refl, sym, ap, ap₂, ◌∙◌}
 use Prim.Native.Nat.{ℕ, ◌+◌, ◌-◌, ◌*◌, ◌≤◌, ◌<◌, min}
 use native.Mathlib.Numerals.{add-one}
 use native.Mathlib.Omega.{arith}
-use lib.ListN.{length}
 use Rattle.network.specs.Lookups.{Shape, xor_index, sums, zero_area}
 use Rattle.network.specs.Order.{xors, layer_lookups}
 use Rattle.network.specs.Read.{nibble_place, read_in}
@@ -14,19 +13,19 @@ use Rattle.network.specs.Sizes.{offset_of, layer_bytes}
 use Rattle.network.specs.declared.EntryPlace.{EntryPlace}
 use Rattle.network.proofs.laws.Order.{layer_lookups_lem}
 use Rattle.network.proofs.laws.Read.{read_xor, nibble_within}
-use Rattle.lookups.specs.Layer.{SpreadMade, WordIn, word_xors, group_xors, word_first, spreads_in, xors_in, sums_in}
-use Rattle.layer_lookups.proofs.laws.Turns.{Turns, turns_none, turns_more, turns_all}
-use Rattle.layer_lookups.specs.Whole.{XorsMade, LayerMade, GroupAsked, place_of_last}
+use Rattle.lookups.specs.InPlace.{Width}
+use Rattle.lookups.specs.Layer.{SpreadMade, word_xors, group_xors, word_first, spreads_in, xors_in, sums_in}
+use Rattle.layer_lookups.proofs.laws.Turns.{Turns, turns_none, turns_more}
+use Rattle.layer_lookups.specs.Whole.{XorsMade, LayerMade, place_of_last}
 
 -- ---- the loop over the spread lookups: p of them are made, and the area a₀ has become a
 pub record Spreads (S : Shape) (set : List ℕ) (from : ℕ) (s a₀ a : List ℕ) (p : ℕ) : Type 0 where
   pub within : p ≤ 16
-  pub long : length a ≡ 256
   pub made : a ≡ spreads_in S set from s p a₀
 
-pub spreads_none : {S : Shape} {set : List ℕ} {from : ℕ} {s a : List ℕ} → length a ≡ 256 → Spreads S set from s a a 0
+pub spreads_none : {S : Shape} {set : List ℕ} {from : ℕ} {s a : List ℕ} → Spreads S set from s a a 0
 unfolding spreads_in
-spreads_none l = record { within = omega arith; long = l; made = refl }
+spreads_none = record { within = omega arith; made = refl }
 
 module _ {S : Shape} {set : List ℕ} {from : ℕ} {s a₀ a : List ℕ} {p : ℕ} (I : Spreads S set from s a₀ a p) where
   pub spreads_more : {r : ℕ} {a' : List ℕ} → p < 16 → SpreadMade S set from p s a r a' → Spreads S set from s a₀ a' (p + 1)
@@ -34,14 +33,8 @@ module _ {S : Shape} {set : List ℕ} {from : ℕ} {s a₀ a : List ℕ} {p : �
   spreads_more h g =
       record {
         within = omega arith;
-        long = g.long ∙ I.long;
         made = g.area ∙ rw I.made refl ∙ ap (λ (x : ℕ). spreads_in S set from s x a₀) (sym (add-one p));
       }
-
-  pub spreads_all : 16 ≤ p → (a ≡ spreads_in S set from s 16 a₀) × (length a ≡ 256)
-  spreads_all h =
-      let e : p ≡ 16 = omega arith in
-      (I.made ∙ ap (λ (x : ℕ). spreads_in S set from s x a₀) e, I.long)
 
 -- ---- the words of a group, and the groups of a layer
 xors_4 : xors 4 ≡ 96
@@ -52,17 +45,13 @@ xors_16 : xors 16 ≡ 480
 unfolding xors
 xors_16 = refl
 
--- Word t of the group is one of it, for t from 1 on.
-pub word_in_group : {m g t from long : ℕ} → GroupAsked m g from long → 0 < t → t < m → WordIn m g t
-word_in_group G s h = record { width = G.width; group = G.group; some = s; within = h }
-
 -- The loop over the words of group g: those before word t are added.
 pub record Words (m : ℕ) (set : List ℕ) (from g : ℕ) (a₀ : List ℕ) (e : ℕ) (a : List ℕ) (t : ℕ) : Type 0 where
   pub some : 0 < t
   pub turns : Turns m set from (g * group_xors m) (word_xors m) (m - 1) a₀ e a (t - 1)
 
-pub words_none : {m : ℕ} {set : List ℕ} {from g e : ℕ} {a : List ℕ} → length a ≡ 256 → e < 256 → Words m set from g a e a 1
-words_none l h = record { some = omega arith; turns = turns_none l h }
+pub words_none : {m : ℕ} {set : List ℕ} {from g e : ℕ} {a : List ℕ} → e < 256 → Words m set from g a e a 1
+words_none h = record { some = omega arith; turns = turns_none h }
 
 module _ {m : ℕ} {set : List ℕ} {from g : ℕ} {a₀ : List ℕ} {e : ℕ} {a : List ℕ} {t : ℕ} (I : Words m set from g a₀ e a t) where
   pub words_more : {f : ℕ} {b : List ℕ} → t < m → XorsMade m set from (word_first m g t) (word_xors m) a f b → Words m set from g a₀ f b (t + 1)
@@ -70,16 +59,13 @@ module _ {m : ℕ} {set : List ℕ} {from g : ℕ} {a₀ : List ℕ} {e : ℕ} {
       let next : t - 1 + 1 ≡ t + 1 - 1 = omega (arith, I.some) in
       record { some = omega arith; turns = rw (sym next) (turns_more I.turns (omega arith) (omega (arith, I.some)) refl L) }
 
-  pub words_all : m ≤ t → XorsMade m set from (g * group_xors m) (group_xors m) a₀ e a
-  words_all h = turns_all I.turns (omega arith) refl
-
 -- ---- all lookups of a stage or half: 16 spread lookups, and the XOR lookups
 pub record Count (m all : ℕ) : Type 0 where
   pub sum : all ≡ 16 + xors m
   pub some : 96 ≤ xors m
   pub most : xors m ≤ 480
 
-pub counted : (m all : ℕ) → (m ≡ 4) ⊎ (m ≡ 16) → all ≡ layer_lookups m → Count m all
+pub counted : (m all : ℕ) → Width m → all ≡ layer_lookups m → Count m all
 counted m all k e = ⊎_elim (λ f. of (ap xors f ∙ xors_4) (omega arith) (omega arith)) (λ f. of (ap xors f ∙ xors_16) (omega arith) (omega arith)) k
   where
     of : {n : ℕ} → xors m ≡ n → 96 ≤ n → n ≤ 480 → Count m all
@@ -89,12 +75,12 @@ counted m all k e = ⊎_elim (λ f. of (ap xors f ∙ xors_4) (omega arith) (ome
 abbrev last_at : ℕ → ℕ → ℕ → ℕ
 last_at from m all = from + 4096 * m + (all - 1 - 16) * 128
 
-pub last_ends : (from m all bytes : ℕ) → (m ≡ 4) ⊎ (m ≡ 16) → all ≡ layer_lookups m → from + layer_bytes m ≤ bytes → last_at from m all + 128 ≤ bytes
+pub last_ends : (from m all bytes : ℕ) → Width m → all ≡ layer_lookups m → from + layer_bytes m ≤ bytes → last_at from m all + 128 ≤ bytes
 unfolding layer_bytes
 last_ends from m all bytes k e h = omega (arith, counted m all k e)
 
 -- The spread lookups leave the area b, the XOR lookups d, from which the sums s' are taken.
-pub layer_made : {S : Shape} {set : List ℕ} {from m all : ℕ} {s a b d s' a' : List ℕ} {i : ℕ} {r : EntryPlace} → m ≡ S.width → (m ≡ 4) ⊎ (m ≡ 16) → all ≡ layer_lookups m
+pub layer_made : {S : Shape} {set : List ℕ} {from m all : ℕ} {s a b d s' a' : List ℕ} {i : ℕ} {r : EntryPlace} → m ≡ S.width → Width m → all ≡ layer_lookups m
     → b ≡ spreads_in S set from s 16 a → XorsMade m set from 0 (xors m) b i d → s' ≡ sums m d → a' ≡ zero_area → r ≡ nibble_place (last_at from m all) i
     → LayerMade S set from s a r s' a'
 unfolding sums_in place_of_last

@@ -7,13 +7,13 @@ use Prim.Native.Nat.{ℕ, ◌+◌, ◌-◌, ◌*◌, ◌/◌, ◌%◌, ◌≤◌
 use native.Mathlib.Omega.{arith}
 use borrow.Author.Tests.{lt-ltb, le-ltb}
 use borrow.Rule.Slice.PartMut.{put_mid}
-use lib.ListN.{length, set, drop, length-append, length-set}
+use lib.ListN.{length, set, drop, length-append}
 use lib.Seq.{get_or-take, get_or-drop}
 use Rattle.bits.specs.Bytes.{byte, bytes_of}
 use Rattle.bits.specs.Lists.{at, tabulate}
 use Rattle.bits.specs.Nibbles.{half, nibble, pack}
 use Rattle.bits.proofs.laws.Bytes.{length_bytes_of}
-use Rattle.bits.proofs.laws.Lists.{tabulate_at, cut, cut_is}
+use Rattle.bits.proofs.laws.Lists.{tabulate_at}
 use Rattle.network.specs.Lookups.{Shape}
 use Rattle.network.specs.Read.{word_place, nibble_place, read_in}
 use Rattle.network.specs.Sizes.{offset_of}
@@ -31,29 +31,16 @@ length_written e =
     ∙ ap (λ (n : ℕ). n + 1) (length_bytes_of offset_bytes e.offset)
 
 -- ---- one entry, and two, in memory d of their length: each offset is written over a part that is lent, and then the values are
-abbrev one_put : List ℕ → List ℕ → ℕ → List ℕ
-one_put d ys v = set (put_mid 0 (offset_bytes - 0) d ys) offset_bytes v
-
 abbrev both_put : List ℕ → List ℕ → List ℕ → List ℕ
 both_put d ys zs = put_mid entry_size (entry_size + offset_bytes - entry_size) (put_mid 0 (offset_bytes - 0) d ys) zs
 
 abbrev two_put : List ℕ → List ℕ → List ℕ → ℕ → ℕ → List ℕ
 two_put d ys zs h l = set (set (both_put d ys zs) offset_bytes h) (entry_size + offset_bytes) l
 
-one_formed : (f g : ℕ → ℕ) (v : ℕ) → one_put (tabulate entry_size f) (tabulate offset_bytes g) v ≡ tabulate offset_bytes g ++ (v ∷ [])
-unfolding tabulate
-one_formed f g v = refl
-
 two_formed : (f g k : ℕ → ℕ) (h l : ℕ) → two_put (tabulate (2 * entry_size) f) (tabulate offset_bytes g) (tabulate offset_bytes k) h l
     ≡ (tabulate offset_bytes g ++ (h ∷ [])) ++ (tabulate offset_bytes k ++ (l ∷ []))
 unfolding tabulate
 two_formed f g k h l = refl
-
-pub one_put_lem : (d : List ℕ) {ys : List ℕ} (o v : ℕ) → length d ≡ entry_size → ys ≡ bytes_of offset_bytes o → one_put d ys v ≡ bytes_of offset_bytes o ++ (v ∷ [])
-unfolding bytes_of
-one_put_lem d {ys} o v long e =
-    ap₂ (λ (d ys : List ℕ). one_put d ys v) (sym (tabulate_at entry_size d long)) e
-    ∙ one_formed (at d) (λ i. byte offset_bytes i o) v
 
 two_put_lem : (d : List ℕ) {ys zs : List ℕ} (o p h l : ℕ) → length d ≡ 2 * entry_size → ys ≡ bytes_of offset_bytes o → zs ≡ bytes_of offset_bytes p
     → two_put d ys zs h l ≡ written (record { offset = o; value = h }) ++ written (record { offset = p; value = l })
@@ -63,30 +50,11 @@ two_put_lem d {ys} {zs} o p h l long e f =
     ∙ ap (λ (zs : List ℕ). two_put (tabulate (2 * entry_size) (at d)) (tabulate offset_bytes (λ i. byte offset_bytes i o)) zs h l) f
     ∙ two_formed (at d) (λ i. byte offset_bytes i o) (λ i. byte offset_bytes i p) h l
 
--- The memory stays as long, and the place of the second value lies in it.
-pub two_long : (d : List ℕ) {ys zs : List ℕ} (o p : ℕ) → length d ≡ 2 * entry_size → ys ≡ bytes_of offset_bytes o → zs ≡ bytes_of offset_bytes p
-    → length (both_put d ys zs) ≡ 2 * entry_size
-two_long d {ys} {zs} o p long e f =
-    sym (length-set (both_put d ys zs) offset_bytes 0)
-    ∙ sym (length-set (set (both_put d ys zs) offset_bytes 0) (entry_size + offset_bytes) 0)
-    ∙ ap length (two_put_lem d o p 0 0 long e f)
-    ∙ length-append (written (record { offset = o; value = 0 })) (written (record { offset = p; value = 0 }))
-    ∙ ap₂ (λ (x y : ℕ). x + y) (length_written (record { offset = o; value = 0 })) (length_written (record { offset = p; value = 0 }))
-
-pub value_inside : (d : List ℕ) {ys zs : List ℕ} (o p : ℕ) → length d ≡ 2 * entry_size → ys ≡ bytes_of offset_bytes o → zs ≡ bytes_of offset_bytes p
-    → entry_size + offset_bytes < length (both_put d ys zs)
-value_inside d o p long e f = omega (arith, two_long d o p long e f)
-
 -- ---- the two XOR lookups of a byte
 -- An entry of a table that lies in a set.
 table_nibble : (set : List ℕ) (start e : ℕ) → e < 256 → nibble (table_at set start) e ≡ half (e % 2) (at set (start + e / 2))
 unfolding nibble
 table_nibble set start e b = ap (half (e % 2)) (get_or-take 128 (drop start set) (e / 2) 0 (omega arith) ∙ get_or-drop start set (e / 2) 0)
-
--- The offset is written, and the entry read from the table, as the code lends it.
-pub offset_put : {set ys : List ℕ} {start e v : ℕ} → ys ≡ bytes_of offset_bytes (start + e / 2) → v ≡ nibble (cut set start (start + 128)) e → v < 16
-    → OffsetPut set start e v ys
-offset_put {set} {start = start} {e} p q b = record { value = q ∙ ap (λ (t : List ℕ). nibble t e) (cut_is set start 128); below = b; bytes = p }
 
 module _ {mem : List ℕ} {start e v : ℕ} {ys : List ℕ} (b : e < 256) (P : OffsetPut mem start e v ys) where
   value_is : v ≡ half (e % 2) (at mem (start + e / 2))

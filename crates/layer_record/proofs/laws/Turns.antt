@@ -1,20 +1,19 @@
 -- Laws, not definitions: the loops over the XOR lookups of a stage or half, with what is recorded of each.
 -- Assumes nothing.
 use mathlib.Core.List.{List, ◌++◌}
-use mathlib.Core.Logic.{◌⊎◌}
 use mathlib.Core.Path.{◌≡◌, refl, sym, ap, ap₂, ◌∙◌}
-use Prim.Native.Nat.{ℕ, ◌+◌, ◌-◌, ◌*◌, ◌/◌, ◌≤◌, ◌<◌}
+use Prim.Native.Nat.{ℕ, ◌+◌, ◌-◌, ◌*◌, ◌≤◌, ◌<◌}
 use native.Mathlib.Nat.{zero-mul}
 use native.Mathlib.Omega.{arith}
 use borrow.Rule.Slice.PartMut.{put_mid, same_len_mid}
 use lib.ListN.{length, take}
-use lib.Seq.{take_all}
 use Rattle.bits.specs.Lists.{concat}
 use Rattle.bits.proofs.laws.Lists.{concat_same, cut, length_cut, take_put, concat_split}
 use Rattle.bits.proofs.laws.Multiples.{row_inside}
 use Rattle.network.specs.Lookups.{xor_index, xor_area}
 use Rattle.network.specs.Read.{nibble_place}
 use Rattle.network.specs.Sizes.{offset_of, layer_bytes}
+use Rattle.lookups.specs.InPlace.{Width}
 use Rattle.lookups.specs.Layer.{WordIn, WordAt, table_from, xors_in, word_xors, word_first, group_xors}
 use Rattle.lookups.specs.declared.layer.Word.{Word}
 use Rattle.lookups.proofs.laws.Words.{by_width, pair_first_lem, pair_second, pair_area, high_table, low_table, length_xors, xors_split}
@@ -31,7 +30,6 @@ unfolding xors_in concat
 pair_recorded {m} {g} {t} {r} w W {i} h {set} {from} {start} {a} s room long B =
     record {
       area = B.area ∙ pair_area w W i h high low a long ∙ made;
-      long = ap length (B.area ∙ pair_area w W i h high low a long ∙ made) ∙ length_xors m set from x 2 a ∙ long;
       bytes =
           B.bytes
           ∙ ap₂ (λ (u v : List ℕ). u ++ v)
@@ -73,13 +71,7 @@ entries_split m set from x k l a =
 abbrev pub pair_size : ℕ
 pair_size = 2 * entry_size
 
-module _ {m : ℕ} (k : (m ≡ 4) ⊎ (m ≡ 16)) where
-  pub group_most : group_xors m ≤ 480
-  group_most = by_width k (λ m. group_xors m ≤ 480) (omega arith) (omega arith)
-
-  pub groups_most : 16 / m * group_xors m ≤ 480
-  groups_most = by_width k (λ m. 16 / m * group_xors m ≤ 480) (omega arith) (omega arith)
-
+module _ {m : ℕ} (k : Width m) where
   -- The bytes of the entries of a group, as the code works them out.
   pub group_size : pair_size * m * (m - 1) ≡ group_xors m * entry_size
   group_size = by_width k (λ m. pair_size * m * (m - 1) ≡ group_xors m * entry_size) refl refl
@@ -89,20 +81,22 @@ module _ {m : ℕ} (k : (m ≡ 4) ⊎ (m ≡ 16)) where
 pub record Turns (m : ℕ) (set : List ℕ) (from x n w : ℕ) (a₀ a d : List ℕ) (i : ℕ) : Type 0 where
   pub within : i ≤ n
   pub area : a ≡ xors_in m set from x (i * w) a₀
-  pub long : length a ≡ 256
   pub memory : length d ≡ n * w * entry_size
   pub front : take (i * w * entry_size) d ≡ concat (i * w) (xor_entry m set from x a₀)
 
-pub turns_none : {m : ℕ} {set : List ℕ} {from x n w : ℕ} {a d : List ℕ} → length a ≡ 256 → length d ≡ n * w * entry_size → Turns m set from x n w a a d 0
+pub turns_none : {m : ℕ} {set : List ℕ} {from x n w : ℕ} {a d : List ℕ} → length d ≡ n * w * entry_size → Turns m set from x n w a a d 0
 unfolding xors_in concat
-turns_none {m} {set} {from} {x} {n} {w} {a} {d} l e =
+turns_none {m} {set} {from} {x} {n} {w} {a} {d} e =
     record {
       within = omega arith;
       area = ap (λ (k : ℕ). xors_in m set from x k a) (sym (zero-mul w));
-      long = l;
       memory = e;
       front = ap (λ (k : ℕ). take (k * entry_size) d) (zero-mul w) ∙ ap (λ (k : ℕ). concat k (xor_entry m set from x a)) (sym (zero-mul w));
     }
+
+-- Lookups keep the area's length.
+pub turns_long : {m : ℕ} {set : List ℕ} {from x n w : ℕ} {a₀ a d : List ℕ} {i : ℕ} → Turns m set from x n w a₀ a d i → length a₀ ≡ 256 → length a ≡ 256
+turns_long {m} {set} {from} {x} {w = w} {a₀} {i = i} T l = ap length T.area ∙ length_xors m set from x (i * w) a₀ ∙ l
 
 module _ {m : ℕ} {set : List ℕ} {from x n w : ℕ} {a₀ a d : List ℕ} {i : ℕ} (T : Turns m set from x n w a₀ a d i) {size : ℕ} (s : size ≡ w * entry_size) where
   -- The part of the memory that a turn lends lies within it, and is `size` bytes long.
@@ -113,10 +107,6 @@ module _ {m : ℕ} {set : List ℕ} {from x n w : ℕ} {a₀ a d : List ℕ} {i 
 
   pub part_long : i < n → length (cut d (i * size) (i * size + size)) ≡ size
   part_long h = length_cut d (i * size) size (part_inside h)
-
-  -- It ends early, where all turns together make 480 lookups at most.
-  pub part_most : i < n → n * w ≤ 480 → i * size + size ≤ 2400
-  part_most h b = omega (arith, part_inside h, T.memory)
 
   -- It comes back with what is recorded of the turn's lookups.
   pub turns_more : {y j : ℕ} {a' ys : List ℕ} → i < n → y ≡ i * w + x → j ≡ i + 1 → XorsRecorded m set from y w a a' ys
@@ -132,7 +122,6 @@ module _ {m : ℕ} {set : List ℕ} {from x n w : ℕ} {a₀ a d : List ℕ} {i 
             ∙ ap₂ (λ (y : ℕ) (b : List ℕ). xors_in m set from y w b) e T.area
             ∙ sym (xors_split m set from x (i * w) w a₀)
             ∙ ap (λ (k : ℕ). xors_in m set from x k a₀) next;
-        long = X.long;
         memory = same_len_mid (i * size) (i * size + size - i * size) d ys l ∙ T.memory;
         front =
             take_put (i * size) (i * size + size - i * size) (j * w * entry_size) d ys (omega (arith, part_inside h)) (omega (arith, l, part_long h, end))
@@ -142,26 +131,13 @@ module _ {m : ℕ} {set : List ℕ} {from x n w : ℕ} {a₀ a d : List ℕ} {i 
             ∙ ap (λ (k : ℕ). concat k (xor_entry m set from x a₀)) next;
       }
 
-  -- Behind the last turn all are made.
-  pub turns_all : {k : ℕ} → n ≤ i → k ≡ n * w → XorsRecorded m set from x k a₀ a d
-  turns_all {k} h e =
-      let done : i * w ≡ k = ap (λ (i : ℕ). i * w) (let q : i ≡ n = omega (arith, T.within) in q) ∙ sym e in
-      record {
-        area = T.area ∙ ap (λ (k : ℕ). xors_in m set from x k a₀) done;
-        long = T.long;
-        bytes =
-            sym (take_all (i * w * entry_size) d (omega (arith, T.memory, done, e)))
-            ∙ T.front
-            ∙ ap (λ (k : ℕ). concat k (xor_entry m set from x a₀)) done;
-      }
-
 -- ---- the words of a group, word 1 first: those before word t are added to the group's sum
 pub record Words (m : ℕ) (set : List ℕ) (from g : ℕ) (a₀ a d : List ℕ) (t : ℕ) : Type 0 where
   pub some : 0 < t
   pub turns : Turns m set from (g * group_xors m) (m - 1) (word_xors m) a₀ a d (t - 1)
 
-pub words_none : {m : ℕ} {set : List ℕ} {from g : ℕ} {a d : List ℕ} → length a ≡ 256 → length d ≡ group_xors m * entry_size → Words m set from g a a d 1
-words_none l h = record { some = omega arith; turns = turns_none l h }
+pub words_none : {m : ℕ} {set : List ℕ} {from g : ℕ} {a d : List ℕ} → length d ≡ group_xors m * entry_size → Words m set from g a a d 1
+words_none h = record { some = omega arith; turns = turns_none h }
 
 -- The bytes of the entries of a word, as the code works them out.
 pub word_size : (m : ℕ) → pair_size * m ≡ word_xors m * entry_size
@@ -171,20 +147,8 @@ module _ {m : ℕ} {set : List ℕ} {from g : ℕ} {a₀ a d : List ℕ} {t : �
   turn_inside : t < m → t - 1 < m - 1
   turn_inside h = omega (arith, I.some)
 
-  pub word_lent : t < m → length (cut d ((t - 1) * (pair_size * m)) ((t - 1) * (pair_size * m) + pair_size * m)) ≡ word_xors m * entry_size
-  word_lent h = part_long I.turns (word_size m) (turn_inside h) ∙ word_size m
-
-  pub word_inside : t < m → (t - 1) * (pair_size * m) + pair_size * m ≤ length d
-  word_inside h = part_inside I.turns (word_size m) (turn_inside h)
-
-  pub word_most : t < m → (m ≡ 4) ⊎ (m ≡ 16) → (t - 1) * (pair_size * m) + pair_size * m ≤ 2400
-  word_most h k = part_most I.turns (word_size m) (turn_inside h) (group_most k)
-
   pub words_more : {b ys : List ℕ} → t < m → XorsRecorded m set from (word_first m g t) (word_xors m) a b ys
       → length ys ≡ length (cut d ((t - 1) * (pair_size * m)) ((t - 1) * (pair_size * m) + pair_size * m))
       → Words m set from g a₀ b (put_mid ((t - 1) * (pair_size * m)) ((t - 1) * (pair_size * m) + pair_size * m - (t - 1) * (pair_size * m)) d ys) (t + 1)
   words_more h X l =
       record { some = omega arith; turns = turns_more I.turns (word_size m) (turn_inside h) refl (omega (arith, I.some)) X l }
-
-  pub words_all : m ≤ t → XorsRecorded m set from (g * group_xors m) (group_xors m) a₀ a d
-  words_all h = turns_all I.turns (word_size m) (omega arith) refl

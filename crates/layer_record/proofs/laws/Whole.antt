@@ -1,7 +1,6 @@
 -- Laws, not definitions: the loop over the spread lookups of a stage or half, and all of its lookups, with what is recorded of them.
 -- Assumes nothing.
 use mathlib.Core.List.{List, ◌++◌}
-use mathlib.Core.Logic.{⊎_elim, ◌⊎◌}
 use mathlib.Core.Path.{◌≡◌, refl, sym, ap, ap₂, ◌∙◌}
 use Prim.Native.Nat.{ℕ, suc, ◌+◌, ◌-◌, ◌*◌, ◌≤◌, ◌<◌}
 use native.Mathlib.Omega.{arith}
@@ -10,7 +9,7 @@ use lib.ListN.{length, length-take, length-drop}
 use lib.Seq.{take_all}
 use Rattle.bits.specs.Lists.{at, concat}
 use Rattle.bits.proofs.laws.Lists.{length_concat, cut, take_put}
-use Rattle.bits.proofs.laws.Parts.{Parts, parts_none, parts_more, parts_all}
+use Rattle.bits.proofs.laws.Parts.{Parts, parts_none, parts_more}
 use Rattle.network.specs.Lookups.{Shape, sums, zero_area}
 use Rattle.network.specs.Order.{xors, layer_lookups}
 use Rattle.network.proofs.laws.Order.{layer_lookups_lem}
@@ -23,17 +22,11 @@ use Rattle.layer_record.proofs.laws.Entries.{length_written, spread_noted}
 -- ---- the loop over the spread lookups: p of them are made and recorded in the memory d₀, which d has become
 pub record Spreads (S : Shape) (set : List ℕ) (from : ℕ) (s a₀ d₀ a d : List ℕ) (p : ℕ) : Type 0 where
   pub area : a ≡ spreads_in S set from s p a₀
-  pub long : length a ≡ 256
   pub parts : Parts 16 entry_size (spread_entry S set from s a₀) d₀ d p
 
-pub spreads_none : {S : Shape} {set : List ℕ} {from : ℕ} {s a d : List ℕ} → length a ≡ 256 → length d ≡ 16 * entry_size → Spreads S set from s a d a d 0
+pub spreads_none : {S : Shape} {set : List ℕ} {from : ℕ} {s a d : List ℕ} → length d ≡ 16 * entry_size → Spreads S set from s a d a d 0
 unfolding spreads_in
-spreads_none l k = record { area = refl; long = l; parts = parts_none (omega arith) }
-
--- The word that a spread lookup reads, of one byte at least, lies in the set.
-pub read_inside : {S : Shape} {set : List ℕ} {from p : ℕ} {s a : List ℕ} {r : ℕ} {a' : List ℕ} → SpreadMade S set from p s a r a'
-    → (S.width ≡ 4) ⊎ (S.width ≡ 16) → r < length set
-read_inside g k = ⊎_elim (λ f. omega (arith, g.ends, f)) (λ f. omega (arith, g.ends, f)) k
+spreads_none k = record { area = refl; parts = parts_none (omega arith) }
 
 module _ {S : Shape} {set : List ℕ} {from : ℕ} {s a₀ d₀ a d : List ℕ} {p : ℕ} (N : Spreads S set from s a₀ d₀ a d p) where
   pub spreads_more : {r : ℕ} {a' ys : List ℕ} → p < 16 → SpreadMade S set from p s a r a'
@@ -44,14 +37,8 @@ module _ {S : Shape} {set : List ℕ} {from : ℕ} {s a₀ d₀ a d : List ℕ} 
       let next : suc p ≡ p + 1 = omega arith in
       record {
         area = g.area ∙ rw N.area refl ∙ ap (λ (k : ℕ). spreads_in S set from s k a₀) next;
-        long = g.long ∙ N.long;
         parts = parts_more N.parts h l (is ∙ spread_noted a₀ h g);
       }
-
-  pub spreads_all : 16 ≤ p → length d₀ ≡ 16 * entry_size → SpreadsRecorded S set from s a₀ a d
-  spreads_all h l =
-      let done : p ≡ 16 = omega (arith, N.parts.within) in
-      record { area = N.area ∙ ap (λ (k : ℕ). spreads_in S set from s k a₀) done; long = N.long; bytes = parts_all N.parts h l }
 
 -- ---- the layer: two parts of the memory d, one behind the other, come back as ys and zs
 two_parts : (mid end : ℕ) (d ys zs : List ℕ) → mid ≤ end → length d ≡ end → length ys ≡ length (cut d 0 mid)

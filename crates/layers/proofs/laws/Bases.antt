@@ -5,7 +5,6 @@ use mathlib.Core.Path.{◌≡◌, refl, ap, ap₂, ◌∙◌}
 use Prim.Native.Nat.{ℕ, ◌+◌, ◌-◌, ◌*◌, ◌^◌, ◌<◌}
 use native.Mathlib.Omega.{arith}
 use lib.ListN.{length}
-use Rattle.answers.specs.declared.Answer.TheVariants.{Accepted}
 use Rattle.bits.specs.Bytes.{number, byte}
 use Rattle.bits.specs.Lists.{part_of}
 use Rattle.bits.specs.Words.{wide}
@@ -16,6 +15,7 @@ use Rattle.matrices.specs.Rows.{rows_of}
 use Rattle.bundle.specs.Format.{byte_matrices, part_count, part_size, section_length, frame, section_of, part_at, byte_matrix}
 use Rattle.bundle.proofs.laws.Frame.{section_length_lem}
 use Rattle.layers.specs.Layers.{spread_word}
+use Rattle.answers.specs.Answer.{Accepted}
 
 -- ---- row k of first halves
 -- m is the matrix as the code has read it, y is 2^k, x the vector that f makes of y, v their product: a low word alone.

@@ -3,10 +3,8 @@
 use mathlib.Core.List.{List}
 use mathlib.Core.Path.{◌≡◌, sym, ap, ap₂, ◌∙◌}
 use Prim.Native.Nat.{ℕ, zero, suc, ◌+◌, ◌-◌, ◌*◌, ◌/◌, ◌%◌, ◌^◌, ◌≤◌, ◌<◌}
-use native.Mathlib.Nat.{one-mul, mod-eq_of_lt}
 use native.Mathlib.Omega.{arith}
 use lib.ListN.{length, set}
-use lib.Pow.{pow-lt}
 use Rattle.bits.specs.Bytes.{number, byte}
 use Rattle.bits.specs.Groups.{joined}
 use Rattle.bits.specs.Lists.{at, part_of}
@@ -24,9 +22,6 @@ use Rattle.round.specs.State.{mix_rows, inv_mix_rows, entry}
 use Rattle.round.proofs.laws.Mix.{mix_bytes, inv_mix_bytes}
 use Rattle.layout.specs.Ciphers.{for_cipher}
 use Rattle.bits.proofs.laws.Cuts.{part_length}
-
-pub shifted_one : (k : ℕ) → k < 8 → 1 * 2 ^ k % 2 ^ 8 ≡ 2 ^ k
-shifted_one k h = ap (λ (x : ℕ). x % 2 ^ 8) (one-mul (2 ^ k)) ∙ mod-eq_of_lt (pow-lt h)
 
 -- ---- the product of 8 bytes and a byte
 -- The rows of a matrix of 8 rows are the bytes that write it.

@@ -33,17 +33,6 @@ in_rounds nr n some h = by_range nr n h (InRounds nr) (λ a. some) (λ r lo hi a
 pub round_at : (nr n : ℕ) (q : Place) → q ≡ place_of nr n → 1 ≤ nr → n < lookups nr → InRounds nr q.stage
 round_at nr n q e some h = rw e (in_rounds nr n some h)
 
--- ---- the number of a stage's first result
-module _ {nr : ℕ} {s : Stage} {r : ℕ} where
-  pub first_in_first : s ≡ First r → Round nr r → (first_number nr (First r) ≡ first_number nr s) × (first_number nr (First r) ≤ first_number nr Exit)
-  first_in_first e round = (ap (first_number nr) (sym e), omega arith)
-
-  pub first_in_second : s ≡ Second r → Round nr r → (first_number nr (Second r) ≡ first_number nr s) × (first_number nr (Second r) ≤ first_number nr Exit)
-  first_in_second e round = (ap (first_number nr) (sym e), omega arith)
-
-pub first_in_exit : (nr : ℕ) {s : Stage} → s ≡ Exit → (first_number nr Exit ≡ first_number nr s) × (first_number nr Exit ≤ first_number nr Exit)
-first_in_exit nr e = (ap (first_number nr) (sym e), omega arith)
-
 -- ---- the number of standing nibble q: of a sum of the layer before, which n is where that layer is a half
 module _ (nr : ℕ) {s : Stage} (q : ℕ) where
   of_stage : {t : Stage} → s ≡ t → standing_number nr t q ≡ standing_number nr s q

@@ -4,7 +4,6 @@
 use mathlib.Core.Path.{◌≡◌, sym, ap, ap₂, ◌∙◌}
 use Prim.Native.Nat.{ℕ, ◌+◌, ◌-◌, ◌*◌, ◌≤◌, ◌<◌, min}
 use native.Mathlib.Decide.{dec_lt}
-use native.Mathlib.Nat.{mul-le-mul_right}
 use native.Mathlib.Omega.{arith}
 use borrow.Author.Tests.{lt-ltb, le-ltb}
 use Rattle.layout.specs.Stages.{width_of, shifted, source_of, lookups, entry_lookups, half_lookups, stage_of, round_at, in_round}
@@ -29,10 +28,6 @@ xor_place s m start j h =
     let e : min j 16 ≡ 16 = omega arith in
     let f : start + 16 * (256 * m) + (j - 16) * 128 ≡ start + (16 * (256 * m) + (j - 16) * 128) = omega arith in
     rw (le-ltb j 16 h, e, f)
-
--- a spread table's offset is small
-pub spread_lt : (m j : ℕ) → m ≤ 16 → j < 16 → j * (256 * m) < 65536
-spread_lt m j a b = omega (arith, mul-le-mul_right (256 * m) b)
 
 -- ---- by the stage
 place_at : (nr k : ℕ) (s : Stage) → k < lookups nr → stage_of nr k ≡ s → place_from s (width_of s) (first_byte_of nr s) (k - first_lookup nr s) ≡ place_of nr k
@@ -109,10 +104,3 @@ module _ (reads : ℕ → ℕ) where
   source_lt small (Second r) p h = h
   source_lt small Exit p h = small p h
   source_lt small Beyond p h = h
-
-  -- By the stage: through the row shift in a first half and in the exit.
-  pub reads_first : (s : Stage) (r p x : ℕ) → s ≡ First r → x ≡ reads p → x ≡ source_of reads s p
-  reads_first s r p x e q = q ∙ ap (λ (s : Stage). source_of reads s p) (sym e)
-
-  pub reads_exit : (s : Stage) (p x : ℕ) → s ≡ Exit → x ≡ reads p → x ≡ source_of reads s p
-  reads_exit s p x e q = q ∙ ap (λ (s : Stage). source_of reads s p) (sym e)

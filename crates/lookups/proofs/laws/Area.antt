@@ -1,83 +1,15 @@
 -- Laws, not definitions: the spread area, changed in place.
 -- Assumes nothing.
-use mathlib.Core.List.{List, ◌++◌}
-use mathlib.Core.Logic.{⊎_elim, ◌⊎◌}
-use mathlib.Core.Path.{◌≡◌, sym, ap, ap₂, ◌∙◌, subst}
-use Prim.Native.Nat.{ℕ, ◌+◌, ◌*◌, ◌/◌, ◌%◌, ◌≤◌, ◌<◌}
+use mathlib.Core.List.{List}
+use mathlib.Core.Path.{◌≡◌, sym, ap, ap₂, ◌∙◌}
+use Prim.Native.Nat.{ℕ, ◌+◌, ◌*◌, ◌/◌, ◌%◌, ◌<◌}
 use native.Mathlib.Omega.{arith}
-use lib.ListN.{length, set, take, drop, length-drop}
-use lib.Seq.{get_or-set_same, get_or-set_other, set-set, get_or-take, get_or-drop, length-take-le}
-use Rattle.bits.specs.Lists.{at, tabulate}
+use lib.ListN.{length, set}
+use lib.Seq.{get_or-set_same, get_or-set_other, set-set}
+use Rattle.bits.specs.Lists.{at}
 use Rattle.bits.specs.Nibbles.{pack, half, nibble, set_nibble}
-use Rattle.bits.proofs.laws.Filled.{Filled, filled_more, filled_all, filled_front}
-use Rattle.bits.proofs.laws.Lists.{zeros, ext_at, length_tabulate, at_tabulate}
-use Rattle.bits.proofs.laws.Multiples.{row_inside}
 use Rattle.bits.proofs.laws.Nibbles.{nibble_even, nibble_odd}
-use Rattle.bits.proofs.laws.Pasted.{Pasted, pasted_none, pasted_more, pasted_all, length_pasted}
-use Rattle.network.specs.Lookups.{sums, zero_area}
-use Rattle.lookups.specs.InPlace.{with_half, WordRead, SpreadRead, XorRead, PairRead, xor_byte}
-
--- ---- the loop that reads m bytes of a table t, from byte `from` on, into w: at its end they are read
-pub word_all : (t : List ℕ) (from m : ℕ) {w : List ℕ} {b : ℕ} → Filled 16 (λ i. at t (from + i)) w b → m ≤ b → from + m ≤ length t → WordRead t m from w
-word_all t from m {w} I h k =
-    record {
-      same =
-          filled_front I h
-          ∙ ext_at m (tabulate m f) (take m (drop from t)) (length_tabulate m f) (length-take-le m (drop from t) (omega (arith, length-drop from t)))
-          (λ j l. at_tabulate m f j l ∙ sym (get_or-take m (drop from t) j 0 l ∙ get_or-drop from t j 0));
-      long = I.long;
-    }
-  where
-    f : ℕ → ℕ
-    f = λ i. at t (from + i)
-
--- ---- the loop that copies a word w of m bytes to word p of an area of 16 words: its start
-pub word_none : (d w : List ℕ) (p m : ℕ) → length d ≡ 256 → m ≤ 16 → p < 16 → length w ≡ 16 → Pasted d w (p * m) 0 m d 0
-word_none d w p m l b h k = pasted_none (omega (arith, row_inside p m 16 h)) (omega arith)
-
--- A turn takes byte b of the word.
-pub word_more : {d w : List ℕ} {to m : ℕ} {a : List ℕ} {b : ℕ} → Pasted d w to 0 m a b → b < m → Pasted d w to 0 m (set a (to + b) (at w b)) (b + 1)
-word_more {d} {w} {to} {m} {a} {b} I h =
-    let e : 0 + b ≡ b = omega arith in
-    subst (λ (x : ℕ). Pasted d w to 0 m (set a (to + b) (at w x)) (b + 1)) e (pasted_more I h)
-
--- And its end: it is the word of the byte x, which begins at byte k of the table t.
-pub word_read : {d t w : List ℕ} {p k m x : ℕ} {a : List ℕ} {b : ℕ} → Pasted d w (p * m) 0 m a b → m ≤ b → WordRead t m k w → k ≡ x * m → x < 256
-    → SpreadRead t m p x d k a
-word_read {d} {t} {w} {p} {k} {m} {x} I h r e g =
-    record {
-      word = e;
-      ends = omega (arith, row_inside x m 256 g);
-      area = pasted_all I h ∙ ap (λ (l : List ℕ). take (p * m) d ++ l ++ drop (p * m + m) d) (r.same ∙ ap (λ (k : ℕ). take m (drop k t)) e);
-      long = length_pasted I;
-    }
-
--- ---- the loop that fills the area with zeros
-pub cleared : {a : List ℕ} {i : ℕ} → Filled 256 (λ k. 0) a i → 256 ≤ i → a ≡ zero_area
-cleared I h = filled_all I h ∙ zeros 256
-
--- ---- the loop that takes the sums of an area a of words of m bytes: byte q of them, from word 0 of its group
-abbrev pub sum_of : List ℕ → ℕ → ℕ → ℕ
-sum_of a m q = at a (q / m * m * m + q % m)
-
-module _ (a : List ℕ) (m : ℕ) {s : List ℕ} {q : ℕ} (I : Filled 16 (sum_of a m) s q) where
-  pub sums_more : {i : ℕ} → q < 16 → i ≡ q / m * m * m + q % m → Filled 16 (sum_of a m) (set s q (at a i)) (q + 1)
-  sums_more h e = filled_more I h (ap (at a) e)
-
-  pub sums_all : 16 ≤ q → s ≡ sums m a
-  unfolding sums
-  sums_all h = filled_all I h
-
--- The place of byte q of the sums, at the two widths.
-abbrev SumAt : ℕ → ℕ → ℕ → Type 0
-SumAt m q i = (i ≡ q / m * m * m + q % m) × (i < 256)
-
-pub sum_16 : (m q : ℕ) → m ≡ 16 → q < 16 → SumAt m q q
-sum_16 m q e h = subst (λ (m : ℕ). SumAt m q q) (sym e) (omega arith, omega arith)
-
-pub sum_4 : (m q : ℕ) → (m ≡ 4) ⊎ (m ≡ 16) → (m ≡ 16 → ⊥) → q < 16 → SumAt m q (q / 4 * 16 + q % 4)
-sum_4 m q k n h =
-    ⊎_elim (λ e. subst (λ (m : ℕ). SumAt m q (q / 4 * 16 + q % 4)) (sym e) (omega arith, omega arith)) (λ e. absurd (n e)) k
+use Rattle.lookups.specs.InPlace.{with_half, XorRead, PairRead, xor_byte}
 
 -- ---- one nibble of byte i replaced
 set_high : (l : List ℕ) (i v : ℕ) → set_nibble l (2 * i) v ≡ set l i (pack v (at l i % 16))

@@ -1,28 +1,27 @@
 -- Laws, not definitions: a lookup of a stage or half, made in place, and the place that it reads.
 -- Assumes nothing.
 use mathlib.Core.List.{List}
-use mathlib.Core.Logic.{⊎_elim, ◌⊎◌, inl, inr}
+use mathlib.Core.Logic.{⊎_elim, inl, inr}
 use mathlib.Core.Path.{◌≡◌, refl, sym, ap, ap₂, ◌∙◌}
 use Prim.Native.Nat.{ℕ, suc, ◌+◌, ◌-◌, ◌*◌, ◌/◌, ◌%◌, ◌≤◌, ◌<◌}
 use native.Mathlib.Numerals.{add-one}
 use native.Mathlib.Omega.{arith}
 use borrow.Author.Tests.{eq-eqb, ne_eqb, lt-ltb, le-ltb}
-use lib.ListN.{length, drop, length-set, length-replicate}
+use lib.ListN.{length, drop, length-set}
 use lib.Seq.{paste}
 use Rattle.bits.specs.Lists.{at}
 use Rattle.bits.specs.Nibbles.{nibble, set_nibble, pack}
-use Rattle.bits.proofs.laws.Lists.{length_tabulate}
 use Rattle.network.specs.Lookups.{State, state_at, Shape, spread_area, xor_index, xor_area, sums, zero_area, lookup_in}
 use Rattle.network.specs.Order.{xors, layer_lookups, sum_place, added_place}
 use Rattle.network.specs.Read.{word_place, nibble_place, read_in}
 use Rattle.network.specs.declared.EntryPlace.{EntryPlace}
 use Rattle.network.proofs.laws.Read.{read_spread, read_xor, word_within, nibble_within}
-use Rattle.network.proofs.laws.Sizes.{spread_size, xor_size}
+use Rattle.network.proofs.laws.Sizes.{xor_size}
 use Rattle.layout.specs.Stages.{width_of, entry_lookups}
 use Rattle.layout.specs.declared.stage.Stage.{Stage}
 use Rattle.layout.specs.declared.stage.Stage.TheVariants.{Entry, First, Second, Exit, Beyond}
 use Rattle.layout.proofs.laws.Stages.{lookups_16, lookups_4}
-use Rattle.lookups.specs.InPlace.{SpreadIn, XorIn, Fits, SpreadRead, XorRead, XorMade, LookedUp}
+use Rattle.lookups.specs.InPlace.{Width, XorIn, Fits, SpreadRead, XorRead, XorMade, LookedUp}
 
 -- ---- an XOR lookup at its two places
 pub xor_at : (m x p q : ℕ) (t a : List ℕ) → p ≡ sum_place m x → q ≡ added_place m x
@@ -40,7 +39,7 @@ xor_made m x p q t a e a' f g r =
     }
 
 -- Entry and exit: one group of 16 words.
-pub below_480 : {m x : ℕ} → XorIn m x → m ≡ 16 → x < 480
+below_480 : {m x : ℕ} → XorIn m x → m ≡ 16 → x < 480
 below_480 k e = ⊎_elim (λ p. p.1) (λ p. absurd (omega arith)) k
 
 pub xor_16 : {m x : ℕ} {t a a' : List ℕ} {i : ℕ} → XorIn m x → m ≡ 16 → XorRead t (x % 32) (x + 32) a i a' → XorMade m x t a i a'
@@ -49,7 +48,7 @@ xor_16 {x = x} {t} {a} {a'} {i} k e r =
     rw e (xor_made 16 x (x % 32) (x + 32) t a i a' (omega arith) (omega arith) r)
 
 -- A half: four groups of 4 words.
-pub is_4 : {m x : ℕ} → XorIn m x → (m ≡ 16 → ⊥) → (m ≡ 4) × (x < 96)
+is_4 : {m x : ℕ} → XorIn m x → (m ≡ 16 → ⊥) → (m ≡ 4) × (x < 96)
 is_4 k n = ⊎_elim (λ p. absurd (n p.0)) (λ p. p) k
 
 pub xor_4 : {m x : ℕ} {t a a' : List ℕ} {i : ℕ} → XorIn m x → (m ≡ 16 → ⊥)
@@ -61,9 +60,6 @@ xor_4 {x = x} {t} {a} {a'} {i} k n r =
 pub length_xor : (m x : ℕ) (t a : List ℕ) → length (xor_area m x t a) ≡ length a
 unfolding xor_area set_nibble
 length_xor m x t a = simp length-set
-
-pub length_after_xor : (m x n : ℕ) (t a a' : List ℕ) → a' ≡ xor_area m x t a → length a ≡ n → length a' ≡ n
-length_after_xor m x n t a a' e l = ap length e ∙ length_xor m x t a ∙ l
 
 -- ---- what a lookup that fits has
 lookups_0 : layer_lookups 0 ≡ 16
@@ -79,24 +75,17 @@ module _ {s : Stage} {j from long : ℕ} (f : Fits s j from long) where
   kind Exit h w = inl (refl, omega (arith, lookups_16))
   kind Beyond h w = absurd (omega (arith, lookups_0))
 
-  pub spread_asked : {m : ℕ} → m ≡ width_of s → m ≤ 16 → j < 16 → SpreadIn m j long
-  spread_asked e b h = record { width = b; within = h; sized = f.sized ∙ rw e (spread_size (width_of s) j h) }
-
   pub xor_sized : 16 ≤ j → long ≡ 128
   xor_sized h = f.sized ∙ xor_size (width_of s) j h
 
   pub xor_within : {m : ℕ} → m ≡ width_of s → 16 ≤ j → XorIn m (j - 16)
   xor_within e h = rw e (kind s h f.within)
 
-  pub xor_width : {m : ℕ} → m ≡ width_of s → 16 ≤ j → (m ≡ 4) ⊎ (m ≡ 16)
+  pub xor_width : {m : ℕ} → m ≡ width_of s → 16 ≤ j → Width m
   xor_width e h = ⊎_elim (λ p. inr p.0) (λ p. inl p.0) (xor_within e h)
 
   pub xor_below : 16 ≤ j → j < entry_lookups
   xor_below h = ⊎_elim (λ p. omega arith) (λ p. omega arith) (kind s h f.within)
-
-pub length_sums : (m : ℕ) (a : List ℕ) → length (sums m a) ≡ 16
-unfolding sums
-length_sums m a = length_tabulate 16 _
 
 -- ---- lookup j: a spread lookup, an XOR lookup, the last XOR lookup
 module _ (S : Shape) (j : ℕ) (t : List ℕ) (w : State) where
@@ -136,8 +125,6 @@ module _ {S : Shape} {j from m : ℕ} {t s a : List ℕ} (e : m ≡ S.width) whe
             λ n.
             at_spread S j t (state_at n s a) h
             ∙ ap (state_at (suc n) s) (ap₂ (λ (m i : ℕ). paste a (j * m) (drop (at s i * m) t) m) (sym e) (sym f) ∙ sym g.area);
-        kept = refl;
-        long = g.long;
       }
 
   pub by_xor : {n i : ℕ} {r : EntryPlace} {a' : List ℕ} → 16 ≤ j → XorMade m (j - 16) t a i a' → r ≡ nibble_place from i → n ≡ layer_lookups m
@@ -150,13 +137,11 @@ module _ {S : Shape} {j from m : ℕ} {t s a : List ℕ} (e : m ≡ S.width) whe
             λ n.
             at_xor S j t (state_at n s a) (j - 16) refl h (λ z. l (add-one j ∙ z ∙ ap layer_lookups (sym e) ∙ sym f))
             ∙ ap (state_at (suc n) s) (ap (λ (m : ℕ). xor_area m (j - 16) t a) (sym e) ∙ sym g.area);
-        kept = refl;
-        long = ap length g.area ∙ length_xor m (j - 16) t a;
       }
 
   pub by_last : {n i : ℕ} {r : EntryPlace} {x s' a' : List ℕ} → 16 ≤ j → XorMade m (j - 16) t a i x → r ≡ nibble_place from i → n ≡ layer_lookups m
-      → j + 1 ≡ n → s' ≡ sums m x → a' ≡ zero_area → length s ≡ 16 → length a ≡ 256 → LookedUp S j t from s a r s' a'
-  by_last {x = x} h g o f l p q k b =
+      → j + 1 ≡ n → s' ≡ sums m x → a' ≡ zero_area → LookedUp S j t from s a r s' a'
+  by_last h g o f l p q =
       record {
         read = o ∙ xor_place S j from m s e h g;
         table = rw (o, sym e) (nibble_within m j from _ h g.below);
@@ -164,6 +149,4 @@ module _ {S : Shape} {j from m : ℕ} {t s a : List ℕ} (e : m ≡ S.width) whe
             λ n.
             at_last S j t (state_at n s a) (j - 16) refl h (sym (add-one j) ∙ l ∙ f ∙ ap layer_lookups e)
             ∙ ap₂ (state_at (suc n)) (ap (λ (m : ℕ). sums m (xor_area m (j - 16) t a)) (sym e) ∙ ap (sums m) (sym g.area) ∙ sym p) (sym q);
-        kept = ap length p ∙ length_sums m x ∙ sym k;
-        long = ap length q ∙ length-replicate {A = ℕ} 256 0 ∙ sym b;
       }

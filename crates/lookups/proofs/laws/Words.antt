@@ -1,27 +1,27 @@
 -- Laws, not definitions: spread lookups and pairs of XOR lookups of a stage or half over the memory of a set, and the words of its groups.
 -- Assumes nothing.
 use mathlib.Core.List.{List}
-use mathlib.Core.Logic.{⊎_elim, ◌⊎◌}
+use mathlib.Core.Logic.{⊎_elim}
 use mathlib.Core.Path.{◌≡◌, refl, sym, ap, ap₂, ◌∙◌, subst}
-use Prim.Native.Nat.{ℕ, zero, suc, ◌+◌, ◌-◌, ◌*◌, ◌/◌, ◌%◌, ◌^◌, ◌≤◌, ◌<◌, min}
+use Prim.Native.Nat.{ℕ, zero, suc, ◌+◌, ◌-◌, ◌*◌, ◌/◌, ◌%◌, ◌≤◌, ◌<◌, min}
 use native.Mathlib.Nat.{add-zero}
 use native.Mathlib.Omega.{arith}
 use borrow.Author.Tests.{lt-ltb, le-ltb}
 use lib.ListN.{length, take, drop}
 use Rattle.bits.specs.Lists.{at}
-use Rattle.bits.specs.Nibbles.{nibble, set_nibble, pack, half}
-use Rattle.bits.proofs.laws.Lists.{cut, cut_is, length_cut}
+use Rattle.bits.specs.Nibbles.{nibble, set_nibble, pack}
+use Rattle.bits.proofs.laws.Lists.{cut, cut_is}
 use Rattle.bits.proofs.laws.Multiples.{row_inside}
 use Rattle.bits.proofs.laws.Nibbles.{nibble_even}
 use Rattle.network.specs.Lookups.{Shape, spread_area, xor_index, xor_area}
 use Rattle.network.specs.Order.{xors, sum_place, added_place}
 use Rattle.network.specs.Sizes.{layer_bytes}
 use Rattle.network.proofs.laws.Order.{at_div, at_mod}
-use Rattle.lookups.specs.InPlace.{SpreadIn, SpreadRead, xor_byte}
-use Rattle.lookups.specs.Layer.{WordIn, WordAt, SpreadMade, table_from, xors_in, sums_in, word_first, group_xors}
+use Rattle.lookups.specs.InPlace.{Width, SpreadRead, xor_byte}
+use Rattle.lookups.specs.Layer.{WordIn, WordAt, SpreadMade, table_from, xors_in, word_first, group_xors}
 use Rattle.lookups.specs.declared.layer.Word.{Word}
 use Rattle.lookups.proofs.laws.Area.{both_entry, xor_both}
-use Rattle.lookups.proofs.laws.Layers.{xor_at, length_xor, length_sums}
+use Rattle.lookups.proofs.laws.Layers.{xor_at, length_xor}
 
 -- ---- the parts of the memory that the tables of a layer are
 module _ (set : List ℕ) (from m k : ℕ) where
@@ -46,11 +46,6 @@ spreads_room from m bytes h = omega arith
 pub table_ends : (from m p bytes : ℕ) → from + layer_bytes m ≤ bytes → p < 16 → from + p * (256 * m) + 256 * m ≤ bytes
 table_ends from m p bytes h k = omega (arith, spreads_room from m bytes h, row_inside p (256 * m) 16 k)
 
-pub table_asked : (set : List ℕ) (from m p : ℕ) → from + layer_bytes m ≤ length set → p < 16 → m ≤ 16
-    → SpreadIn m p (length (cut set (from + p * (256 * m)) (from + p * (256 * m) + 256 * m)))
-table_asked set from m p r h b =
-    record { width = b; within = h; sized = length_cut set (from + p * (256 * m)) (256 * m) (table_ends from m p (length set) r h) }
-
 pub spread_made : {S : Shape} {set : List ℕ} {from m p : ℕ} {s a : List ℕ} {i w : ℕ} {a' : List ℕ} → m ≡ S.width → from + layer_bytes m ≤ length set → p < 16 → i ≡ S.source p
     → SpreadRead (cut set (from + p * (256 * m)) (from + p * (256 * m) + 256 * m)) m p (at s i) a w a' → SpreadMade S set from p s a (from + p * (256 * m) + w) a'
 unfolding spread_area
@@ -60,20 +55,14 @@ spread_made {S} {set} {from} {m} {p} e r h f g =
       word = rw (sym e, sym f, g.word, low) (omega arith);
       ends = rw (sym e) (omega (arith, g.ends, table_ends from m p (length set) r h));
       area = rw (sym e, sym f) (g.area ∙ rw (cut_is set (from + p * (256 * m)) (256 * m), sym (spread_table set from m p h)) refl);
-      long = g.long;
     }
 
--- ---- word t of group g: what `word_in` works out, and that nothing wraps
-pub record Room (m g t : ℕ) : Type 0 where
-  pub groups : g * m ≤ 12
-  pub sum : g * m * m ≤ 48
-  pub turns : g * (m - 1) ≤ 9
-  pub words : t * m ≤ 240
+-- ---- word t of group g: what `word_in` works out
+record Room (m g t : ℕ) : Type 0 where
   pub behind : m ≤ t * m
   pub inside : g * m * m + t * m + m ≤ 256
   pub tables : (g * (m - 1) + t - 1) * (256 * m) ≡ 128 * word_first m g t
   pub ends : 4096 * m + 128 * word_first m g t + 256 * m ≤ layer_bytes m
-  pub most : layer_bytes m ≤ 126976
 
 bytes_4 : layer_bytes 4 ≡ 28672
 unfolding layer_bytes xors
@@ -86,32 +75,22 @@ bytes_16 = refl
 room_4 : (g t : ℕ) → g < 4 → 0 < t → t < 4 → Room 4 g t
 room_4 g t h s k =
     record {
-      groups = omega arith;
-      sum = omega arith;
-      turns = omega arith;
-      words = omega arith;
       behind = omega arith;
       inside = omega arith;
       tables = omega arith;
       ends = omega (arith, bytes_4);
-      most = omega (arith, bytes_4);
     }
 
 room_16 : (g t : ℕ) → g < 1 → 0 < t → t < 16 → Room 16 g t
 room_16 g t h s k =
     record {
-      groups = omega arith;
-      sum = omega arith;
-      turns = omega arith;
-      words = omega arith;
       behind = omega arith;
       inside = omega arith;
       tables = omega arith;
       ends = omega (arith, bytes_16);
-      most = omega (arith, bytes_16);
     }
 
-pub word_room : {m g t : ℕ} → WordIn m g t → Room m g t
+word_room : {m g t : ℕ} → WordIn m g t → Room m g t
 word_room {m} {g} {t} w =
     ⊎_elim
     (λ e. subst (λ (m : ℕ). Room m g t) (sym e) (room_4 g t (subst (λ (m : ℕ). g < 16 / m) e w.group) w.some (subst (λ (m : ℕ). t < m) e w.within)))
@@ -131,31 +110,13 @@ word_at {m} w =
       ends = omega (arith, R.tables, R.ends);
     }
 
--- ---- the half of a byte, by a shift
-pub half_shifted : (x q : ℕ) → x < 256 → x / 2 ^ (4 * (1 - q % 2)) % 16 ≡ half (q % 2) x
-half_shifted x q h = go (q % 2) (omega arith)
-  where
-    go : (r : ℕ) → r < 2 → x / 2 ^ (4 * (1 - r)) % 16 ≡ half r x
-    go zero k = let e : x / 16 % 16 ≡ x / 16 = omega arith in e
-    go (suc zero) k = let e : x / 1 % 16 ≡ x % 16 = omega arith in e
-    go (suc (suc r)) k = absurd (omega arith)
-
 -- ---- the two widths
-module _ {m : ℕ} (k : (m ≡ 4) ⊎ (m ≡ 16)) where
+module _ {m : ℕ} (k : Width m) where
   -- What holds at both.
   pub by_width : (P : ℕ → Type 0) → P 4 → P 16 → P m
   by_width P p q = ⊎_elim (λ e. subst P (sym e) p) (λ e. subst P (sym e) q) k
 
-  pub is_four : (m ≡ 16 → ⊥) → m ≡ 4
-  is_four n = ⊎_elim (λ e. e) (λ e. absurd (n e)) k
-
-  pub some_width : (0 < m) × (m ≤ 16)
-  some_width = by_width (λ m. (0 < m) × (m ≤ 16)) (omega arith) (omega arith)
-
-  -- A layer has few groups, a group has some XOR lookups, and all groups have all of them.
-  pub few_groups : 16 / m ≤ 4
-  few_groups = by_width (λ m. 16 / m ≤ 4) (omega arith) (omega arith)
-
+  -- A group has some XOR lookups, and all groups have all of them.
   pub some_xors : 0 < group_xors m
   some_xors = by_width (λ m. 0 < group_xors m) (omega arith) (omega arith)
 
@@ -230,9 +191,6 @@ module _ {m g t : ℕ} {r : Word} (w : WordIn m g t) (W : WordAt m g t r) (i : �
 
   -- Their tables in the memory of a set, where those of the layer begin at byte `from`: they begin at byte `start` and lie one behind the other.
   module _ (set : List ℕ) (from start : ℕ) (s : start ≡ from + r.tables + i * 256) (room : from + layer_bytes m ≤ length set) where
-    pub pair_ends : start + 256 ≤ length set
-    pair_ends = omega (arith, W.ends, h)
-
     pub high_table : take 128 (drop start set) ≡ table_from m set from (16 + (0 + pair_first))
     high_table = sym (xor_table_lem set from m (0 + pair_first) start (omega (arith, s, W.tables)))
 
@@ -261,7 +219,3 @@ pub xors_next : (m : ℕ) (set : List ℕ) (from k : ℕ) (a : List ℕ)
     → xors_in m set from 0 (suc k) a ≡ xor_area m k (table_from m set from (16 + k)) (xors_in m set from 0 k a)
 unfolding xors_in
 xors_next m set from k a = ap (λ (y : ℕ). xor_area m y (table_from m set from (16 + y)) (xors_in m set from 0 k a)) (add-zero k)
-
-pub length_sums_in : (S : Shape) (set : List ℕ) (from : ℕ) (s a : List ℕ) → length (sums_in S set from s a) ≡ 16
-unfolding sums_in
-length_sums_in S set from s a = length_sums S.width _

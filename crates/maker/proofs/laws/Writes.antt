@@ -1,6 +1,6 @@
 -- Laws, not definitions: what the maker writes, by what the call answers.
 -- Assumes nothing.
-use mathlib.Core.Bool.{Bool, true, false, ◌||◌}
+use mathlib.Core.Bool.{Bool, true, false, or-true}
 use mathlib.Core.List.{List, ◌++◌, append-nil}
 use mathlib.Core.Path.{◌≡◌, refl, sym, ap, ◌∙◌}
 use Prim.Native.Nat.{ℕ, suc, ◌*◌, ◌<◌}
@@ -10,8 +10,6 @@ use lib.Dec.{ltb}
 use lib.ListN.{length, take, drop, length-take}
 use lib.Seq.{take_all, drop-length}
 use Rattle.answers.specs.Answers.{wants_length, and_then}
-use Rattle.answers.specs.declared.Answer.{Answer}
-use Rattle.answers.specs.declared.Answer.TheVariants.{Accepted, Refused}
 use Rattle.answers.specs.declared.Refusal.{Refusal}
 use Rattle.answers.specs.declared.Refusal.TheVariants.{KeyLength, BundleLength, SetLength}
 use Rattle.answers.proofs.laws.Tests.{first_refuses, accepted_last, test_refuses, length_right, left_new, left_old}
@@ -25,6 +23,7 @@ use Rattle.streams.specs.Lines.{or_line, refusal_line}
 use Rattle.streams.specs.Written.{Written}
 use Rattle.streams.specs.Received.{Front}
 use Rattle.maker.specs.Writes.{maker_writes, Runs, maker_writes_on, ReadsEnoughFor, ReadsEnough}
+use Rattle.answers.specs.Answer.{Answer, Accepted, Refused}
 
 -- ---- over memory of the set's size the call's answer is the judgement of key and bundle
 answer_judged : (nk key : ℕ) (l : List ℕ) (memory : ℕ) → memory ≡ set_bytes (rounds_of nk) → set_answer_for nk key l memory ≡ judged_for nk key l
@@ -69,13 +68,9 @@ runs nk k b key bundle f l g m w =
     }
 
 -- ---- a bundle that is too long is refused for its length, whatever stands in it
-always : (b : Bool) → b || true ≡ true
-always true = refl
-always false = refl
-
 bad_length : (nr : ℕ) (l : List ℕ) → longest nr < length l → length_bad nr l ≡ true
 unfolding length_bad
-bad_length nr l h = rw (lt-ltb (longest nr) (length l) h) (always (ltb (length l) (shortest nr)))
+bad_length nr l h = rw (lt-ltb (longest nr) (length l) h) (or-true (ltb (length l) (shortest nr)))
 
 too_long : (nr : ℕ) (l : List ℕ) → longest nr < length l → judge nr l ≡ Refused BundleLength
 unfolding judge frame

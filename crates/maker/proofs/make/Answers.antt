@@ -7,10 +7,10 @@ use Rattle.maker.proofs.laws.Writes.{set_written, line_written}
 use native.Mathlib.Omega.{arith}
 use Rattle.maker.proofs.make.Goals as goal
 
-pub returns-in_default : goal.returns-in_default
-returns-in_default c =
-    set_written 4 _ _ _ (c.requires ∙ sym ten.all_bytes) c.make_set-answer.ensures.answer c.make_set-answer.ensures.bytes (omega (arith, c.make_set-answer)) (search)
+pub returns-in-Ok : goal.returns-in-Ok
+returns-in-Ok c =
+    set_written 4 _ _ _ (c.requires ∙ sym ten.all_bytes) c.make_set.ensures.answer c.make_set.ensures.bytes (omega (arith, c.make_set)) (search)
 
-pub returns : goal.returns
-returns c =
-    line_written 4 _ _ _ (c.requires ∙ sym ten.all_bytes) c.make_set-answer.ensures.answer _ c.make_set-answer.ensures.bytes (search) c.refusal_line.ensures
+pub returns-in-Err : goal.returns-in-Err
+returns-in-Err c =
+    line_written 4 _ _ _ (c.requires ∙ sym ten.all_bytes) c.make_set.ensures.answer _ c.make_set.ensures.bytes (search) c.refusal_line.ensures

@@ -1,11 +1,10 @@
 -- Laws, not definitions: the lookups of a move, part by part, for any number nr of rounds and any byte `reads` that the row shift reads.
 -- Assumes nothing.
 use mathlib.Core.List.{List}
-use mathlib.Core.Path.{◌≡◌, refl, sym, ap, ap₂, ◌∙◌, subst}
+use mathlib.Core.Path.{◌≡◌, sym, ap, ap₂, ◌∙◌, subst}
 use Prim.Native.Nat.{ℕ, ◌+◌, ◌-◌, ◌≤◌, ◌<◌}
 use native.Mathlib.Numerals.{add-one}
 use native.Mathlib.Omega.{arith}
-use lib.ListN.{length, length-replicate}
 use Rattle.network.specs.Lookups.{State, state_at, zero_area}
 use Rattle.network.specs.Order.{layer_lookups}
 use Rattle.network.specs.Sizes.{offset_of}
@@ -17,9 +16,7 @@ use Rattle.layout.specs.declared.stage.Place.{Place}
 use Rattle.calls.specs.Calls.{advance, last_offset}
 use Rattle.calls.specs.PlaceRead.{InTable}
 use Rattle.calls.proofs.laws.Calls.{advance_split}
-use Rattle.lookups.specs.InPlace.{Lent}
 use Rattle.lookups.specs.Layer.{sums_in}
-use Rattle.lookups.proofs.laws.Words.{length_sums_in}
 use Rattle.layer_lookups.specs.Whole.{LayerMade, place_of_last}
 use Rattle.passes.specs.InPlace.{LookupMade}
 use Rattle.passes.specs.declared.Lookup.{Lookup}
@@ -41,16 +38,14 @@ one_made {reads} {nr} {set} {n} {s = s} {a} {s'} {a'} {r} b made =
         walk = ap (λ (x : ℕ). advance reads nr set x w) one ∙ made.walk ∙ ap (λ (k : ℕ). state_at k s' a') (sym (add-one n));
         offset = ap (λ (r : EntryPlace). r.offset) made.place ∙ ap (λ (x : ℕ). last_offset reads nr set x w) (sym one);
         inside = λ more. subst (λ (k : ℕ). InTable nr k r.offset) (let z : n ≡ n + 1 - 1 = omega arith in z) made.inside;
-        kept = made.kept;
-        long = made.long;
       };
     }
 
 module _ {reads : ℕ → ℕ} {nr : ℕ} {set : List ℕ} {n stop : ℕ} {p : Place} {s a s' a' : List ℕ}
     (e : p ≡ place_of nr n) (b : n < stop) (d : stop ≤ lookups nr) where
-  pub all_made : {all m : ℕ} {r : EntryPlace} → m ≡ width_of p.stage → all ≡ layer_lookups m → p.index ≡ 0 → all ≤ stop - n → Lent s a
+  pub all_made : {all m : ℕ} {r : EntryPlace} → m ≡ width_of p.stage → all ≡ layer_lookups m → p.index ≡ 0 → all ≤ stop - n
       → LayerMade (shape_at reads p.stage) set p.offset s a r s' a' → PartMade reads nr set n stop (n + all) r.offset s a s' a'
-  all_made {all} {m} {r} v c z b' lent f =
+  all_made {all} {m} {r} v c z b' f =
       let within : n < lookups nr = omega arith in
       let x : n + all - n ≡ all = omega arith in
       let q : all ≡ layer_lookups (width_of (stage_of nr n)) = c ∙ ap layer_lookups v ∙ ap (λ (p : Place). layer_lookups (width_of p.stage)) e in
@@ -75,8 +70,6 @@ module _ {reads : ℕ → ℕ} {nr : ℕ} {set : List ℕ} {n stop : ℕ} {p : P
               (layer_inside reads nr set n within i s a r
               (subst (λ (p : Place). WithinTable (width_of p.stage) (layer_lookups (width_of p.stage) - 1)
               (p.offset + offset_of (width_of p.stage) (layer_lookups (width_of p.stage) - 1)) r) e f.table));
-          kept = ap length f.standing ∙ length_sums_in (shape_at reads p.stage) set p.offset s a ∙ sym lent.standing;
-          long = ap length f.area ∙ length-replicate {A = ℕ} 256 0 ∙ sym lent.area;
         };
       }
 
@@ -84,24 +77,20 @@ module _ {reads : ℕ → ℕ} {nr : ℕ} {set : List ℕ} {n stop : ℕ} {p : P
 pub record Going (reads : ℕ → ℕ) (nr : ℕ) (set : List ℕ) (stop n₀ : ℕ) (s₀ a₀ s a : List ℕ) (n o : ℕ) : Type 0 where
   pub within : n ≤ stop
   pub behind : n₀ ≤ n
-  pub lent : Lent s a
   pub made : Advanced reads nr set n₀ n o s₀ a₀ s a
 
-pub going_none : {reads : ℕ → ℕ} {nr : ℕ} {set : List ℕ} {stop n o : ℕ} {s a : List ℕ} → n ≤ stop → Lent s a → o ≡ nowhere nr
+pub going_none : {reads : ℕ → ℕ} {nr : ℕ} {set : List ℕ} {stop n o : ℕ} {s a : List ℕ} → n ≤ stop → o ≡ nowhere nr
     → Going reads nr set stop n s a s a n o
 unfolding advance last_offset
-going_none {reads} {nr} {set} {n = n} {s = s} {a} h l e =
+going_none {reads} {nr} {set} {n = n} {s = s} {a} h e =
     let z : n - n ≡ 0 = omega arith in
     record {
       within = h;
       behind = omega arith;
-      lent = l;
       made = record {
         walk = ap (λ (x : ℕ). advance reads nr set x (state_at n s a)) z;
         offset = e ∙ ap (λ (x : ℕ). last_offset reads nr set x (state_at n s a)) (sym z);
         inside = λ more. absurd (omega arith);
-        kept = refl;
-        long = refl;
       };
     }
 
@@ -114,7 +103,6 @@ module _ {reads : ℕ → ℕ} {nr : ℕ} {set : List ℕ} {stop n₀ : ℕ} {s�
       record {
         within = d.most;
         behind = omega (arith, I.behind, d.more);
-        lent = record { standing = d.made.kept ∙ I.lent.standing; area = d.made.long ∙ I.lent.area };
         made = record {
           walk =
               ap (λ (x : ℕ). advance reads nr set x w₀) e
@@ -127,11 +115,5 @@ module _ {reads : ℕ → ℕ} {nr : ℕ} {set : List ℕ} {stop n₀ : ℕ} {s�
               ∙ sym (last_split reads nr set i (r - n) w₀ (omega (arith, d.more)))
               ∙ ap (λ (x : ℕ). last_offset reads nr set x w₀) (sym e);
           inside = λ more. d.made.inside d.more;
-          kept = d.made.kept ∙ I.made.kept;
-          long = d.made.long ∙ I.made.long;
         };
       }
-
-  -- At the stop all lookups are made.
-  pub going_all : stop ≤ n → Advanced reads nr set n₀ stop o s₀ a₀ s a
-  going_all h = subst (λ (k : ℕ). Advanced reads nr set n₀ k o s₀ a₀ s a) (let e : n ≡ stop = omega (arith, I.within) in e) I.made

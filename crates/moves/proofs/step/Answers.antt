@@ -18,7 +18,7 @@ pub layer_in-last-requires : goal.layer_in-last-requires
 layer_in-last-requires c =
     let within : c.args.n < lookups c.args.rounds = omega (arith, c.requires) in
     let asked = c.requires.0 in
-    (place_holds _ _ within c.place_of-p.ensures asked.rounds asked.sized c.if-index-eq0.true, asked.lent)
+    place_holds _ _ within c.place_of-p.ensures asked.rounds asked.sized c.if-index-eq0.true
 
 pub returns-then-all-stop : goal.returns-then-all-stop
 returns-then-all-stop c = search all_made
@@ -27,7 +27,7 @@ pub look_up_at-read-requires : goal.look_up_at-read-requires
 look_up_at-read-requires c =
     let within : c.args.n < lookups c.args.rounds = omega (arith, c.requires) in
     let asked = c.requires.0 in
-    (stands_in _ _ within c.place_of-p.ensures asked.rounds (omega (arith, asked.sized)), asked.lent)
+    stands_in _ _ within c.place_of-p.ensures asked.rounds (omega (arith, asked.sized))
 
 pub returns : goal.returns
 returns c =

@@ -12,29 +12,27 @@ use Rattle.bits.specs.Lists.{at, Listed, Rising}
 use Rattle.bits.proofs.laws.Listed.{head_listed, tail_listed, listed_behind, head_least, tail_rising}
 use Rattle.next_bit.specs.NextBit.{next_in}
 use Rattle.next_bit.specs.Search.{Smallest, AllBefore, SearchesExact}
-use Rattle.next_bit.specs.declared.search.NextBit.{NextBit}
-use Rattle.next_bit.specs.declared.search.NextBit.TheVariants.{Bit, NoneLeft, Refused}
 use Rattle.next_bit.proofs.laws.Runs.{next_behind, next_first}
+use Rattle.answers.proofs.laws.Tests.{same_value}
+use Rattle.std.specs.Prelude.{Ok, Some, None, Option}
 
 -- ---- what the search says is so
-abbrev Says : List ℕ → ℕ → NextBit → Type 0
-Says l from (Bit v) = Smallest l from v
-Says l from NoneLeft = AllBefore l from
-Says l from (Refused why) = ⊥
+abbrev Says : List ℕ → ℕ → Option ℕ → Type 0
+Says l from (Some v) = Smallest l from v
+Says l from None = AllBefore l from
 
 -- It says the same behind a number that lies before `from`.
-says_behind : (v : ℕ) (vs : List ℕ) (from : ℕ) → v < from → (r : NextBit) → Says vs from r → Says (v ∷ vs) from r
-says_behind v vs from h (Bit w) s = record {
+says_behind : (v : ℕ) (vs : List ℕ) (from : ℕ) → v < from → (r : Option ℕ) → Says vs from r → Says (v ∷ vs) from r
+says_behind v vs from h (Some w) s = record {
   listed = tail_listed v vs s.listed;
   reached = s.reached;
   least = λ u L a. s.least u (listed_behind v vs (λ e. omega arith) L) a;
 }
-says_behind v vs from h NoneLeft s = λ u L. by u L (ℕ_discrete v u)
+says_behind v vs from h None s = λ u L. by u L (ℕ_discrete v u)
   where
     by : (u : ℕ) → Listed (v ∷ vs) u → Dec (v ≡ u) → u < from
     by u L (yes e) = omega arith
     by u L (no n) = s u (listed_behind v vs n L)
-says_behind v vs from h (Refused why) s = s
 
 says : (l : List ℕ) → Rising l → (from : ℕ) → Says l from (next_in l from)
 says [] r from = unfold next_in in λ u L. absurd (not-suc-le-zero L.inside)
@@ -48,22 +46,20 @@ says (v ∷ vs) r from = by (dec_lt v from) (says vs (tail_rising v vs r) from)
 
 -- ---- and nothing else
 module _ (l : List ℕ) (from : ℕ) where
-  only_bit : (v : ℕ) → Smallest l from v → (r : NextBit) → Says l from r → r ≡ Bit v
-  only_bit v S (Bit w) s = ap Bit (let e : w ≡ v = omega (arith, s.least v S.listed S.reached, S.least w s.listed s.reached) in e)
-  only_bit v S NoneLeft s = absurd (omega (arith, s v S.listed, S.reached))
-  only_bit v S (Refused why) s = absurd s
+  only_bit : (v : ℕ) → Smallest l from v → (r : Option ℕ) → Says l from r → r ≡ Some v
+  only_bit v S (Some w) s = ap Some (let e : w ≡ v = omega (arith, s.least v S.listed S.reached, S.least w s.listed s.reached) in e)
+  only_bit v S None s = absurd (omega (arith, s v S.listed, S.reached))
 
-  only_none : AllBefore l from → (r : NextBit) → Says l from r → r ≡ NoneLeft
-  only_none A (Bit w) s = absurd (omega (arith, A w s.listed, s.reached))
-  only_none A NoneLeft s = refl
-  only_none A (Refused why) s = absurd s
+  only_none : AllBefore l from → (r : Option ℕ) → Says l from r → r ≡ None
+  only_none A (Some w) s = absurd (omega (arith, A w s.listed, s.reached))
+  only_none A None s = refl
 
 pub searches_exact : SearchesExact
 searches_exact l r from = record {
-  bit_only = λ v e. subst (Says l from) e (says l r from);
-  bit_if = λ v S. only_bit l from v S (next_in l from) (says l r from);
-  none_only = λ e. subst (Says l from) e (says l r from);
-  none_if = λ A. only_none l from A (next_in l from) (says l r from);
+  bit_only = λ v e. subst (Says l from) (same_value refl e) (says l r from);
+  bit_if = λ v S. ap Ok (only_bit l from v S (next_in l from) (says l r from));
+  none_only = λ e. subst (Says l from) (same_value refl e) (says l r from);
+  none_if = λ A. ap Ok (only_none l from A (next_in l from) (says l r from));
 }
 
 -- ---- one search after the other
@@ -74,8 +70,8 @@ search_start l (suc p) = suc (at l p)
 
 -- Each gives the next number of the list, and the one behind the last says that none is left.
 pub record Enumerates (l : List ℕ) : Type 0 where
-  pub each : (p : ℕ) → p < length l → next_in l (search_start l p) ≡ Bit (at l p)
-  pub end : next_in l (search_start l (length l)) ≡ NoneLeft
+  pub each : (p : ℕ) → p < length l → next_in l (search_start l p) ≡ Some (at l p)
+  pub end : next_in l (search_start l (length l)) ≡ None
 
 module _ (l : List ℕ) (r : Rising l) where
   -- Where the search for position p starts lies above every number before, and not above the number there.
@@ -107,7 +103,7 @@ module _ (l : List ℕ) (r : Rising l) where
 
 pub searches_enumerate : (l : List ℕ) → Rising l → Enumerates l
 searches_enumerate l r = record {
-  each = λ p h. (searches_exact l r (search_start l p)).bit_if (at l p) (smallest_at l r p h);
-  end = (searches_exact l r (search_start l (length l))).none_if
-      (λ u L. subst (λ (v : ℕ). v < search_start l (length l)) L.number (start_above l r (length l) L.position L.inside (omega arith)));
+  each = λ p h. same_value refl ((searches_exact l r (search_start l p)).bit_if (at l p) (smallest_at l r p h));
+  end = same_value refl ((searches_exact l r (search_start l (length l))).none_if
+      (λ u L. subst (λ (v : ℕ). v < search_start l (length l)) L.number (start_above l r (length l) L.position L.inside (omega arith))));
 }

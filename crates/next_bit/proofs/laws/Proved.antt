@@ -9,6 +9,7 @@ use native.Mathlib.Omega.{arith}
 use lib.ListN.{length, drop}
 use lib.Seq.{drop-cons, drop-length}
 use Rattle.answers.specs.Answers.{reply_of}
+use Rattle.answers.proofs.laws.Tests.{same_value}
 use Rattle.bits.specs.Flips.{flipped}
 use Rattle.bits.specs.Lists.{Listed}
 use Rattle.round.specs.Key.{rounds_of}
@@ -28,11 +29,11 @@ use Rattle.next_bit.specs.Promises.{Finds}
 use Rattle.next_bit.specs.NextBit.{next_in, next_by, bit_answer, next_bit_of}
 use Rattle.next_bit.specs.Search.{Tells}
 use Rattle.next_bit.specs.Theorems.{TestsInOrder, AnswersByLengths, GoesByCipher, Asked, ListsHad, OthersAloneMade, AnswersRestOn, BitsHad}
-use Rattle.next_bit.specs.declared.search.NextBit.{NextBit}
-use Rattle.next_bit.specs.declared.search.NextBit.TheVariants.{Bit}
 use Rattle.next_bit.proofs.laws.Calls.{next_answers, next_accepted, finds}
 use Rattle.next_bit.proofs.laws.Listed.{searches_exact, search_start, searches_enumerate}
 use Rattle.next_bit.proofs.laws.Runs.{not_both}
+use Rattle.next_bit.specs.NextBit.{NextBit}
+use Rattle.std.specs.Prelude.{Ok, Some}
 
 -- ---- what is turned down
 tests : TestsInOrder
@@ -55,17 +56,17 @@ module _ (c nr : ℕ) (set x : List ℕ) (lent : Lendable nr set x) where
   abbrev l : List ℕ
   l = bits_read (reads_of c) nr set x
 
-  found : (from : ℕ) → next_bit_of c nr set x from ≡ next_in l from
+  found : (from : ℕ) → next_bit_of c nr set x from ≡ Ok (next_in l from)
   found from = next_accepted c nr set x from (sym (good own_sizes (length set) (length x) lent.long lent.block.long))
 
   told : (from : ℕ) (r : NextBit) → Finds c nr set x from r → Tells l from r
   told from r f = subst (Tells l from) (sym (f.result ∙ found from)) (searches_exact l (sensitivity.in_order (reads_of c) nr set x lent).rising from)
 
   -- Bit i is in the list exactly if a call from i on gives i.
-  given_listed : (i : ℕ) (r : NextBit) → Finds c nr set x i r → r ≡ Bit i → Listed l i
+  given_listed : (i : ℕ) (r : NextBit) → Finds c nr set x i r → r ≡ Ok (Some i) → Listed l i
   given_listed i r f e = ((told i r f).bit_only i e).listed
 
-  listed_given : (i : ℕ) (r : NextBit) → Finds c nr set x i r → Listed l i → r ≡ Bit i
+  listed_given : (i : ℕ) (r : NextBit) → Finds c nr set x i r → Listed l i → r ≡ Ok (Some i)
   listed_given i r f p = (told i r f).bit_if i (record { listed = p; reached = le_refl i; least = λ u q h. h })
 
   -- ---- one call after the other
@@ -76,25 +77,26 @@ module _ (c nr : ℕ) (set x : List ℕ) (lent : Lendable nr set x) where
       let at_end : p ≡ length l = omega arith in
       subst (Asked c nr set x (search_start l p)) (sym (ap (λ (q : ℕ). drop q l) at_end ∙ drop-length l))
       (finds c nr set x (search_start l p)
-      (sym (found (search_start l p) ∙ ap (λ (q : ℕ). next_in l (search_start l q)) at_end ∙ (searches_enumerate l (sensitivity.in_order (reads_of c) nr set x lent).rising).end)))
+      (sym (found (search_start l p) ∙ ap (λ (q : ℕ). Ok (next_in l (search_start l q))) at_end
+      ∙ ap Ok ((searches_enumerate l (sensitivity.in_order (reads_of c) nr set x lent).rising).end))))
   asked (suc n) p e =
       let inside : p < length l = omega arith in
       subst (Asked c nr set x (search_start l p)) (sym (drop-cons l p 0 inside)) (
         finds c nr set x (search_start l p)
-            (sym (found (search_start l p) ∙ (searches_enumerate l (sensitivity.in_order (reads_of c) nr set x lent).rising).each p inside)),
+            (sym (found (search_start l p) ∙ ap Ok ((searches_enumerate l (sensitivity.in_order (reads_of c) nr set x lent).rising).each p inside))),
         asked n (suc p) (omega arith),
       )
 
   -- Calls that meet their contract give one list.
   one_list : (from : ℕ) (vs ws : List ℕ) → Asked c nr set x from vs → Asked c nr set x from ws → vs ≡ ws
   one_list from [] [] a b = refl
-  one_list from [] (w ∷ ws) a b = not_both (b.0.result ∙ sym a.result)
-  one_list from (v ∷ vs) [] a b = not_both (a.0.result ∙ sym b.result)
+  one_list from [] (w ∷ ws) a b = not_both (same_value (sym b.0.result) (sym a.result))
+  one_list from (v ∷ vs) [] a b = not_both (same_value (sym a.0.result) (sym b.result))
   one_list from (v ∷ vs) (w ∷ ws) a b =
-      let e : v ≡ w = same_bit (a.0.result ∙ sym b.0.result) in
+      let e : v ≡ w = same_bit (same_value (sym a.0.result) (sym b.0.result)) in
       ap₂ (λ (y : ℕ) (ys : List ℕ). y ∷ ys) e (one_list (suc v) vs ws a.1 (subst (λ (y : ℕ). Asked c nr set x (suc y) ws) (sym e) b.1))
     where
-      same_bit : Bit v ≡ Bit w → v ≡ w
+      same_bit : Some v ≡ Some w → v ≡ w
       same_bit e = cc
 
 lists : ListsHad

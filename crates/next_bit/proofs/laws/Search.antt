@@ -8,13 +8,11 @@ use mathlib.Core.Path.{◌≡◌, sym, ap, ap₂, ◌∙◌}
 use Prim.Native.Nat.{ℕ, ◌+◌, ◌*◌, ◌/◌, ◌≤◌, ◌<◌, max}
 use native.Mathlib.Numerals.{add-one}
 use native.Mathlib.Omega.{arith}
-use borrow.Author.Tests.{lt-ltb, le-ltb}
 use lib.Dec.{ltb}
-use lib.ListN.{length}
 use Rattle.bits.specs.Lists.{concat}
 use Rattle.layout.specs.Ciphers.{reads_of}
-use Rattle.layout.specs.Stages.{lookups, table_offset, stage_of, index_of}
-use Rattle.layout.proofs.laws.Lookup.{Sizes, widest}
+use Rattle.layout.specs.Stages.{lookups, table_offset, index_of}
+use Rattle.layout.proofs.laws.Lookup.{Sizes}
 use Rattle.layout.proofs.laws.Ranges.{in_stage}
 use Rattle.calls.specs.Calls.{to_stop, read_next}
 use Rattle.evaluate.specs.Promises.{Opens, Moves}
@@ -26,21 +24,9 @@ use Rattle.passes.specs.InPlace.{place_told, LookupMade}
 use Rattle.passes.specs.declared.Lookup.{Lookup}
 use Rattle.passes.proofs.laws.Walking.{Walking, walking_more}
 use Rattle.next_bit.specs.NextBit.{next_in}
-use Rattle.next_bit.specs.declared.search.NextBit.TheVariants.{Bit, NoneLeft}
 use Rattle.next_bit.proofs.laws.Runs.{next_passed, next_found}
 use Rattle.next_bit.proofs.laws.Skipped.{none_before, walking_moved}
-
--- ---- how many bits a lookup reads
-module _ (m j : ℕ) where
-  pub bits_spread : j < 16 → 8 * m ≡ entry_bits m j
-  bits_spread h = ap (λ (b : Bool). cond b (8 * m) 4) (sym (lt-ltb j 16 h))
-
-  pub bits_xor : 16 ≤ j → 4 ≡ entry_bits m j
-  bits_xor h = ap (λ (b : Bool). cond b (8 * m) 4) (sym (le-ltb j 16 h))
-
--- The words of a lookup have at most 16 bytes.
-pub width_fits : {reads : ℕ → ℕ} {nr : ℕ} {set : List ℕ} {n : ℕ} {s a s' a' : List ℕ} {r : Lookup} → LookupMade reads nr set n s a r s' a' → r.width ≤ 16
-width_fits {nr = nr} {n = n} made = omega (arith, made.width, widest (stage_of nr n))
+use Rattle.std.specs.Prelude.{Some, None}
 
 -- Every lookup of a set reads some.
 some_bits : (nr n : ℕ) → n < lookups nr → 0 < bits_at nr n
@@ -54,16 +40,16 @@ some_bits nr n h = ⊎_elim (λ e. rw e (by (ltb (index_of nr n) 16) 4 (omega ar
 pub record Seeking (c nr count : ℕ) (set block : List ℕ) (from : ℕ) (s a : List ℕ) (n : ℕ) : Type 0 where
   pub within : n ≤ count
   pub walk : Walking (reads_of c) nr set block s a n
-  pub passed : next_in (concat n (run_at (reads_of c) nr set block)) from ≡ NoneLeft
+  pub passed : next_in (concat n (run_at (reads_of c) nr set block)) from ≡ None
 
 module _ {c nr count : ℕ} {set block : List ℕ} {from : ℕ} where
   -- A walk was moved to a stop whose table begins at or before `from`.
   pub seeking_moved : {bytes : ℕ} → Sizes nr count bytes → Lendable nr set block → {stop : ℕ} → stop ≤ count → table_offset nr stop ≤ from / 8
       → {o : Opening} → Opens c block o → {m : Move} → Moves nr (to_stop set stop) o.walk m
-      → length m.walk.standing ≡ 16 → length m.walk.area ≡ 256 → Seeking c nr count set block from m.walk.standing m.walk.area stop
-  seeking_moved N lent {stop} h l opens moves kept long =
+      → Seeking c nr count set block from m.walk.standing m.walk.area stop
+  seeking_moved N lent {stop} h l opens moves =
       let inside : stop ≤ lookups nr = omega (arith, N.all_lookups) in
-      record { within = h; walk = walking_moved c lent inside opens moves kept long; passed = none_before c lent from stop inside (omega arith) }
+      record { within = h; walk = walking_moved c lent inside opens moves; passed = none_before c lent from stop inside (omega arith) }
 
   module _ {s a : List ℕ} {n : ℕ} (S : Seeking c nr count set block from s a n) where
     -- Lookup n is made, and m is how many bits it reads.
@@ -75,35 +61,35 @@ module _ {c nr count : ℕ} {set block : List ℕ} {from : ℕ} where
       first_is : first_bit (place_told r) ≡ first_read (reads_of c) nr set block n
       first_is = ap first_bit (made.place ∙ ap (read_next (reads_of c) nr) (sym S.walk.walk))
 
-      found : from < first_bit (place_told r) + bits_at nr n → Bit (max from (first_bit (place_told r))) ≡ next_in (bits_read (reads_of c) nr set block) from
+      found : from < first_bit (place_told r) + bits_at nr n → Some (max from (first_bit (place_told r))) ≡ next_in (bits_read (reads_of c) nr set block) from
       unfolding bits_read
       found l =
-          ap (λ (i : ℕ). Bit (max from i)) first_is
+          ap (λ (i : ℕ). Some (max from i)) first_is
           ∙ sym (next_found (first_read (reads_of c) nr set block) (bits_at nr) from (lookups nr) n inside S.passed (some_bits nr n inside) (omega (arith, first_is)))
 
       -- It lies behind `from`.
-      pub seeking_first : from < first_bit (place_told r) → Bit (first_bit (place_told r)) ≡ next_in (bits_read (reads_of c) nr set block) from
-      seeking_first l = ap Bit (let e : first_bit (place_told r) ≡ max from (first_bit (place_told r)) = omega arith in e) ∙ found (omega arith)
+      pub seeking_first : from < first_bit (place_told r) → Some (first_bit (place_told r)) ≡ next_in (bits_read (reads_of c) nr set block) from
+      seeking_first l = ap Some (let e : first_bit (place_told r) ≡ max from (first_bit (place_told r)) = omega arith in e) ∙ found (omega arith)
 
       module _ {m : ℕ} (told : m ≡ entry_bits r.width r.index) where
         bits : m ≡ bits_at nr n
         bits = told ∙ ap₂ entry_bits made.width made.index
 
         -- `from` is one of them.
-        pub seeking_here : first_bit (place_told r) ≤ from → from < first_bit (place_told r) + m → Bit from ≡ next_in (bits_read (reads_of c) nr set block) from
-        seeking_here k l = ap Bit (let e : from ≡ max from (first_bit (place_told r)) = omega arith in e) ∙ found (omega (arith, bits))
+        pub seeking_here : first_bit (place_told r) ≤ from → from < first_bit (place_told r) + m → Some from ≡ next_in (bits_read (reads_of c) nr set block) from
+        seeking_here k l = ap Some (let e : from ≡ max from (first_bit (place_told r)) = omega arith in e) ∙ found (omega (arith, bits))
 
         -- They lie before `from`.
         pub seeking_next : first_bit (place_told r) + m ≤ from → Seeking c nr count set block from s' a' (n + 1)
         seeking_next l = record {
           within = omega arith;
-          walk = walking_more S.walk made.walk made.kept made.long;
+          walk = walking_more S.walk made.walk;
           passed =
               ap (λ (k : ℕ). next_in (concat k (run_at (reads_of c) nr set block)) from) (add-one n)
               ∙ next_passed (first_read (reads_of c) nr set block) (bits_at nr) from n S.passed (omega (arith, first_is, bits));
         }
 
-    pub seeking_all : {bytes : ℕ} → Sizes nr count bytes → count ≤ n → NoneLeft ≡ next_in (bits_read (reads_of c) nr set block) from
+    pub seeking_all : {bytes : ℕ} → Sizes nr count bytes → count ≤ n → None ≡ next_in (bits_read (reads_of c) nr set block) from
     unfolding bits_read
     seeking_all N h =
         let e : n ≡ lookups nr = omega (arith, S.within, N.all_lookups) in

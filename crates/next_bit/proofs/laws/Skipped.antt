@@ -6,7 +6,6 @@ use mathlib.Core.List.{List}
 use mathlib.Core.Path.{◌≡◌, refl, sym, ap, ◌∙◌}
 use Prim.Native.Nat.{ℕ, zero, suc, ◌+◌, ◌-◌, ◌*◌, ◌≤◌, ◌<◌}
 use native.Mathlib.Omega.{arith}
-use lib.ListN.{length}
 use Rattle.bits.specs.Lists.{concat}
 use Rattle.network.specs.Lookups.{State, state_at}
 use Rattle.layout.specs.Ciphers.{reads_of}
@@ -26,8 +25,8 @@ use Rattle.sensitivity.proofs.laws.Calls.{started_is, moved}
 use Rattle.sensitivity.proofs.laws.Unread.{state_count, most}
 use Rattle.passes.proofs.laws.Walking.{Walking}
 use Rattle.next_bit.specs.NextBit.{next_in}
-use Rattle.next_bit.specs.declared.search.NextBit.TheVariants.{NoneLeft}
 use Rattle.next_bit.proofs.laws.Runs.{next_passed}
+use Rattle.std.specs.Prelude.{None}
 
 -- ---- where the tables of half h of the rounds begin, of the exit for the h behind the last
 module _ (nr h : ℕ) (some : h ≤ 2 * (nr - 1)) where
@@ -61,7 +60,7 @@ exit_offset nr r byte e h =
 -- ---- a walk over a memory of the right length, moved to a stop
 module _ (c : ℕ) {nr : ℕ} {set block : List ℕ} (lent : Lendable nr set block) where
   -- The lookups before a table that begins at or before `from` read no bit at or behind it.
-  pub none_before : (from n : ℕ) → n ≤ lookups nr → 8 * table_offset nr n ≤ from → next_in (concat n (run_at (reads_of c) nr set block)) from ≡ NoneLeft
+  pub none_before : (from n : ℕ) → n ≤ lookups nr → 8 * table_offset nr n ≤ from → next_in (concat n (run_at (reads_of c) nr set block)) from ≡ None
   unfolding next_in concat
   none_before from zero h l = refl
   none_before from (suc n) h l =
@@ -69,9 +68,9 @@ module _ (c : ℕ) {nr : ℕ} {set block : List ℕ} (lent : Lendable nr set blo
       (omega (arith, most (reads_of c) nr set block lent n h))
 
   pub walking_moved : {stop : ℕ} → stop ≤ lookups nr → {o : Opening} → Opens c block o → {m : Move} → Moves nr (to_stop set stop) o.walk m
-      → length m.walk.standing ≡ 16 → length m.walk.area ≡ 256 → Walking (reads_of c) nr set block m.walk.standing m.walk.area stop
-  walking_moved {stop} h {o} opens {m} moves kept long =
-      record { kept = kept; long = long; walk = sym there ∙ ap (λ (n : ℕ). state_at n m.walk.standing m.walk.area) count }
+      → Walking (reads_of c) nr set block m.walk.standing m.walk.area stop
+  walking_moved {stop} h {o} opens {m} moves =
+      record { walk = sym there ∙ ap (λ (n : ℕ). state_at n m.walk.standing m.walk.area) count }
     where
       there : state_at m.walk.count m.walk.standing m.walk.area ≡ state_from (reads_of c) nr set block stop
       there =

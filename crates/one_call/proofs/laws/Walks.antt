@@ -5,8 +5,6 @@ use mathlib.Core.Path.{◌≡◌, sym, ◌∙◌}
 use Prim.Native.Nat.{ℕ}
 use lib.ListN.{length}
 use Rattle.answers.specs.Answers.{wants_length}
-use Rattle.answers.specs.declared.Answer.{Answer}
-use Rattle.answers.specs.declared.Answer.TheVariants.{Accepted, Refused}
 use Rattle.answers.specs.declared.Refusal.{Refusal}
 use Rattle.answers.specs.declared.Refusal.TheVariants.{BlockLength}
 use Rattle.answers.proofs.laws.Tests.{first_refuses, second_decides, length_wrong, length_right, left_new, left_old}
@@ -18,12 +16,13 @@ use Rattle.evaluate.specs.declared.walk.Move.{Move}
 use Rattle.evaluate.specs.declared.walk.Opening.{Opening}
 use Rattle.evaluate.proofs.laws.Whole.{whole_walk}
 use Rattle.one_call.specs.Walks.{walk_answer_for, walk_leaves_for}
+use Rattle.answers.specs.Answer.{Answer, Accepted, Refused}
 
 -- ---- The answer, test by test, behind the answer w for set and block.
 module _ (nr set block answer : ℕ) {w : Answer} (e : w ≡ judge_whole nr set block) where
-  pub bad_whole : {r : Refusal} → w ≡ Refused r → w ≡ walk_answer_for nr set block answer
+  pub bad_whole : {r : Refusal} → w ≡ Refused r → Refused r ≡ walk_answer_for nr set block answer
   unfolding walk_answer_for
-  bad_whole f = f ∙ first_refuses _ _ _ (sym e ∙ f)
+  bad_whole f = first_refuses _ _ _ (sym e ∙ f)
 
   by_last : w ≡ Accepted → wants_length 16 answer BlockLength ≡ walk_answer_for nr set block answer
   unfolding walk_answer_for

@@ -6,11 +6,9 @@ use Rattle.layout.proofs.laws.Cases.{starred}
 use Rattle.one_call.proofs.laws.Walks.{walk_refused, walk_done}
 use Rattle.one_call.proofs.walk.Goals as goal
 
-pub returns-in_default : goal.returns-in_default
-returns-in_default c =
-    record { answer = c.judged-a.ensures; block = search walk_refused }
+pub returns-in_err-judged-clause-block : goal.returns-in_err-judged-clause-block
+returns-in_err-judged-clause-block c = walk_refused _ _ _ _ _ c.judged.ensures c.in_err-judged.was
 
-pub returns : goal.returns
-returns c =
-    let left = walk_done _ _ _ _ _ c.judged-a.ensures (search) starred.all_lookups c.start-opening.ensures c.move_to-moved.ensures c.fetch.ensures in
-    record { answer = c.judged-a.ensures; block = left }
+pub returns-clause-block : goal.returns-clause-block
+returns-clause-block c =
+    walk_done _ _ _ _ _ c.judged.ensures c.in_ok-judged.was starred.all_lookups c.start-opening.ensures c.move_to-moved.ensures c.fetch.ensures

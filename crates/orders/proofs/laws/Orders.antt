@@ -10,7 +10,6 @@ use lib.ListN.{length, get_or, set, take, drop, length-drop, length-set, drop_of
 use lib.Seq.{take_all, take-nil, drop-cons, drop-drop, take-suc-set, drop-set-lt}
 use Rattle.answers.specs.Answers.{reply_of, returned}
 use Rattle.answers.specs.Numbers.{number_of}
-use Rattle.answers.specs.declared.Answer.{Answer}
 use Rattle.answers.proofs.laws.Numbers.{number_is}
 use Rattle.bits.proofs.laws.Lists.{cut, cut_is}
 use Rattle.layout.specs.Stages.{nowhere, place_of}
@@ -21,6 +20,7 @@ use Rattle.evaluate.specs.Held.{held}
 use Rattle.evaluate.specs.declared.walk.Move.{Move}
 use Rattle.evaluate.specs.declared.walk.Walk.{Walk}
 use Rattle.orders.specs.Orders.{one_order, fetch_order, call_for, block_behind, last_block, numbers_of, calls_of, OneServed, AllServed}
+use Rattle.answers.specs.Answer.{Answer}
 
 -- ---- the part of the memory where a table stands: nothing, all that is left, or the table
 module _ (nr n : ℕ) (mem : List ℕ) (p : Place) (e : p ≡ place_of nr n) where
@@ -97,10 +97,11 @@ serving_none = record { within = omega arith; kept = refl; sized = refl; rest = 
 
 module _ {nr : ℕ} {mem : List ℕ} {w₀ : Walk} {orders lent : List ℕ} {w : Walk} {t block : List ℕ} {i : ℕ}
     (I : Serving nr mem w₀ orders lent w t block i) where
-  pub serving_more : {r : Move} {left : List ℕ} {v : ℕ} → i < length t → OneServed nr mem (get_or t i 0) w block r left → length left ≡ length block
+  pub serving_more : {r : Move} {left : List ℕ} {v : ℕ} → i < length orders → OneServed nr mem (get_or t i 0) w block r left → length left ≡ length block
       → v ≡ number_of r.answer → Serving nr mem w₀ orders lent r.walk (set t i v) left (i + 1)
   unfolding calls_of serve last_walk last_block
-  serving_more {r} {left} {v} h d s e =
+  serving_more {r} {left} {v} b d s e =
+      let h : i < length t = omega (arith, b, I.kept) in
       let o : ℕ = get_or t i 0 in
       let c : Call = call_for nr mem o w.count block in
       let os : List ℕ = drop (i + 1) orders in
@@ -128,10 +129,11 @@ module _ {nr : ℕ} {mem : List ℕ} {w₀ : Walk} {orders lent : List ℕ} {w :
         left = I.left ∙ ap (block_of nr mem (held w) block) next ∙ ap₂ (λ (u : Held) (b : List ℕ). block_of nr mem u b os) was block-was;
       }
 
-  pub serving_all : length t ≤ i → AllServed nr mem w₀ orders lent w t block
+  pub serving_all : length orders ≤ i → AllServed nr mem w₀ orders lent w t block
   unfolding calls_of serve last_walk last_block
-  serving_all h =
-      let end : drop i orders ≡ [] = drop_of_length-le orders {i = i} (omega (arith, I.kept)) in
+  serving_all b =
+      let h : length t ≤ i = omega (arith, b, I.kept) in
+      let end : drop i orders ≡ [] = drop_of_length-le orders {i = i} b in
       record {
         walk = sym (I.walk ∙ ap (walk_of nr mem (held w) block) end);
         numbers =

@@ -1,10 +1,5 @@
-use Prim.Native.Nat.{◌-◌}
-use lib.ListN.{length}
 use Rattle.orders.proofs.laws.Orders.{Serving}
 use Rattle.orders.proofs.serve_orders.Given as goal
 
 abbrev pub invariant-loop-i : goal.invariant-loop-i
 invariant-loop-i l = Serving 10 l.set l.initial.w l.initial.orders l.initial.block l.w l.orders l.block l.i
-
-abbrev pub decreases-loop-i : goal.decreases-loop-i
-decreases-loop-i l = length l.initial.orders - l.i

@@ -3,13 +3,12 @@
 use mathlib.Core.Path.{◌≡◌, sym, ◌∙◌}
 use Prim.Native.Nat.{ℕ}
 use Rattle.answers.specs.Answers.{wants_length}
-use Rattle.answers.specs.declared.Answer.{Answer}
-use Rattle.answers.specs.declared.Answer.TheVariants.{Accepted, Refused}
 use Rattle.answers.specs.declared.Refusal.TheVariants.{SetLength, BlockLength}
 use Rattle.answers.proofs.laws.Tests.{both, first_refuses, second_decides, length_wrong, length_right, length_was}
 use Rattle.layout.specs.Stages.{set_bytes}
 use Rattle.layout.proofs.laws.Lookup.{Sizes}
 use Rattle.calls.specs.Calls.{judge_whole}
+use Rattle.answers.specs.Answer.{Answer, Accepted, Refused}
 
 module _ {nr count bytes : ℕ} (N : Sizes nr count bytes) (set block : ℕ) where
   pub bad_set : (set ≡ bytes → ⊥) → Refused SetLength ≡ judge_whole nr set block

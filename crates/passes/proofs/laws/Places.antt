@@ -2,7 +2,6 @@
 -- shift reads; and what lookups at that place ask.
 -- Assumes nothing.
 use mathlib.Core.List.{List}
-use mathlib.Core.Logic.{◌⊎◌}
 use mathlib.Core.Path.{◌≡◌, refl, sym, ap, ◌∙◌, subst}
 use Prim.Native.Nat.{ℕ, suc, ◌+◌, ◌≤◌, ◌<◌}
 use native.Mathlib.Omega.{arith}
@@ -21,7 +20,7 @@ use Rattle.layout.proofs.laws.Rounds.{most_bytes}
 use Rattle.calls.specs.Calls.{advance, read_next}
 use Rattle.calls.specs.PlaceRead.{InTable}
 use Rattle.calls.proofs.laws.PlaceRead.{in_table}
-use Rattle.lookups.specs.InPlace.{Fits, LookedUp}
+use Rattle.lookups.specs.InPlace.{Width, Fits, LookedUp}
 use Rattle.lookups.specs.Layer.{LayerStands}
 use Rattle.passes.specs.InPlace.{StandsIn, MadeAt, LookupMade}
 use Rattle.passes.specs.declared.Lookup.{Lookup}
@@ -31,7 +30,7 @@ module _ (nr n : ℕ) {p : Place} (h : n < lookups nr) (e : p ≡ place_of nr n)
   place : Stands nr n p
   place = stands h e
 
-  pub place_width : {m : ℕ} → m ≡ width_of p.stage → (m ≡ 4) ⊎ (m ≡ 16)
+  pub place_width : {m : ℕ} → m ≡ width_of p.stage → Width m
   place_width f = rw f place.width
 
   -- The table of a lookup ends in the set.
@@ -97,6 +96,4 @@ lookup_made {reads} {nr} {set} {n} {s = s} {a} h e at =
       walk =
           ap (λ (p : Place). lookup (shapes reads nr) (take p.size (drop p.offset set)) (state_at n s a)) (sym e)
           ∙ looked_up reads nr n h e at.made;
-      kept = at.made.kept;
-      long = at.made.long;
     }

@@ -6,7 +6,6 @@ use mathlib.Core.Path.{◌≡◌, sym, ap, ◌∙◌}
 use Prim.Native.Nat.{ℕ, suc, ◌+◌, ◌<◌}
 use native.Mathlib.Numerals.{add-one}
 use native.Mathlib.Omega.{arith}
-use lib.ListN.{length, length-replicate}
 use Rattle.network.specs.Lookups.{state_at, zero_area}
 use Rattle.layout.specs.Stages.{set_bytes}
 use Rattle.layout.proofs.laws.Lookup.{tables_in_set}
@@ -23,21 +22,17 @@ read_in_set {nr = nr} made = omega (arith, made.inside.somewhere, tables_in_set 
 
 -- ---- the loops: the first n lookups of the walk from a block have left standing bytes s and area a
 pub record Walking (reads : ℕ → ℕ) (nr : ℕ) (set block s a : List ℕ) (n : ℕ) : Type 0 where
-  pub kept : length s ≡ 16
-  pub long : length a ≡ 256
   pub walk : state_from reads nr set block n ≡ state_at n s a
 
-pub walking_none : {reads : ℕ → ℕ} {nr : ℕ} {set block s : List ℕ} → length block ≡ 16 → s ≡ block → Walking reads nr set block s zero_area 0
+pub walking_none : {reads : ℕ → ℕ} {nr : ℕ} {set block s : List ℕ} → s ≡ block → Walking reads nr set block s zero_area 0
 unfolding advance
-walking_none h e = record { kept = ap length e ∙ h; long = length-replicate {A = ℕ} 256 0; walk = ap (λ (s : List ℕ). state_at 0 s zero_area) (sym e) }
+walking_none e = record { walk = ap (λ (s : List ℕ). state_at 0 s zero_area) (sym e) }
 
 -- One lookup more, of which the code has what it leaves.
 pub walking_more : {reads : ℕ → ℕ} {nr : ℕ} {set block s a : List ℕ} {n : ℕ} → Walking reads nr set block s a n
-    → {s' a' : List ℕ} → advance reads nr set 1 (state_at n s a) ≡ state_at (suc n) s' a' → length s' ≡ length s → length a' ≡ length a
+    → {s' a' : List ℕ} → advance reads nr set 1 (state_at n s a) ≡ state_at (suc n) s' a'
     → Walking reads nr set block s' a' (n + 1)
-walking_more {reads} {nr} {set} {block} {n = n} W {s'} {a'} walk kept long = record {
-  kept = kept ∙ W.kept;
-  long = long ∙ W.long;
+walking_more {reads} {nr} {set} {block} {n = n} W {s'} {a'} walk = record {
   walk =
       advance_split reads nr set n 1 (state_at 0 block zero_area)
       ∙ ap (advance reads nr set 1) W.walk

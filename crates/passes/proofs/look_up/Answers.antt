@@ -7,7 +7,7 @@ use Rattle.passes.proofs.look_up.Goals as goal
 
 pub look_up_at-requires : goal.look_up_at-requires
 look_up_at-requires c =
-    (stands_in _ _ c.requires.within c.place_of.ensures c.requires.rounds (omega arith), c.requires.lent)
+    stands_in _ _ c.requires.within c.place_of.ensures c.requires.rounds (omega arith)
 
 pub returns : goal.returns
 returns c =

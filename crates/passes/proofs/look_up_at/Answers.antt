@@ -1,15 +1,8 @@
 -- `passes::look_up_at` meets its contract. By the `requires` the table at the place ends within the set, so no sum wraps, and the part that is lent has the
 -- table's length; `lookup_in` makes the lookup over it, and `width_of` ensures the bytes of a word (`made_at` of `laws.Places`).
 -- Assumes nothing.
-use mathlib.Core.Path.{◌∙◌}
-use Rattle.bits.proofs.laws.Lists.{length_cut}
 use Rattle.passes.proofs.laws.Places.{made_at}
 use Rattle.passes.proofs.look_up_at.Goals as goal
-
-pub lookup_in-read-requires : goal.lookup_in-read-requires
-lookup_in-read-requires c =
-    let fits = c.requires.0.fits in
-    (record { within = fits.within; sized = length_cut _ _ _ c.requires.0.ends ∙ fits.sized; short = fits.short }, c.requires.1)
 
 pub returns : goal.returns
 returns c =

@@ -6,8 +6,6 @@ use mathlib.Core.Path.{◌≡◌, sym, ap, ◌∙◌}
 use Prim.Native.Nat.{ℕ, ◌-◌, ◌*◌, ◌≤◌}
 use native.Mathlib.Omega.{arith}
 use lib.ListN.{length}
-use Rattle.answers.specs.declared.Answer.{Answer}
-use Rattle.answers.specs.declared.Answer.TheVariants.{Accepted}
 use Rattle.answers.proofs.laws.Tests.{left_new}
 use Rattle.network.specs.Lookups.{State, state_at, zero_area}
 use Rattle.layout.specs.Ciphers.{kept, reads_of}
@@ -26,6 +24,7 @@ use Rattle.records.specs.Promises.{Records}
 use Rattle.records.specs.Record.{walk_at, record_of}
 use Rattle.records.specs.Replay.{record_left}
 use Rattle.records.proofs.laws.Judged.{lengths_were}
+use Rattle.answers.specs.Answer.{Answer, Accepted}
 
 -- The count of the record's walk.
 pub count_is : (c nr : ℕ) (set block : List ℕ) (n : ℕ) → n ≤ lookups nr → (walk_at c nr set block n).count ≡ n

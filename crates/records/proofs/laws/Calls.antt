@@ -7,27 +7,22 @@ use Prim.Native.Nat.{ℕ}
 use lib.ListN.{length}
 use Rattle.answers.specs.Answers.{reply_of}
 use Rattle.answers.specs.Search.{first}
-use Rattle.answers.specs.declared.Answer.{Answer}
-use Rattle.answers.specs.declared.Answer.TheVariants as answer
-use Rattle.answers.specs.declared.Answer.TheVariants.{Accepted}
 use Rattle.answers.specs.declared.Refusal.{Refusal}
-use Rattle.answers.specs.declared.found.Found.{Found}
-use Rattle.answers.specs.declared.found.Found.TheVariants.{At, Nothing}
 use Rattle.answers.proofs.laws.Tests.{left_new, left_old}
 use Rattle.layout.specs.Stages.{lookups}
 use Rattle.layout.proofs.laws.Lookup.{Sizes}
 use Rattle.records.specs.Promises.{Records, Replays}
 use Rattle.records.specs.Record.{record_of}
-use Rattle.records.specs.Replay.{judge_record, record_left, differs_at, told, verdict_by, verdict_answer, replayed}
+use Rattle.records.specs.Replay.{judge_record, record_left, differs_at, verdict_by, verdict_answer, replayed}
 use Rattle.records.specs.Theorems.{ReplayAnswers}
-use Rattle.records.specs.declared.replay.Verdict.{Verdict}
-use Rattle.records.specs.declared.replay.Verdict.TheVariants.{Refused}
+use Rattle.answers.specs.Answer.{Answer, Accepted, Refused}
+use Rattle.records.specs.Replay.{Verdict}
+use Rattle.std.specs.Prelude.{Ok, Err, Option}
 
 -- ---- the answer in what a replay hands back
-answered : (a : Answer) (f : Found) → verdict_answer (verdict_by a (told f)) ≡ a
-answered Accepted Nothing = refl
-answered Accepted (At k) = refl
-answered (answer.Refused r) f = refl
+answered : (a : Answer) (f : Option ℕ) → verdict_answer (verdict_by a f) ≡ a
+answered Accepted f = refl
+answered (Refused r) f = refl
 
 pub replay_answers : ReplayAnswers
 unfolding replayed
@@ -40,7 +35,7 @@ replays c nr set block rec e =
 
 module _ (c nr : ℕ) (set block l : List ℕ) {a : Answer} (e : a ≡ judge_record nr (length set) (length block) (length l)) where
   -- ---- the record of a walk, into memory that held l
-  pub not_recorded : {why : Refusal} → a ≡ answer.Refused why → Records c nr set block l a l
+  pub not_recorded : {why : Refusal} → a ≡ Refused why → Records c nr set block l a l
   unfolding record_left
   not_recorded {why} f = record { answer = e; bytes = left_old _ why _ l (sym e ∙ f) }
 
@@ -49,15 +44,15 @@ module _ (c nr : ℕ) (set block l : List ℕ) {a : Answer} (e : a ≡ judge_rec
   recorded f d = record { answer = e; bytes = d ∙ left_new _ _ l (sym e ∙ f) }
 
   -- ---- the replay of the record l
-  judges : {b : Answer} → a ≡ b → (v : Verdict) → verdict_by b v ≡ verdict_by (judge_record nr (length set) (length block) (length l)) v
+  judges : {b : Answer} → a ≡ b → (v : Option ℕ) → verdict_by b v ≡ verdict_by (judge_record nr (length set) (length block) (length l)) v
   judges f v = ap (λ (x : Answer). verdict_by x v) (sym f ∙ e)
 
-  pub not_replayed : {why : Refusal} → a ≡ answer.Refused why → Replays c nr set block l (Refused why)
+  pub not_replayed : {why : Refusal} {r : Verdict} → a ≡ Refused why → r ≡ Err why → Replays c nr set block l r
   unfolding replayed
-  not_replayed f = replays c nr set block l (judges f _)
+  not_replayed f d = replays c nr set block l (d ∙ judges f _)
 
-  pub replay_done : {count bytes : ℕ} → Sizes nr count bytes → {r : Verdict} → a ≡ Accepted → r ≡ told (first count (differs_at c nr set block l))
-      → Replays c nr set block l r
+  pub replay_done : {count bytes : ℕ} → Sizes nr count bytes → {f : Option ℕ} → a ≡ Accepted → f ≡ first count (differs_at c nr set block l)
+      → Replays c nr set block l (Ok f)
   unfolding replayed
-  replay_done N f d =
-      replays c nr set block l (d ∙ ap (λ (n : ℕ). told (first n (differs_at c nr set block l))) (sym N.all_lookups) ∙ judges f _)
+  replay_done N a d =
+      replays c nr set block l (ap Ok (d ∙ ap (λ (n : ℕ). first n (differs_at c nr set block l)) (sym N.all_lookups)) ∙ judges a _)

@@ -1,19 +1,20 @@
 -- Laws, not definitions: the test whether two parts of records are the same, byte by byte, and the search for the first entry of which they have other bytes.
 -- Assumes nothing.
+use Rattle.std.specs.Prelude.{None}
 use mathlib.Core.Bool.{Bool, true, false, not, ◌&&◌}
 use mathlib.Core.List.{List, [], ◌∷◌}
 use mathlib.Core.Path.{◌≡◌, refl, sym, ap, ap₂, ◌∙◌}
 use Prim.Native.Nat.{ℕ, ◌+◌, ◌*◌, ◌≤◌, ◌<◌}
 use native.Mathlib.Omega.{arith}
-use borrow.Author.Count.{below_none, below_more}
-use borrow.Author.Tests.{eq-eqb, ne_eqb, eqb-true}
+use borrow.Author.Tests.{eq-eqb, eqb-true}
 use lib.Dec.{eqb}
 use lib.ListN.{length}
-use Rattle.answers.proofs.laws.Tests.{clash}
+use Rattle.answers.specs.Search.{first}
+use Rattle.answers.proofs.laws.Search.{all_none}
 use Rattle.bits.specs.Lists.{at, part_of}
 use Rattle.bits.proofs.laws.Lists.{ext_at, cut, cut_is}
 use Rattle.layer_record.specs.Entries.{entry_size}
-use Rattle.records.specs.InPlace.{other_in, FirstOther}
+use Rattle.records.specs.InPlace.{other_in}
 use Rattle.records.specs.Replay.{same}
 
 -- ---- two lists are the same, by the test
@@ -28,13 +29,6 @@ and_false false = refl
 and_true : (x : Bool) → x ≡ (x && true)
 and_true true = refl
 and_true false = refl
-
--- A bool, and whether two numbers are the same.
-pub and_other : (x : Bool) (a b : ℕ) → (a ≡ b → ⊥) → false ≡ (x && eqb a b)
-and_other x a b n = and_false x ∙ ap (λ (t : Bool). x && t) (sym (ne_eqb a b n))
-
-pub and_alike : (x : Bool) (a b : ℕ) → a ≡ b → x ≡ (x && eqb a b)
-and_alike x a b e = and_true x ∙ ap (λ (t : Bool). x && t) (sym (eq-eqb a b e))
 
 pub same_only : (a b : List ℕ) → same a b ≡ true → a ≡ b
 unfolding same
@@ -57,25 +51,7 @@ pub record Alike (a b : List ℕ) (alike : Bool) (i : ℕ) : Type 0 where
   pub yes : alike ≡ true → (j : ℕ) → j < i → at a j ≡ at b j
   pub no : alike ≡ false → a ≡ b → ⊥
 
-pub alike_none : {a b : List ℕ} → length a ≡ length b → Alike a b true 0
-alike_none l = record { within = omega arith; long = l; yes = λ e. below_none _; no = λ e f. let y : ◌≡◌ {A = ℕ} 0 1 = cc in absurd (omega arith) }
-
 module _ {a b : List ℕ} {alike : Bool} {i : ℕ} (A : Alike a b alike i) where
-  pub alike_more : {r : Bool} → i < length a → r ≡ (alike && eqb (at a i) (at b i)) → Alike a b r (i + 1)
-  alike_more {r} h e =
-      record {
-        within = omega arith;
-        long = A.long;
-        yes = λ f. let d = both_true alike (eqb (at a i) (at b i)) (sym e ∙ f) in below_more _ i (A.yes d.0) (eqb-true (at a i) (at b i) d.1);
-        no = λ f q. differ alike refl (sym e ∙ f) q;
-      }
-    where
-      differ : (x : Bool) → alike ≡ x → (alike && eqb (at a i) (at b i)) ≡ false → a ≡ b → ⊥
-      differ true g f q =
-          let t : eqb (at a i) (at b i) ≡ true = eq-eqb (at a i) (at b i) (ap (λ (l : List ℕ). at l i) q) in
-          clash (alike && eqb (at a i) (at b i)) (ap₂ (λ (p q : Bool). p && q) g t) f
-      differ false g f q = A.no g q
-
   pub alike_all : {n : ℕ} → n ≡ length a → n ≤ i → alike ≡ same a b
   alike_all {n} l h = by alike refl (same a b) refl
     where
@@ -84,33 +60,15 @@ module _ {a b : List ℕ} {alike : Bool} {i : ℕ} (A : Alike a b alike i) where
       by false g true f = absurd (A.no g (same_only a b f))
       by false g false f = g ∙ sym f
 
--- ---- the first entry of which two parts of records have other bytes: the first k are the same
-pub record Searching (a b : List ℕ) (n k : ℕ) : Type 0 where
-  pub within : k ≤ n
-  pub before : (i : ℕ) → i < k → other_in a b i ≡ false
-
-pub all_alike : (a b : List ℕ) (n : ℕ) {r : Bool} → r ≡ same a b → r ≡ true → FirstOther n (other_in a b) n
+-- ---- the search for the first of n entries of which two parts of records have other bytes
+-- Where the parts are the same there is none.
+pub all_alike : (a b : List ℕ) (n : ℕ) {r : Bool} → r ≡ same a b → r ≡ true → None ≡ first n (other_in a b)
 all_alike a b n e f =
-    record {
-      within = omega arith;
-      before = λ i h. ap (λ (l : List ℕ). other_in a l i) (sym (same_only a b (sym e ∙ f))) ∙ ap not (same_if (part_of entry_size a i));
-      here = λ h. absurd (omega arith);
-    }
+    sym (all_none n (other_in a b) (λ i. other_in a b i ≡ false) (λ i e. e) (λ i e. e)
+    (λ i h. ap (λ (l : List ℕ). other_in a l i) (sym (same_only a b (sym e ∙ f))) ∙ ap not (same_if (part_of entry_size a i))))
 
-pub searching_none : {a b : List ℕ} {n : ℕ} → Searching a b n 0
-searching_none = record { within = omega arith; before = below_none _ }
-
-module _ {a b : List ℕ} {n k : ℕ} (s : Searching a b n k) {r : Bool} (h : k < n)
-    (e : r ≡ same (cut a (k * entry_size) (k * entry_size + entry_size)) (cut b (k * entry_size) (k * entry_size + entry_size))) where
-  other_is : not r ≡ other_in a b k
-  unfolding part_of
-  other_is = ap not (e ∙ ap₂ same (cut_is a (k * entry_size) entry_size) (cut_is b (k * entry_size) entry_size))
-
-  pub searching_here : r ≡ false → FirstOther n (other_in a b) k
-  searching_here t = record { within = omega arith; before = s.before; here = λ h. sym other_is ∙ ap not t }
-
-  pub searching_more : r ≡ true → Searching a b n (k + 1)
-  searching_more t = record { within = omega arith; before = below_more _ k s.before (sym other_is ∙ ap not t) }
-
-pub searching_all : {a b : List ℕ} {n k : ℕ} → Searching a b n k → n ≤ k → FirstOther n (other_in a b) n
-searching_all s h = record { within = omega arith; before = λ i g. s.before i (omega arith); here = λ g. absurd (omega arith) }
+-- Entry k, as the code cuts it.
+pub other_cut : (a b : List ℕ) (k : ℕ) {r : Bool} → r ≡ same (cut a (k * entry_size) (k * entry_size + entry_size)) (cut b (k * entry_size) (k * entry_size + entry_size))
+    → not r ≡ other_in a b k
+unfolding part_of
+other_cut a b k e = ap not (e ∙ ap₂ same (cut_is a (k * entry_size) entry_size) (cut_is b (k * entry_size) entry_size))

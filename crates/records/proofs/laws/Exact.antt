@@ -9,10 +9,6 @@ use borrow.Author.Tests.{eq-eqb, eqb-true, not-false}
 use lib.Dec.{eqb}
 use lib.ListN.{length}
 use Rattle.answers.specs.Search.{first, FirstBad}
-use Rattle.answers.specs.declared.Answer.{Answer}
-use Rattle.answers.specs.declared.Answer.TheVariants.{Accepted}
-use Rattle.answers.specs.declared.found.Found.{Found}
-use Rattle.answers.specs.declared.found.Found.TheVariants.{At, Nothing}
 use Rattle.answers.proofs.laws.Search.{none_all, all_none, at_bad, bad_at}
 use Rattle.bits.specs.Lists.{at, part_of}
 use Rattle.bits.proofs.laws.Cuts.{part_at, part_length}
@@ -23,12 +19,13 @@ use Rattle.layout.proofs.laws.Lookup.{own_sizes}
 use Rattle.layer_record.specs.Entries.{entry_size}
 use Rattle.layer_record.proofs.laws.Entries.{length_written}
 use Rattle.records.specs.Record.{entry_at, record_of, record_bytes, entry_in}
-use Rattle.records.specs.Replay.{judge_record, same, differs_at, told, verdict_by, replayed}
+use Rattle.records.specs.Replay.{judge_record, same, differs_at, verdict_by, replayed}
 use Rattle.records.specs.Theorems.{Agrees, OtherAt, OtherByte, ReplaysExact}
-use Rattle.records.specs.declared.replay.Verdict.{Verdict}
-use Rattle.records.specs.declared.replay.Verdict.TheVariants.{Own, Differs, Refused}
 use Rattle.records.proofs.laws.Compare.{same_only, same_if}
 use Rattle.records.proofs.laws.Judged.{lengths_were}
+use Rattle.answers.specs.Answer.{Answer, Accepted}
+use Rattle.answers.proofs.laws.Tests.{same_value}
+use Rattle.std.specs.Prelude.{Ok, Some, None, Option}
 
 -- ---- the record of a walk, by entries
 module _ (c nr : ℕ) (set block : List ℕ) where
@@ -62,24 +59,9 @@ module _ (n : ℕ) (f g : ℕ → ℕ) where
   some_place : (((i : ℕ) → i < n → f i ≡ g i) → ⊥) → OtherAt n f g
   some_place differ = by (first n another) refl
     where
-      by : (r : Found) → first n another ≡ r → OtherAt n f g
-      by Nothing e = absurd (differ (none_all n another (λ i. f i ≡ g i) equal none e))
-      by (At i) e = let B = at_bad n another (λ i. f i ≡ g i) equal none i e in record { place = i; within = B.below; other = B.here }
-
--- ---- what a verdict tells of the search
-told_own : (f : Found) → told f ≡ Own → f ≡ Nothing
-told_own Nothing e = refl
-told_own (At k) e = let z : ◌≡◌ {A = ℕ} 0 1 = cc in absurd (omega arith)
-
-lookup_in : Verdict → ℕ
-lookup_in Own = 0
-lookup_in (Differs k) = k
-lookup_in (Refused r) = 0
-
-told_at : (f : Found) (k : ℕ) → told f ≡ Differs k → f ≡ At k
-unfolding lookup_in
-told_at Nothing k e = let z : ◌≡◌ {A = ℕ} 0 1 = cc in absurd (omega arith)
-told_at (At j) k e = ap At (ap lookup_in e)
+      by : (r : Option ℕ) → first n another ≡ r → OtherAt n f g
+      by None e = absurd (differ (none_all n another (λ i. f i ≡ g i) equal none e))
+      by (Some i) e = let B = at_bad n another (λ i. f i ≡ g i) equal none i e in record { place = i; within = B.below; other = B.here }
 
 -- ---- the replay of a record of the right length
 module _ (c nr : ℕ) (set block rec : List ℕ) (ok : judge_record nr (length set) (length block) (length rec) ≡ Accepted) where
@@ -92,9 +74,9 @@ module _ (c nr : ℕ) (set block rec : List ℕ) (ok : judge_record nr (length s
   long : length rec ≡ record_bytes nr
   long = (lengths_were own_sizes _ _ _ refl ok).2
 
-  found : replayed c nr set block rec ≡ told (first (lookups nr) p)
+  found : replayed c nr set block rec ≡ Ok (first (lookups nr) p)
   unfolding replayed
-  found = ap (λ (a : Answer). verdict_by a (told (first (lookups nr) p))) ok
+  found = ap (λ (a : Answer). verdict_by a (first (lookups nr) p)) ok
 
   -- Entry k is the walk's.
   abbrev Same : ℕ → Type 0
@@ -117,20 +99,20 @@ module _ (c nr : ℕ) (set block rec : List ℕ) (ok : judge_record nr (length s
       (λ i b. part_at entry_size rec k i b ∙ A i b ∙ sym (part_at entry_size own k i b))
       ∙ record_entry c nr set block k h
 
-  first_only : (k : ℕ) → replayed c nr set block rec ≡ Differs k → FirstBad (lookups nr) (Agrees c nr set block rec) k
+  first_only : (k : ℕ) → replayed c nr set block rec ≡ Ok (Some k) → FirstBad (lookups nr) (Agrees c nr set block rec) k
   first_only k e =
-      let B = at_bad (lookups nr) p Same to from k (told_at _ k (sym found ∙ e)) in
+      let B = at_bad (lookups nr) p Same to from k (same_value found e) in
       record { below = B.below; before = λ i h. agrees i (omega (arith, B.below)) (B.before i h); here = λ A. B.here (agreed k B.below A) }
 
-  first_if : (k : ℕ) → FirstBad (lookups nr) (Agrees c nr set block rec) k → replayed c nr set block rec ≡ Differs k
+  first_if : (k : ℕ) → FirstBad (lookups nr) (Agrees c nr set block rec) k → replayed c nr set block rec ≡ Ok (Some k)
   first_if k B =
-      found ∙ ap told (bad_at (lookups nr) p Same to from k
+      found ∙ ap Ok (bad_at (lookups nr) p Same to from k
       (record { below = B.below; before = λ i h. agreed i (omega (arith, B.below)) (B.before i h); here = λ e. B.here (agrees k B.below e) }))
 
   -- All bytes are the walk's where all entries are.
-  own_only : replayed c nr set block rec ≡ Own → rec ≡ own
+  own_only : replayed c nr set block rec ≡ Ok None → rec ≡ own
   own_only e =
-      let all = none_all (lookups nr) p Same to from (told_own _ (sym found ∙ e)) in
+      let all = none_all (lookups nr) p Same to from (same_value found e) in
       ext_at (record_bytes nr) rec own long (record_long c nr set block) (λ x h. byte_by_byte x h (all (x / entry_size) (omega arith)))
     where
       byte_by_byte : (x : ℕ) → x < record_bytes nr → Same (x / entry_size) → at rec x ≡ at own x
@@ -138,11 +120,11 @@ module _ (c nr : ℕ) (set block rec : List ℕ) (ok : judge_record nr (length s
           let e : x ≡ x / entry_size * entry_size + x % entry_size = omega arith in
           ap (at rec) e ∙ agrees (x / entry_size) (omega arith) s (x % entry_size) (omega arith) ∙ ap (at own) (sym e)
 
-  own_if : rec ≡ own → replayed c nr set block rec ≡ Own
+  own_if : rec ≡ own → replayed c nr set block rec ≡ Ok None
   own_if e =
-      found ∙ ap told (all_none (lookups nr) p Same to from (λ k h. ap (λ (l : List ℕ). entry_in l k) e ∙ record_entry c nr set block k h))
+      found ∙ ap Ok (all_none (lookups nr) p Same to from (λ k h. ap (λ (l : List ℕ). entry_in l k) e ∙ record_entry c nr set block k h))
 
-  other_byte : (k : ℕ) → replayed c nr set block rec ≡ Differs k → OtherByte c nr set block rec k
+  other_byte : (k : ℕ) → replayed c nr set block rec ≡ Ok (Some k) → OtherByte c nr set block rec k
   other_byte k e = some_place entry_size (λ i. at rec (k * entry_size + i)) (λ i. at own (k * entry_size + i)) (first_only k e).here
 
 pub replays_exact : ReplaysExact

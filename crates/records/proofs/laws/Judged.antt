@@ -3,8 +3,6 @@
 use mathlib.Core.Path.{◌≡◌, refl, sym, ap, ◌∙◌}
 use Prim.Native.Nat.{ℕ, ◌*◌}
 use Rattle.answers.specs.Answers.{wants_length}
-use Rattle.answers.specs.declared.Answer.{Answer}
-use Rattle.answers.specs.declared.Answer.TheVariants.{Accepted, Refused}
 use Rattle.answers.specs.declared.Refusal.{Refusal}
 use Rattle.answers.specs.declared.Refusal.TheVariants.{RecordLength}
 use Rattle.answers.proofs.laws.Tests.{both, first_refuses, second_decides, length_wrong, length_right, length_was}
@@ -14,12 +12,13 @@ use Rattle.passes.proofs.laws.Judged as passes
 use Rattle.layer_record.specs.Entries.{entry_size}
 use Rattle.records.specs.Record.{record_bytes}
 use Rattle.records.specs.Replay.{judge_record}
+use Rattle.answers.specs.Answer.{Answer, Accepted, Refused}
 
 -- ---- behind the answer w for set and block
 module _ (nr set block rec : ℕ) {w : Answer} (e : w ≡ judge_whole nr set block) where
-  pub bad_whole : {r : Refusal} → w ≡ Refused r → w ≡ judge_record nr set block rec
+  pub bad_whole : {r : Refusal} → w ≡ Refused r → Refused r ≡ judge_record nr set block rec
   unfolding judge_record
-  bad_whole f = f ∙ first_refuses _ _ _ (sym e ∙ f)
+  bad_whole f = first_refuses _ _ _ (sym e ∙ f)
 
   by_last : w ≡ Accepted → wants_length (record_bytes nr) rec RecordLength ≡ judge_record nr set block rec
   unfolding judge_record

@@ -1,7 +1,7 @@
 -- Laws, not definitions: the two loops over a walk, one that writes its record and one that compares a record with it, a stage or half a turn, for any number nr of
 -- rounds.
 -- Assumes nothing.
-use mathlib.Core.Bool.{false, not}
+use mathlib.Core.Bool.{Bool, false, not}
 use mathlib.Core.List.{List}
 use mathlib.Core.Logic.{⊎_elim}
 use mathlib.Core.Path.{◌≡◌, sym, ap, ap₂, ◌∙◌, subst}
@@ -10,10 +10,9 @@ use native.Mathlib.Decide.{dec_lt}
 use native.Mathlib.Omega.{arith}
 use borrow.Author.Count.{below_none}
 use borrow.Rule.Slice.PartMut.{put_mid, same_len_mid}
-use lib.ListN.{length, length-take, length-drop, length-replicate}
-use Rattle.answers.specs.Search.{first}
-use Rattle.answers.proofs.laws.Search.{all_none, bad_at}
-use Rattle.answers.proofs.laws.Tests.{clash}
+use lib.ListN.{length, length-take, length-drop}
+use Rattle.answers.specs.Search.{FirstBad, first}
+use Rattle.answers.proofs.laws.Search.{none_all, all_none, at_bad, bad_at}
 use Rattle.bits.specs.Lists.{concat, part_of}
 use Rattle.bits.proofs.laws.Lists.{cut}
 use Rattle.bits.proofs.laws.Offsets.{concat_row}
@@ -29,9 +28,8 @@ use Rattle.layout.proofs.laws.Ranges.{in_stage}
 use Rattle.layout.proofs.laws.Rounds.{most_lookups}
 use Rattle.layout.proofs.laws.Stages.{lookups_16, lookups_4}
 use Rattle.calls.specs.Calls.{state_from}
-use Rattle.lookups.specs.InPlace.{offset_limit, Lent}
+use Rattle.lookups.specs.InPlace.{offset_limit}
 use Rattle.lookups.specs.Layer.{LayerStands}
-use Rattle.lookups.proofs.laws.Words.{length_sums_in}
 use Rattle.passes.proofs.laws.Places.{place_width, place_holds}
 use Rattle.passes.proofs.laws.Walking.{Walking, walking_none}
 use Rattle.layer_record.specs.Entries.{entry_size}
@@ -39,10 +37,10 @@ use Rattle.layer_record.specs.Layer.{LayerRecorded}
 use Rattle.layer_record.proofs.laws.Entries.{length_written}
 use Rattle.records.specs.InPlace.{other_in, CompareAsked, LayerCompared}
 use Rattle.records.specs.Record.{entry_at, record_of, record_bytes}
-use Rattle.records.specs.Replay.{same, differs_at, told}
-use Rattle.records.specs.declared.replay.Verdict.TheVariants.{Own, Differs}
+use Rattle.records.specs.Replay.{same, differs_at}
 use Rattle.records.proofs.laws.Recorded.{layer_left, layer_walked, parts_several, part_of_part}
 use Rattle.passes.proofs.laws.Stages.{starts, next_starts}
+use Rattle.std.specs.Prelude.{Option, Some, None}
 
 -- ---- the walk, at the first lookup n of a stage or half or behind the last
 pub record Standing (c nr : ℕ) (set block s a : List ℕ) (n : ℕ) : Type 0 where
@@ -50,9 +48,9 @@ pub record Standing (c nr : ℕ) (set block s a : List ℕ) (n : ℕ) : Type 0 w
   pub first : n < lookups nr → index_of nr n ≡ 0
   pub walk : Walking (reads_of c) nr set block s a n
 
-standing_none : {c nr : ℕ} {set block s : List ℕ} → length block ≡ 16 → s ≡ block → Standing c nr set block s zero_area 0
+standing_none : {c nr : ℕ} {set block s : List ℕ} → s ≡ block → Standing c nr set block s zero_area 0
 unfolding index_of
-standing_none l e = record { within = omega arith; first = λ h. omega arith; walk = walking_none l e }
+standing_none e = record { within = omega arith; first = λ h. omega arith; walk = walking_none e }
 
 -- ---- a stage or half, by its place p, of which the code has the width m and the number of lookups
 pub record Counted (nr n : ℕ) (p : Place) (m all : ℕ) : Type 0 where
@@ -91,9 +89,6 @@ module _ {nr n : ℕ} {p : Place} {m all : ℕ} (H : Counted nr n p m all) where
     pub layer_stands : Rounds nr → length set ≡ set_bytes nr → LayerStands p.stage p.offset (length set)
     layer_stands R l = place_holds nr n H.inside H.place R l (ap (λ (p : Place). p.index) H.place ∙ W.first H.inside)
 
-    pub layer_lent : Lent s a
-    layer_lent = record { standing = W.walk.kept; area = W.walk.long }
-
     module _ {s' a' left : List ℕ} (r : LayerRecorded (shape_at (reads_of c) p.stage) set p.offset s a s' a' left) where
       recorded_there : LayerRecorded (shape_at (reads_of c) (stage_of nr n)) set (place_of nr n).offset s a s' a' left
       recorded_there = subst (λ (p : Place). LayerRecorded (shape_at (reads_of c) p.stage) set p.offset s a s' a' left) H.place r
@@ -112,8 +107,6 @@ module _ {nr n : ℕ} {p : Place} {m all : ℕ} (H : Counted nr n p m all) where
                 ap (λ (k : ℕ). index_of nr (n + k)) all_is
                 ∙ next_starts nr n H.inside (W.first H.inside) (omega (arith, all_is));
             walk = record {
-              kept = ap length r.standing ∙ length_sums_in (shape_at (reads_of c) p.stage) set p.offset s a;
-              long = ap length r.area ∙ length-replicate {A = ℕ} 256 0;
               walk = subst (λ (k : ℕ). state_from (reads_of c) nr set block (n + k) ≡ state_at (n + k) s' a') (sym all_is)
                   (layer_walked c nr set block n H.inside (W.first H.inside) s a W.walk.walk recorded_there);
             };
@@ -124,8 +117,8 @@ pub record Recording (c nr : ℕ) (set block d₀ d s a : List ℕ) (n : ℕ) : 
   pub stands : Standing c nr set block s a n
   pub parts : Parts (lookups nr) entry_size (entry_at c nr set block) d₀ d n
 
-pub recording_none : {c nr : ℕ} {set block d s : List ℕ} → length block ≡ 16 → s ≡ block → length d ≡ record_bytes nr → Recording c nr set block d d s zero_area 0
-recording_none h e l = record { stands = standing_none h e; parts = parts_none (omega arith) }
+pub recording_none : {c nr : ℕ} {set block d s : List ℕ} → s ≡ block → length d ≡ record_bytes nr → Recording c nr set block d d s zero_area 0
+recording_none e l = record { stands = standing_none e; parts = parts_none (omega arith) }
 
 module _ {c nr : ℕ} {set block d₀ d s a : List ℕ} {n : ℕ} (R : Recording c nr set block d₀ d s a n) where
   module _ {p : Place} {m all : ℕ} (H : Counted nr n p m all) where
@@ -156,9 +149,9 @@ pub record Comparing (c nr : ℕ) (set block rec s a own : List ℕ) (n : ℕ) :
   pub before : (i : ℕ) → i < n → differs_at c nr set block rec i ≡ false
   pub room : length own ≡ entry_lookups * entry_size
 
-pub comparing_none : {c nr : ℕ} {set block rec s own : List ℕ} → length block ≡ 16 → s ≡ block → length own ≡ entry_lookups * entry_size
+pub comparing_none : {c nr : ℕ} {set block rec s own : List ℕ} → s ≡ block → length own ≡ entry_lookups * entry_size
     → Comparing c nr set block rec s zero_area own 0
-comparing_none h e r = record { stands = standing_none h e; before = below_none _; room = r }
+comparing_none e r = record { stands = standing_none e; before = below_none _; room = r }
 
 module _ {c nr : ℕ} {set block rec s a own : List ℕ} {n : ℕ} (C : Comparing c nr set block rec s a own n) where
   module _ {p : Place} {m all : ℕ} (H : Counted nr n p m all) (whole : length rec ≡ record_bytes nr) where
@@ -173,54 +166,65 @@ module _ {c nr : ℕ} {set block rec s a own : List ℕ} {n : ℕ} (C : Comparin
     own_room = omega (arith, all_most H, C.room)
 
     pub compare_asked : Rounds nr → length set ≡ set_bytes nr
-        → CompareAsked p.stage p.offset (length set) all s a (cut rec (n * entry_size) ((n + all) * entry_size)) (cut own 0 (all * entry_size))
+        → CompareAsked p.stage p.offset (length set) all (cut rec (n * entry_size) ((n + all) * entry_size)) (cut own 0 (all * entry_size))
     compare_asked R l = record {
       stands = layer_stands H C.stands R l;
-      lent = layer_lent H C.stands;
       counted = count_is H;
       record_sized = simp (length-take, length-drop) (omega (arith, record_room));
       own_sized = simp (length-take, length-drop) (omega (arith, own_room));
     }
 
-    -- The lookups are made, with what is recorded of them in ys, and k is the first that differs.
-    module _ {s' a' ys : List ℕ} {k : ℕ}
-        (r : LayerCompared (shape_at (reads_of c) p.stage) set p.offset s a s' a' (cut rec (n * entry_size) ((n + all) * entry_size)) ys all k) where
-      other_is : (i : ℕ) → i < all → other_in part ys i ≡ differs_at c nr set block rec (n + i)
+    -- The lookups are made, with what is recorded of them in ys, and f is the first that differs.
+    module _ {s' a' ys : List ℕ} {f : Option ℕ}
+        (r : LayerCompared (shape_at (reads_of c) p.stage) set p.offset s a s' a' (cut rec (n * entry_size) ((n + all) * entry_size)) ys all f) where
+      abbrev others : ℕ → Bool
+      others = other_in part ys
+
+      other_is : (i : ℕ) → i < all → others i ≡ differs_at c nr set block rec (n + i)
       unfolding part_of
       other_is i b =
           ap₂ (λ (u v : List ℕ). not (same u v)) (part_of_part entry_size rec n all i record_room b)
           (ap (λ (l : List ℕ). part_of entry_size l i) (left_is H C.stands r.made)
           ∙ concat_row entry_size (λ k. entry_at c nr set block (n + k)) all (λ k b. length_written _) i b)
 
-      passed : (i : ℕ) → i < n + k → differs_at c nr set block rec i ≡ false
-      passed i b = elim (dec_lt i n) [
+      -- Where the first k of them are the same, the first n + k lookups are.
+      passed : (k : ℕ) → k ≤ all → ((i : ℕ) → i < k → others i ≡ false) → (i : ℕ) → i < n + k → differs_at c nr set block rec i ≡ false
+      passed k h e i b = elim (dec_lt i n) [
         | yes q ↦ C.before i q
         | no q ↦
             let same : n + (i - n) ≡ i = omega arith in
             subst (λ (j : ℕ). differs_at c nr set block rec j ≡ false) same
-            (sym (other_is (i - n) (omega (arith, r.found.within))) ∙ r.found.before (i - n) (omega arith))
+            (sym (other_is (i - n) (omega arith)) ∙ e (i - n) (omega arith))
       ]
 
-      pub comparing_here : k < all → Differs (n + k) ≡ told (first (lookups nr) (differs_at c nr set block rec))
-      comparing_here b =
-          ap told (sym (bad_at (lookups nr) (differs_at c nr set block rec) (λ i. differs_at c nr set block rec i ≡ false) (λ i e. e) (λ i e. e) (n + k)
-          (record {
-            below = omega (arith, all_within H C.stands);
-            before = passed;
-            here = λ no. clash (differs_at c nr set block rec (n + k)) (sym (other_is k b) ∙ r.found.here b) no;
-          })))
+      -- Lookup k of them is the first that differs.
+      module _ {k : ℕ} (e : f ≡ Some k) where
+        first_here : FirstBad all (λ i. others i ≡ false) k
+        first_here = at_bad all others (λ i. others i ≡ false) (λ i e. e) (λ i e. e) k (sym r.found ∙ e)
+
+        pub found_below : k < all
+        found_below = first_here.below
+
+        pub comparing_here : Some (n + k) ≡ first (lookups nr) (differs_at c nr set block rec)
+        comparing_here =
+            sym (bad_at (lookups nr) (differs_at c nr set block rec) (λ i. differs_at c nr set block rec i ≡ false) (λ i e. e) (λ i e. e) (n + k)
+            (record {
+              below = omega (arith, first_here.below, all_within H C.stands);
+              before = passed k (omega (arith, first_here.below)) first_here.before;
+              here = λ no. first_here.here (other_is k first_here.below ∙ no);
+            }))
 
       -- None does, and the part of `own` comes back with ys.
-      pub comparing_next : all ≤ k → length ys ≡ length (cut own 0 (all * entry_size))
+      pub comparing_next : f ≡ None → length ys ≡ length (cut own 0 (all * entry_size))
           → Comparing c nr set block rec s' a' (put_mid 0 (all * entry_size - 0) own ys) (n + all)
-      comparing_next b l =
+      comparing_next e l =
           record {
             stands = standing_next H C.stands r.made;
-            before = λ i t. passed i (omega arith);
+            before = passed all (omega arith) (none_all all others (λ i. others i ≡ false) (λ i e. e) (λ i e. e) (sym r.found ∙ e));
             room = same_len_mid 0 (all * entry_size - 0) own ys l ∙ C.room;
           }
 
-  pub comparing_all : lookups nr ≤ n → Own ≡ told (first (lookups nr) (differs_at c nr set block rec))
+  pub comparing_all : lookups nr ≤ n → None ≡ first (lookups nr) (differs_at c nr set block rec)
   comparing_all h =
-      ap told (sym (all_none (lookups nr) (differs_at c nr set block rec) (λ i. differs_at c nr set block rec i ≡ false) (λ i e. e) (λ i e. e)
-      (λ i b. C.before i (omega arith))))
+      sym (all_none (lookups nr) (differs_at c nr set block rec) (λ i. differs_at c nr set block rec i ≡ false) (λ i e. e) (λ i e. e)
+      (λ i b. C.before i (omega arith)))

@@ -5,8 +5,6 @@ use mathlib.Core.Path.{◌≡◌, sym, ap, ◌∙◌, subst}
 use Prim.Native.Nat.{ℕ, suc, ◌+◌, ◌-◌, ◌*◌, ◌≤◌, ◌<◌}
 use native.Mathlib.Omega.{arith}
 use lib.ListN.{length}
-use Rattle.answers.specs.declared.Answer.{Answer}
-use Rattle.answers.specs.declared.Answer.TheVariants.{Accepted}
 use Rattle.bits.specs.Bytes.{Bytes}
 use Rattle.bits.specs.Lists.{at}
 use Rattle.bits.specs.Nibbles.{nibble}
@@ -28,6 +26,7 @@ use Rattle.records.specs.Values.{PutDown, ValuesPutDown}
 use Rattle.records.proofs.laws.Accepted.{count_is, left_is, right, moved}
 use Rattle.records.proofs.laws.Entry.{value_byte, value_spread, value_xor}
 use Rattle.records.proofs.laws.Exact.{record_entry}
+use Rattle.answers.specs.Answer.{Answer, Accepted}
 
 -- ---- one lookup, said by the place r that it reads in a memory
 -- What it put down is what is recorded of it.

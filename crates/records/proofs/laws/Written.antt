@@ -7,8 +7,6 @@ use Prim.Native.Nat.{ℕ, suc, ◌-◌, ◌*◌, ◌^◌, ◌≤◌, ◌<◌}
 use native.Mathlib.Omega.{arith}
 use lib.ListN.{length, take, get_or-append}
 use lib.Seq.{take-append_seam}
-use Rattle.answers.specs.declared.Answer.{Answer}
-use Rattle.answers.specs.declared.Answer.TheVariants.{Accepted}
 use Rattle.answers.proofs.laws.Tests.{reply_was, left_back}
 use Rattle.bits.specs.Bytes.{Bytes, number_of, bytes_of}
 use Rattle.bits.specs.Lists.{at}
@@ -38,6 +36,7 @@ use Rattle.records.proofs.laws.Accepted.{count_is, left_is, right, opened, moved
 use Rattle.records.proofs.laws.Entry.{value_byte, value_xor}
 use Rattle.records.proofs.laws.Exact.{record_long, record_entry, replays_exact}
 use Rattle.records.proofs.laws.Judged.{good}
+use Rattle.answers.specs.Answer.{Answer, Accepted}
 
 -- ---- the bytes of an entry, read again
 module _ (e : Entry) where

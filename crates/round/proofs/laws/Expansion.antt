@@ -1,6 +1,6 @@
--- Laws, not definitions: of the loop that lays out the key and of the one that expands it, from what each call ensures.
+-- Laws, not definitions: of the loop that expands the key, from what each call ensures.
 -- Assumes nothing.
-use mathlib.Core.Path.{◌≡◌, refl, sym, ap, ap₂, ◌∙◌}
+use mathlib.Core.Path.{◌≡◌, sym, ap, ap₂, ◌∙◌}
 use mathlib.Core.List.{List, [], ◌∷◌, ◌++◌, append_assoc}
 use Prim.Native.Nat.{ℕ, suc, ◌+◌, ◌-◌, ◌*◌, ◌≤◌, ◌<◌}
 use native.Mathlib.Omega.{arith}
@@ -8,13 +8,8 @@ use lib.ListN.{length, take, set, length-set}
 use lib.Seq.{take_all}
 use Rattle.bits.specs.Lists.{at, tabulate}
 use Rattle.bits.proofs.laws.Lists.{put_one, tabulate_at}
-use Rattle.bits.proofs.laws.Filled.{Filled, filled_front}
 use Rattle.round.specs.Key.{word_at, xor_word, temp, next_word_of, expand, put_word, rounds_of, KeyExpansion}
 use Rattle.round.proofs.laws.Key.{word_take}
-
--- ---- The loop that lays out the key fills the front of the memory.
-pub laid : {m : ℕ} {key w : List ℕ} {i : ℕ} → Filled m (at key) w i → length key ≤ i → take (length key) w ≡ key
-laid {key = key} F h = filled_front F h ∙ tabulate_at (length key) key refl
 
 -- ---- A word of four bytes, written over word i: what then stands up to its end.
 put_four : (w : List ℕ) (i : ℕ) (x : List ℕ) → 4 * i + 4 ≤ length w

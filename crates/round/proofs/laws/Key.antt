@@ -1,4 +1,4 @@
--- Laws, not definitions: of the key expansion word by word, of the loop that adds a round key, and that round keys are bytes.
+-- Laws, not definitions: of the key expansion word by word, of the sum with a round key, and that round keys are bytes.
 -- Assumes nothing.
 use mathlib.Core.Path.{◌≡◌, sym, ap, ◌∙◌}
 use mathlib.Core.Bool.{Bool, true, false, cond, ◌&&◌}
@@ -16,15 +16,14 @@ use lib.Seq.{get_or-take, get_or-drop}
 use Rattle.bits.specs.Lists.{at, tabulate}
 use Rattle.bits.specs.Bytes.{Bytes}
 use Rattle.bits.proofs.laws.Lists.{tabulate_ext, tabulate_below, append_below, at_past}
-use Rattle.bits.proofs.laws.Filled.{Filled}
 use Rattle.bits.proofs.laws.Checked as checked
 use Rattle.field.specs.Field.{xtime}
 use Rattle.field.proofs.laws.Field.{xtime_lt}
 use Rattle.field.proofs.laws.Sbox.{sbox_lt}
 use Rattle.round.specs.Key.{rcon, word_at, RotWord, SubWord, xor_word, Rcon, temp, next_word_of, expand, rounds_of, KeyExpansion, key_of}
 use Rattle.round.specs.RoundKeys.{RoundKeyBytes}
-use Rattle.round.specs.State.{cell, AddRoundKey}
-use Rattle.round.proofs.laws.State.{filled_state}
+use Rattle.round.specs.State.{AddRoundKey}
+use Rattle.round.proofs.laws.State.{added_is}
 
 -- The first bytes of the round constants, as the code has them: ten are the most that a key asks for.
 unfoldable pub rcon_table : List ℕ
@@ -85,13 +84,9 @@ pub key_at : (w : List ℕ) (n i : ℕ) → i < 16 → at (key_of w n) i ≡ at 
 unfolding key_of
 key_at w n i h = get_or-take 16 (drop (16 * n) w) i 0 h ∙ get_or-drop (16 * n) w i 0
 
--- A state to whose bytes those of round key n were added, one after the other.
-pub add_filled : (s w : List ℕ) (n : ℕ) {t : List ℕ} {i : ℕ} → Filled 16 (λ k. bit_xor (at s k) (at w (16 * n + k))) t i → 16 ≤ i
-    → t ≡ AddRoundKey s (key_of w n)
-unfolding AddRoundKey
-add_filled s w n =
-    filled_state (λ r c. bit_xor (cell s r c) (cell (key_of w n) r c)) (λ k. bit_xor (at s k) (at w (16 * n + k)))
-    (λ r c p q. ap (bit_xor (cell s r c)) (sym (key_at w n (r + 4 * c) (omega arith))))
+-- A state to whose bytes those of round key n are added.
+pub added : (s w : List ℕ) (n : ℕ) → tabulate 16 (λ k. bit_xor (at s k) (at w (16 * n + k))) ≡ AddRoundKey s (key_of w n)
+added s w n = added_is _ s (key_of w n) (λ p h. ap (bit_xor (at s p)) (sym (key_at w n p h)))
 
 -- ---- Round keys are bytes.
 key_short : (w : List ℕ) (r : ℕ) → length (key_of w r) ≤ 16

@@ -1,18 +1,16 @@
--- Laws, not definitions: of states by their cells, of SubBytes, ShiftRows and AddRoundKey and what undoes them, and of loops that fill a state.
+-- Laws, not definitions: of states by their cells, of SubBytes, ShiftRows and AddRoundKey and what undoes them.
 -- Assumes nothing.
-use mathlib.Core.Path.{◌≡◌, refl, sym, ap, ap₂, ◌∙◌}
+use mathlib.Core.Path.{◌≡◌, sym, ap, ap₂, ◌∙◌}
 use mathlib.Core.List.{List}
-use Prim.Native.Nat.{ℕ, ◌+◌, ◌-◌, ◌*◌, ◌/◌, ◌%◌, ◌≤◌, ◌<◌}
+use Prim.Native.Nat.{ℕ, ◌+◌, ◌-◌, ◌*◌, ◌/◌, ◌%◌, ◌<◌}
 use native.Mathlib.Omega.{arith}
 use lib.Dec.{lit<}
 use lib.Bits.{bit_xor, xor_lt}
 use lib.ListN.{length}
-use native.Mathlib.Nat.{le_of_lt, lt_of_le_of_lt, mul-le-mul_left}
 use Rattle.bits.specs.Lists.{at, tabulate}
 use Rattle.bits.specs.Bytes.{Bytes, Block}
 use Rattle.bits.proofs.laws.Lists.{length_tabulate, at_tabulate, tabulate_ext, tabulate_at, tabulate_below}
 use Rattle.bits.proofs.laws.Xor.{xor_back}
-use Rattle.bits.proofs.laws.Filled.{Filled, filled_all}
 use Rattle.field.specs.Sbox.{sbox_of, inv_sbox_of}
 use Rattle.field.proofs.laws.Sbox.{sbox_lt, inv_sbox_lt, inv_sbox_sbox, sbox_inv_sbox}
 use Rattle.round.specs.State.{cell, state, SubBytes, ShiftRows, AddRoundKey, InvSubBytes, InvShiftRows}
@@ -85,6 +83,12 @@ shifted_is f s e = tabulated f _ (length_tabulate 16 _) e
 pub added_is : (f : ℕ → ℕ) (s k : List ℕ) → ((p : ℕ) → p < 16 → f p ≡ bit_xor (at s p) (at k p)) → tabulate 16 f ≡ AddRoundKey s k
 added_is f s k e = tabulated f (AddRoundKey s k) (unfold AddRoundKey state in length_tabulate 16 _) (λ p h. e p h ∙ sym (add_at s k p h))
 
+pub sub_is : (s : List ℕ) → tabulate 16 (λ i. sbox_of (at s i)) ≡ SubBytes s
+sub_is s = tabulated _ (SubBytes s) (unfold SubBytes state in length_tabulate 16 _) (λ p h. sym (sub_at s p h))
+
+pub inv_sub_is : (s : List ℕ) → tabulate 16 (λ i. inv_sbox_of (at s i)) ≡ InvSubBytes s
+inv_sub_is s = tabulated _ (InvSubBytes s) (unfold InvSubBytes state in length_tabulate 16 _) (λ p h. sym (inv_sub_at s p h))
+
 -- ---- A function of each byte.
 each_block : (f : ℕ → ℕ) → ((x : ℕ) → x < 256 → f x < 256) → (s : List ℕ) → Block s → Block (state (λ r c. f (cell s r c)))
 each_block f h s b = block _ (λ r c p q. h (cell s r c) (b.bytes (r + 4 * c)))
@@ -116,10 +120,6 @@ turned_back : (f g : ℕ → ℕ → ℕ) → ((r c : ℕ) → r < 4 → c < 4 �
 turned_back f g h s e =
     is_block _ s e
     (λ r c p q. cell_state (λ i j. cell s i (f i j)) r (g r c) p (h r c p q).0 ∙ ap (cell s r) (h r c p q).1)
-
--- A number of places as the code has it.
-pub turn_lt : (by r : ℕ) → by < 4 → r < 4 → by * r < 16
-turn_lt by r h l = lt_of_le_of_lt (mul-le-mul_left by (le_of_lt l)) (omega arith)
 
 pub turn_left : (s : List ℕ) → state (λ r c. cell s r ((c + 1 * r) % 4)) ≡ ShiftRows s
 unfolding ShiftRows
@@ -157,20 +157,3 @@ add_back s k e =
     (λ r c p q.
     ap (λ (z : ℕ). bit_xor z (cell k r c)) (cell_state (λ i j. bit_xor (cell s i j) (cell k i j)) r c p q)
     ∙ xor_back (cell s r c) (cell k r c))
-
--- ---- A loop that fills a state byte after byte: byte r + 4c is the cell in row r and column c.
-pub filled_state : (f : ℕ → ℕ → ℕ) (g : ℕ → ℕ) {t : List ℕ} {i : ℕ} → ((r c : ℕ) → r < 4 → c < 4 → g (r + 4 * c) ≡ f r c)
-    → Filled 16 g t i → 16 ≤ i → t ≡ state f
-unfolding state
-filled_state f g e F h =
-    filled_all F h
-    ∙ tabulate_ext 16 g (λ i. f (i % 4) (i / 4))
-    (λ i l. ap g (place i) ∙ e (i % 4) (i / 4) (omega arith) (omega arith))
-
-pub sub_filled : (s : List ℕ) {t : List ℕ} {i : ℕ} → Filled 16 (λ k. sbox_of (at s k)) t i → 16 ≤ i → t ≡ SubBytes s
-unfolding SubBytes
-sub_filled s = filled_state (λ r c. sbox_of (cell s r c)) (λ k. sbox_of (at s k)) (λ r c p q. refl)
-
-pub inv_sub_filled : (s : List ℕ) {t : List ℕ} {i : ℕ} → Filled 16 (λ k. inv_sbox_of (at s k)) t i → 16 ≤ i → t ≡ InvSubBytes s
-unfolding InvSubBytes
-inv_sub_filled s = filled_state (λ r c. inv_sbox_of (cell s r c)) (λ k. inv_sbox_of (at s k)) (λ r c p q. refl)

@@ -1,4 +1,4 @@
-use Prim.Native.Nat.{◌-◌, ◌*◌}
+use Prim.Native.Nat.{◌*◌}
 use Rattle.bits.specs.Lists.{at}
 use Rattle.bits.specs.Words.{value}
 use Rattle.bits.proofs.laws.Pasted.{Pasted}
@@ -7,6 +7,3 @@ use Rattle.spread_tables.proofs.write_word.Given as goal
 
 abbrev pub invariant-loop-k : goal.invariant-loop-k
 invariant-loop-k l = Pasted l.initial.dst (encoded_word (at l.images) l.m (value l.v)) (l.x * l.m) 0 l.m l.dst l.k
-
-abbrev pub decreases-loop-k : goal.decreases-loop-k
-decreases-loop-k l = l.m - l.k

@@ -1,4 +1,3 @@
-use Prim.Native.Nat.{◌-◌}
 use Rattle.bits.specs.Lists.{at}
 use Rattle.matrices.specs.ByNibbles.{word_in}
 use Rattle.spread_tables.specs.Spread.{encoded_word}
@@ -7,6 +6,3 @@ use Rattle.spread_tables.proofs.write_words.Given as goal
 
 abbrev pub invariant-loop-x : goal.invariant-loop-x
 invariant-loop-x l = Written 256 l.m (λ i. encoded_word (at l.images) l.m (word_in l.words (at l.values i))) l.dst l.x
-
-abbrev pub decreases-loop-x : goal.decreases-loop-x
-decreases-loop-x l = 256 - l.x

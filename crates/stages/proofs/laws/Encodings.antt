@@ -4,7 +4,6 @@ use mathlib.Core.List.{List}
 use mathlib.Core.Path.{◌≡◌, ap, ◌∙◌}
 use Prim.Native.Nat.{ℕ, ◌+◌, ◌*◌, ◌/◌, ◌%◌, ◌≤◌, ◌<◌}
 use native.Mathlib.Omega.{arith}
-use Rattle.answers.specs.declared.Answer.TheVariants.{Accepted}
 use Rattle.bits.specs.Bytes.{Bytes}
 use Rattle.bits.specs.Encodings.{decode, Permutation}
 use Rattle.bits.specs.Lists.{tabulate}
@@ -23,6 +22,7 @@ use Rattle.whitebox.proofs.laws.Bundles.{encodings_agree}
 use Rattle.encodings.specs.Encodings.{encoding_in}
 use Rattle.inverse_matrices.proofs.laws.Code.{frame_of}
 use Rattle.stages.specs.Spread.{read_byte}
+use Rattle.answers.specs.Answer.{Accepted}
 
 module _ (nr : ℕ) (l s : List ℕ) (e : s ≡ section_of nr l 0) where
   pub encodings_in : ◌≡◌ {A = ℕ → List ℕ} (encoding_in s) (encoding_of nr l)

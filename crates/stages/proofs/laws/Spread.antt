@@ -7,7 +7,6 @@ use native.Mathlib.Nat.{div-add-mod', div-lt_iff_lt-mul, mod-lt}
 use native.Mathlib.Omega.{arith}
 use lib.ListN.{length, take}
 use lib.Seq.{get_or-take, take_at}
-use Rattle.answers.specs.declared.Answer.TheVariants.{Accepted}
 use Rattle.bits.specs.Bytes.{Bytes, number, byte, bytes_of, placed}
 use Rattle.bits.specs.Encodings.{decode}
 use Rattle.bits.specs.Lists.{at, tabulate, concat}
@@ -48,6 +47,7 @@ use Rattle.encodings.specs.Encodings.{encoding_in}
 use Rattle.spread_tables.specs.Spread.{encoded_bytes, encoded_word}
 use Rattle.substitution.proofs.laws.Linear.{by_powers, spread_xor, mixed_xor, exit_xor}
 use Rattle.stages.specs.Spread.{acted, linear_word, word_number, read_byte}
+use Rattle.answers.specs.Answer.{Accepted}
 
 -- ---- 256 words of m bytes, one after the other
 module _ (m : ℕ) (f : ℕ → ℕ → ℕ) (pos : 0 < m) where

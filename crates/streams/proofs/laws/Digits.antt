@@ -4,24 +4,18 @@ use mathlib.Core.Bool.{Bool, true, false, cond}
 use mathlib.Core.List.{List, [], ◌∷◌, ◌++◌}
 use mathlib.Core.Path.{◌≡◌, refl, sym, ap, subst, ◌∙◌}
 use Prim.Native.Nat.{ℕ, zero, suc, ◌+◌, ◌-◌, ◌*◌, ◌/◌, ◌%◌, ◌^◌, ◌≤◌, ◌<◌}
-use native.Mathlib.Nat.{mod-eq_of_lt, pow-le-pow_right, div-lt_iff_lt-mul, le-div_iff_mul-le, pow-zero, pow-suc, one-mul, one-le-pow, div-div-eq-div-mul}
-use native.Mathlib.Nat.{le_of_suc-le-suc, not-suc-le-zero}
+use native.Mathlib.Nat.{mod-eq_of_lt, pow-le-pow_right, div-lt_iff_lt-mul, le-div_iff_mul-le, pow-suc, one-le-pow, div-div-eq-div-mul}
+use native.Mathlib.Nat.{not-suc-le-zero}
 use native.Mathlib.Numerals.{unary_clauses, add-one, sub-one}
 use native.Mathlib.Omega.{arith}
 use lib.Dec.{ltb}
 use lib.ListN.{length, take, drop, set, length-take}
 use lib.Seq.{slice, length-take-le, take-set-lt, append_snoc}
-use borrow.Author.Tests.{ltb-true, ltb-false, lt-ltb, le-ltb}
+use Rattle.std.proofs.lemmas.List.{drop-set}
+use borrow.Author.Tests.{ltb-true, ltb-false}
 use Rattle.streams.specs.Digits.{hex_digit_ascii, last_digits, IsDigitCount}
 use Rattle.streams.specs.Lines.{spelled, decimal, number_room}
 use Rattle.streams.specs.Written.{Put}
-
--- ---- the digit of a number below 16: `0` to `9`, then `a` to `f`
-pub glyph_low : (d : ℕ) → d < 10 → 48 + d ≡ hex_digit_ascii d
-glyph_low d h = simp (lt-ltb _ _ h)
-
-pub glyph_high : (d : ℕ) → 10 ≤ d → 87 + d ≡ hex_digit_ascii d
-glyph_high d h = simp (le-ltb _ _ h)
 
 -- ---- the fewest digits
 -- Two digits hold 10 at least: the fewest of a number below 10 are one, and of another number more.
@@ -75,9 +69,6 @@ pub few_digits : (n k : ℕ) → n < 2 ^ 32 → IsDigitCount 10 1 n k → k ≤ 
 few_digits n k h f = digits_most 10 1 number_room n k (omega arith) (omega arith) (omega arith) f
 
 -- ---- how many there are: what is left of n is `rest` once k digits are taken from its end
-pub tenth : (n : ℕ) → n / 10 ≡ n / 10 ^ 1
-tenth n = ap (λ (d : ℕ). n / d) (sym (pow-suc 10 0 ∙ ap (λ (p : ℕ). p * 10) (pow-zero 10) ∙ one-mul 10))
-
 pub tenth_more : (n k rest : ℕ) → rest ≡ n / 10 ^ k → rest / 10 ≡ n / 10 ^ (k + 1)
 tenth_more n k rest e =
     ap (λ (m : ℕ). m / 10) e ∙ div-div-eq-div-mul n (10 ^ k) 10 ∙ ap (λ (d : ℕ). n / d) (sym (pow-suc 10 k) ∙ ap (λ (j : ℕ). 10 ^ j) (sym (add-one k)))
@@ -96,12 +87,6 @@ digits_hold n k rest e none =
     omega arith
 
 -- ---- how they are written, from the last on
--- What is written at j stands at the front from j on.
-drop_set : (t : List ℕ) (j g : ℕ) → j < length t → drop j (set t j g) ≡ g ∷ drop (suc j) t
-drop_set [] j g h = absurd (not-suc-le-zero h)
-drop_set (x ∷ t) zero g h = refl
-drop_set (x ∷ t) (suc j) g h = drop_set t j g (le_of_suc-le-suc h)
-
 -- The last of the digits that are still to write goes to the front of those that are written.
 pub digits_more : (b i k rest g : ℕ) (out : List ℕ) → 0 < i → i ≤ k → k ≤ length out → g ≡ hex_digit_ascii (rest % b)
     → last_digits b (i - 1) (rest / b) ++ slice (i - 1) k (set out (i - 1) g) ≡ last_digits b i rest ++ slice i k out
@@ -112,7 +97,7 @@ digits_more b (suc j) k rest g out some h room e =
     let within : j < length (take k out) = subst (λ (n : ℕ). j < n) (sym (length-take-le k out room)) h in
     ap (λ (m : ℕ). last_digits b m (rest / b) ++ slice m k (set out m g)) (sub-one (suc j))
     ∙ ap (λ (l : List ℕ). todo ++ drop j l) (take-set-lt k out j g h)
-    ∙ ap (λ (l : List ℕ). todo ++ l) (drop_set (take k out) j g within)
+    ∙ ap (λ (l : List ℕ). todo ++ l) (rw (← add-one j) (drop-set (take k out) j g within))
     ∙ ap (λ (x : ℕ). todo ++ x ∷ done) e
     ∙ sym (append_snoc todo (hex_digit_ascii (rest % b)) done)
 

@@ -2,37 +2,17 @@
 -- Assumes nothing.
 use mathlib.Core.List.{List, [], ◌++◌, append-nil}
 use mathlib.Core.Path.{◌≡◌, refl, sym, ap, ◌∙◌}
-use Prim.Native.Nat.{ℕ, ◌+◌, ◌≤◌, ◌<◌}
-use native.Mathlib.Nat.{zero-add}
+use Prim.Native.Nat.{ℕ, ◌+◌, ◌≤◌}
 use native.Mathlib.Omega.{arith}
-use lib.ListN.{length, set, take, drop, length-append, length-set, drop_of_length-le}
+use lib.ListN.{length, take, drop, length-append, drop_of_length-le}
 use lib.Seq.{length-take-le, take-append_seam, drop-append-add, drop-drop, take-length, paste}
 use Rattle.streams.specs.Received.{IsPrefixLen}
 use Rattle.streams.specs.Digits.{last_digits}
-use Rattle.bits.specs.Lists.{at}
-use Rattle.bits.proofs.laws.Pasted.{Pasted, pasted_none, pasted_more, pasted_all}
 use Rattle.answers.specs.Numbers.{cause_of, second_of}
 use Rattle.answers.specs.declared.Refusal.{Refusal}
 use Rattle.streams.specs.Lines.{word, space, newline, decimal, hex_digits, cause_text, cause_line, refusal_line, answer_line, matrix_line}
 use Rattle.streams.specs.Lines.{number_room, cause_room, matrix_digits}
 use Rattle.streams.specs.Written.{Written, Put}
-
--- ---- the loop that copies the text t to the place `from` on. Its invariant: i bytes are copied, and the memory d has become a, as long as it was.
-pub record Putting (d t : List ℕ) (from : ℕ) (a : List ℕ) (i : ℕ) : Type 0 where
-  pub copied : Pasted d t from 0 (length t) a i
-  pub long : length a ≡ length d
-
-pub putting_none : {d t : List ℕ} {from : ℕ} → from + length t ≤ length d → Putting d t from d 0
-putting_none h = record { copied = pasted_none h (omega arith); long = refl }
-
-module _ {d t : List ℕ} {from : ℕ} {a : List ℕ} {i : ℕ} (I : Putting d t from a i) where
-  pub putting_more : i < length t → Putting d t from (set a (from + i) (at t i)) (i + 1)
-  putting_more h = record { copied = rw zero-add at (pasted_more I.copied h); long = length-set a (from + i) (at t i) ∙ I.long }
-
-  pub putting_all : length t ≤ i → Put t d from (from + i) a
-  putting_all h =
-      let e : i ≡ length t = omega (arith, I.copied.within) in
-      record { ends = ap (λ (n : ℕ). from + n) e; bytes = pasted_all I.copied h }
 
 -- ---- one text behind the other
 joined : (text next held : List ℕ)

@@ -9,7 +9,6 @@ use native.Mathlib.Omega.{arith}
 use lib.Bits.{bit_xor, xor_lt}
 use lib.ListN.{length, set, take}
 use lib.Seq.{take_at}
-use Rattle.answers.specs.declared.Answer.TheVariants.{Accepted}
 use Rattle.bits.specs.Bytes.{Bytes}
 use Rattle.bits.specs.Lists.{at, tabulate}
 use Rattle.bits.proofs.laws.Filled.{Filled, filled_more}
@@ -31,6 +30,7 @@ use Rattle.whitebox.specs.Words.{substituted}
 use Rattle.substitution.specs.Substituted.{behind_at}
 use Rattle.inverse_matrices.proofs.laws.Code.{frame_of, byte_part_long, byte_is}
 use Rattle.substitution.proofs.laws.Linear.{by_powers}
+use Rattle.answers.specs.Answer.{Accepted}
 
 -- ---- the byte behind the S-box, for every byte that is read
 -- `basis` has the columns of m, `products` a row for each byte with one nibble, and `sbox` the S-box.

@@ -9,8 +9,6 @@ use native.Mathlib.Omega.{arith}
 use borrow.Author.Tests.{ltb-true, lt-ltb, le-ltb}
 use lib.Dec.{ltb}
 use Rattle.answers.specs.Answers.{refused_if, wants_length, and_then}
-use Rattle.answers.specs.declared.Answer.{Answer}
-use Rattle.answers.specs.declared.Answer.TheVariants.{Accepted, Refused}
 use Rattle.answers.specs.declared.Refusal.{Refusal}
 use Rattle.answers.specs.declared.Refusal.TheVariants.{KeyLength, TableNumber, SetLength}
 use Rattle.answers.proofs.laws.Tests.{first_refuses, second_decides, both, test_refuses, test_passes, passed, length_wrong, length_right, length_was, stops, decides}
@@ -23,6 +21,7 @@ use Rattle.whitebox.specs.Bundles.{made_table}
 use Rattle.stages.specs.Table.{stage_table}
 use Rattle.tables.specs.Calls.{judged_for, set_answer_for, table_answer_for}
 use Rattle.keyed_tables.proofs.laws.Set.{table_made}
+use Rattle.answers.specs.Answer.{Answer, Accepted, Refused}
 
 -- What is made at the place of table n is table n of the set.
 pub table_by_place : (c nk : ℕ) (key l dst : List ℕ) (n : ℕ) (q : Place) → q ≡ place_of (rounds_of nk) n → n < lookups (rounds_of nk)
@@ -63,9 +62,9 @@ module _ (nk key : ℕ) (l : List ℕ) {a : Answer} (e : a ≡ judged_for nk key
       unfolding set_answer_for
       set_length h = length_wrong (set_bytes (rounds_of nk)) memory SetLength (λ f. h (f ∙ N.all_bytes)) ∙ decides e d _
 
-      pub set_done : memory ≡ bytes → a ≡ set_answer_for nk key l memory
+      pub set_done : memory ≡ bytes → Accepted ≡ set_answer_for nk key l memory
       unfolding set_answer_for
-      set_done h = d ∙ length_right (set_bytes (rounds_of nk)) memory SetLength (h ∙ sym N.all_bytes) ∙ decides e d _
+      set_done h = length_right (set_bytes (rounds_of nk)) memory SetLength (h ∙ sym N.all_bytes) ∙ decides e d _
 
   -- Table n, into a memory of that length.
   module _ (n memory : ℕ) where
@@ -87,9 +86,9 @@ module _ (nk key : ℕ) (l : List ℕ) {a : Answer} (e : a ≡ judged_for nk key
         unfolding table_answer_for
         table_length k = length_wrong (table_size (rounds_of nk) n) memory SetLength (rw p at k) ∙ in_range ∙ decides e d _
 
-        pub table_done : memory ≡ q.size → a ≡ table_answer_for nk key l n memory
+        pub table_done : memory ≡ q.size → Accepted ≡ table_answer_for nk key l n memory
         unfolding table_answer_for
-        table_done k = d ∙ length_right (table_size (rounds_of nk) n) memory SetLength (rw p at k) ∙ in_range ∙ decides e d _
+        table_done k = length_right (table_size (rounds_of nk) n) memory SetLength (rw p at k) ∙ in_range ∙ decides e d _
 
 -- ---- what an accepted call was lent: a key of nk words and an accepted bundle
 pub record Lent (nk key : ℕ) (l : List ℕ) : Type 0 where

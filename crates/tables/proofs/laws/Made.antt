@@ -7,7 +7,6 @@ use mathlib.Core.Path.{◌≡◌, refl, sym, ap, ◌∙◌, subst}
 use Prim.Native.Nat.{ℕ}
 use borrow.Author.Tests.{lt-ltb}
 use lib.ListN.{length}
-use Rattle.answers.specs.declared.Answer.TheVariants.{Accepted}
 use Rattle.answers.specs.declared.Refusal.TheVariants.{TableNumber, SetLength}
 use Rattle.answers.proofs.laws.Tests.{second_decides, test_passes, length_right, left_new}
 use Rattle.bits.specs.Bytes.{Bytes}
@@ -23,6 +22,7 @@ use Rattle.whitebox.proofs.laws.RoundTrip.{round_trip_for}
 use Rattle.tables.specs.Calls.{judged_for, set_answer_for, table_answer_for, set_left}
 use Rattle.tables.specs.Made.{GivenBySet, GivenByTable, SetOfGiven, TableOfGiven, MadeWalkIsCipher, MadeSetsGiveBack, TableOfSet, MadeFor, Made}
 use Rattle.tables.proofs.laws.Calls.{judged_by, Lent, set_lent, table_lent, table_inside}
+use Rattle.answers.specs.Answer.{Accepted}
 
 -- ---- a given key and bundle, and the judgement of both
 given : (nk : ℕ) (key l : List ℕ) → Bytes key → Bytes l → Lent nk (length key) l → Given nk key l

@@ -7,9 +7,6 @@ use native.Mathlib.Nat.{le_refl}
 use native.Mathlib.Omega.{arith}
 use lib.ListN.{length}
 use Rattle.answers.specs.Numbers.{number_of}
-use Rattle.answers.specs.declared.Answer.TheVariants as answer
-use Rattle.answers.specs.declared.Answer.TheVariants.{Accepted}
-use Rattle.answers.specs.declared.Refusal.{Refusal}
 use Rattle.answers.proofs.laws.Tests.{differ, left_new}
 use Rattle.bits.specs.Flips.{flipped}
 use Rattle.rounds.specs.Rounds.{Rounds}
@@ -26,35 +23,24 @@ use Rattle.sensitivity.proofs.laws.Proved.{sensitivity}
 use Rattle.next_bit.specs.Promises.{Finds}
 use Rattle.next_bit.specs.NextBit.{bit_answer, next_bit_of}
 use Rattle.next_bit.specs.Search.{Tells}
-use Rattle.next_bit.specs.declared.search.NextBit.{NextBit}
-use Rattle.next_bit.specs.declared.search.NextBit.TheVariants.{Bit, NoneLeft, Refused}
 use Rattle.next_bit.proofs.laws.Calls.{next_answers, finds}
 use Rattle.next_bit.proofs.laws.Proved.{bits_had}
 use Rattle.told.specs.Bits.{bit_left, BitsTold, RefusedKeepsBit, BitsCount}
-use Rattle.told.specs.Told.{none}
+use Rattle.told.specs.Told.{none, told_left}
 use Rattle.one_call.specs.Walks.{walk_leaves_for}
-use Rattle.told.proofs.laws.Pointers.{told_by}
+use Rattle.told.proofs.laws.Pointers.{kept}
 use Rattle.one_call.proofs.laws.Walks.{good}
+use Rattle.answers.specs.Answer.{Accepted, answer_in}
+use Rattle.next_bit.specs.NextBit.{NextBit}
+use Rattle.std.specs.Prelude.{Ok, Err, Some, None}
 
--- ---- the call, where the search handed back r, and n is its answer's number: for each result, what is returned and what is left behind the pointer
-module _ (c nr : ℕ) (set block : List ℕ) (from : ℕ) {r : NextBit} (e : Finds c nr set block from r) {n : ℕ} (old : ℕ) where
-  by_result : (s : NextBit) → r ≡ s → n ≡ number_of (bit_answer s)
-      → (n ≡ number_of (judge_whole nr (length set) (length block))) × (bit_left s old ≡ bit_left (next_bit_of c nr set block from) old)
-  by_result s f g =
-      let T = told_by bit_answer (λ r. bit_left r old) (next_bit_of c nr set block from) s e.result f g in
-      (T.0 ∙ ap number_of (next_answers c nr set block from), T.1)
+-- ---- the call, where the search handed back r, and n is its answer's number: what is returned and what is left behind the pointer
+module _ (c nr : ℕ) (set block : List ℕ) (from : ℕ) {r : NextBit} (e : Finds c nr set block from r) where
+  pub search_told : {n : ℕ} → n ≡ number_of (answer_in r) → n ≡ number_of (judge_whole nr (length set) (length block))
+  search_told g = g ∙ ap (λ (s : NextBit). number_of (answer_in s)) e.result ∙ ap number_of (next_answers c nr set block from)
 
-  pub next_bit : {v : ℕ} → r ≡ Bit v → n ≡ number_of Accepted
-      → (n ≡ number_of (judge_whole nr (length set) (length block))) × (v ≡ bit_left (next_bit_of c nr set block from) old)
-  next_bit {v} = by_result (Bit v)
-
-  pub next_none : r ≡ NoneLeft → n ≡ number_of Accepted
-      → (n ≡ number_of (judge_whole nr (length set) (length block))) × (none ≡ bit_left (next_bit_of c nr set block from) old)
-  next_none = by_result NoneLeft
-
-  pub next_refused : {why : Refusal} → r ≡ Refused why → n ≡ number_of (answer.Refused why)
-      → (n ≡ number_of (judge_whole nr (length set) (length block))) × (old ≡ bit_left (next_bit_of c nr set block from) old)
-  next_refused {why} = by_result (Refused why)
+  pub found_left : (old : ℕ) {left : ℕ} → left ≡ told_left r old → left ≡ bit_left (next_bit_of c nr set block from) old
+  found_left old g = g ∙ ap (λ (s : NextBit). told_left s old) e.result
 
 -- ---- what a host reads off
 module _ (c nr : ℕ) (set block : List ℕ) (from old : ℕ) (R : Rounds nr) (lent : Lendable nr set block) where
@@ -68,20 +54,20 @@ module _ (c nr : ℕ) (set block : List ℕ) (from old : ℕ) (R : Rounds nr) (l
   accepted = next_answers c nr set block from ∙ (bits_had.tests nr (length set) (length block)).none lent.long lent.block.long
 
   -- A bit of the set has another number than the one that tells of none.
-  below_none : (v : ℕ) → due ≡ Bit v → v ≡ none → ⊥
+  below_none : (v : ℕ) → due ≡ Ok (Some v) → v ≡ none → ⊥
   below_none v e f =
       omega (arith, (sensitivity.in_order (reads_of c) nr set block lent).within v (told.bit_only v e).listed, (by_stage nr).table_bytes)
 
   -- By the result r, which is no refusal.
-  none_told : (r : NextBit) → due ≡ r → bit_left r old ≡ none → r ≡ NoneLeft
-  none_told (Bit v) e f = absurd (below_none v e f)
-  none_told NoneLeft e f = refl
-  none_told (Refused why) e f = differ (sym accepted ∙ ap bit_answer e)
+  none_told : (r : NextBit) → due ≡ r → bit_left r old ≡ none → r ≡ Ok None
+  none_told (Ok (Some v)) e f = absurd (below_none v e f)
+  none_told (Ok None) e f = refl
+  none_told (Err why) e f = differ (sym accepted ∙ ap bit_answer e)
 
-  bit_told : (r : NextBit) → due ≡ r → (bit_left r old ≡ none → ⊥) → r ≡ Bit (bit_left r old)
-  bit_told (Bit v) e f = refl
-  bit_told NoneLeft e f = absurd (f refl)
-  bit_told (Refused why) e f = differ (sym accepted ∙ ap bit_answer e)
+  bit_told : (r : NextBit) → due ≡ r → (bit_left r old ≡ none → ⊥) → r ≡ Ok (Some (bit_left r old))
+  bit_told (Ok (Some v)) e f = refl
+  bit_told (Ok None) e f = absurd (f refl)
+  bit_told (Err why) e f = differ (sym accepted ∙ ap bit_answer e)
 
 pub bits_told : BitsTold
 bits_told c nr set block from old R lent =
@@ -93,11 +79,6 @@ bits_told c nr set block from old R lent =
       bit_only = λ e. T.bit_only _ (bit_told c nr set block from old R lent r refl e);
       bit_if = λ v S. ap (λ (r : NextBit). bit_left r old) (T.bit_if v S);
     }
-
-kept : (r : NextBit) (old : ℕ) → (bit_answer r ≡ Accepted → ⊥) → bit_left r old ≡ old
-kept (Bit v) old f = absurd (f refl)
-kept NoneLeft old f = absurd (f refl)
-kept (Refused why) old f = refl
 
 pub refused_keeps_bit : RefusedKeepsBit
 refused_keeps_bit c nr set block from old f = kept (next_bit_of c nr set block from) old (λ e. f (sym (next_answers c nr set block from) ∙ e))
@@ -123,7 +104,7 @@ bits_count c nk key l block R given presented i old below lent lent' room room' 
     left nr c (flipped set i) block lent' (flipped_lent nr set block S.right i) room' in
     record {
       changes = λ e same.
-          D.differ_exactly.1 (T.bit_only i (bit_told c nr set block i old R S.right r refl (λ f. omega arith) ∙ ap Bit e)).listed (sym turned ∙ same ∙ before);
+          D.differ_exactly.1 (T.bit_only i (bit_told c nr set block i old R S.right r refl (λ f. omega arith) ∙ ap (λ (v : ℕ). Ok (Some v)) e)).listed (sym turned ∙ same ∙ before);
       only = λ other.
           ap (λ (r : NextBit). bit_left r old)
           (T.bit_if i (record { listed = D.differ_exactly.0 (λ same. other (turned ∙ same ∙ sym before)); reached = le_refl i; least = λ u q h. h }));

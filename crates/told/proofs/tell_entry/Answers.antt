@@ -4,12 +4,12 @@
 use Rattle.told.proofs.laws.Entries.{entry_told, entry_kept}
 use Rattle.told.proofs.tell_entry.Goals as goal
 
-pub returns-in-Matrix : goal.returns-in-Matrix
-returns-in-Matrix c =
+pub returns-in-Ok : goal.returns-in-Ok
+returns-in-Ok c =
     let done = entry_told _ c.entry_at.ensures.result _ (search) c.number.ensures in
     record { answer = done.0; matrix = done.1 }
 
-pub returns-in-Refused : goal.returns-in-Refused
-returns-in-Refused c =
-    let done = entry_kept _ c.entry_at.ensures.result _ {why = c.in-Refused.r} (search) c.number-in-Refused.ensures in
+pub returns-in-Err : goal.returns-in-Err
+returns-in-Err c =
+    let done = entry_kept _ c.entry_at.ensures.result _ {why = c.in-Err.r} (search) c.number-in-Err.ensures in
     record { answer = done.0; matrix = done.1 }

@@ -8,13 +8,11 @@ use lib.ListN.{length, take, drop}
 use borrow.Author.Tests.{eq-eqb, ne_eqb, lt-ltb, le-ltb}
 use Rattle.bits.proofs.laws.Lists.{cut_is}
 use Rattle.bundle.specs.Format.{section_length, offset, frame}
-use Rattle.answers.specs.declared.Answer.{Answer}
-use Rattle.answers.specs.declared.Answer.TheVariants.{Accepted, Refused}
+use Rattle.answers.specs.Answer.{Answer}
+use Rattle.answers.specs.Answer.{Accepted, Refused}
 use Rattle.answers.specs.declared.Refusal.{Refusal}
-use Rattle.view.specs.Views.{start_of, starts_of, section_from, part_from}
+use Rattle.view.specs.Views.{start_of, starts_of, section_from}
 use Rattle.view.specs.Serving.{no_starts}
-use Rattle.view.specs.declared.part.Part.{Part}
-use Rattle.view.specs.declared.starts.Starts.{Starts}
 
 -- ---- starts
 module _ (nr : ℕ) (l : List ℕ) where
@@ -67,7 +65,3 @@ module _ (nr : ℕ) (l : List ℕ) (s a : ℕ) where
       pub from_cut : n ≤ length l → a ≤ length l - n → take ((a + n) - a) (drop a l) ≡ section_from nr l s a
       from_cut k m =
           cut_is l a n ∙ ap (λ (x : ℕ). take x (drop a l)) e ∙ from_here (omega arith)
-
--- ---- parts: x is the part's name p as the code tells it
-pub part_named : (nr : ℕ) (l : List ℕ) (t : Starts) {p x : Part} {r : List ℕ} → p ≡ x → r ≡ part_from nr l t x → r ≡ part_from nr l t p
-part_named nr l t q e = e ∙ ap (part_from nr l t) (sym q)

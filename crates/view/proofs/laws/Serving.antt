@@ -6,8 +6,6 @@ use Prim.Native.Nat.{ℕ, ◌<◌}
 use native.Mathlib.Omega.{arith}
 use Rattle.bits.specs.Lists.{part_of}
 use Rattle.bundle.specs.Format.{part_size, offset, frame, section_of, part_at}
-use Rattle.answers.specs.declared.Answer.{Answer}
-use Rattle.answers.specs.declared.Answer.TheVariants.{Accepted, Refused}
 use Rattle.answers.specs.declared.Refusal.{Refusal}
 use Rattle.bundle.proofs.laws.Frame.{framed, section_is, section_none, section_fits, apart}
 use Rattle.bundle.proofs.laws.Parts.{part_refused}
@@ -17,6 +15,7 @@ use Rattle.view.specs.declared.part.Part.{Part}
 use Rattle.view.specs.declared.part.Part.TheVariants.{Encoding, ByteMatrix, ColumnMatrix, InputMatrix, OutputMatrix}
 use Rattle.view.specs.declared.starts.Starts.{Starts}
 use Rattle.view.proofs.laws.Code.{start_is, start_none, starts_none, from_nowhere, from_here}
+use Rattle.answers.specs.Answer.{Answer, Accepted, Refused}
 
 -- A section from its start is the section.
 module _ (nr : ℕ) (l : List ℕ) (s : ℕ) (h : s < 5) where

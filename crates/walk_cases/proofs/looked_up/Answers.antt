@@ -5,11 +5,8 @@ use Rattle.rounds.proofs.laws.Known.{ten_rounds}
 use Rattle.layout.proofs.laws.Ten.{ten, in_set}
 use Rattle.passes.proofs.laws.Places.{stands_in}
 use native.Mathlib.Omega.{arith}
-use borrow.Author.Rules.{rules}
 use Rattle.walk_cases.proofs.looked_up.Goals as goal
 
 pub look_up_at-read-requires : goal.look_up_at-read-requires
-look_up_at-read-requires g c = (
-  stands_in _ _ (in_set _ (omega arith)) c.place_of-p.ensures ten_rounds (omega (arith, ten.all_bytes)),
-  record { standing = search rules; area = search rules },
-)
+look_up_at-read-requires g c =
+    stands_in _ _ (in_set _ (omega arith)) c.place_of-p.ensures ten_rounds (omega (arith, ten.all_bytes))

@@ -8,8 +8,6 @@ use native.Mathlib.Decide.{ℕ_discrete, dec_lt}
 use native.Mathlib.Omega.{arith}
 use lib.ListN.{length, take, length-append, length-take}
 use lib.Seq.{length-take-le, take_all}
-use Rattle.answers.specs.declared.Answer.{Answer}
-use Rattle.answers.specs.declared.Answer.TheVariants.{Accepted, Refused}
 use Rattle.answers.specs.declared.Refusal.{Refusal}
 use Rattle.answers.specs.declared.Refusal.TheVariants.{SetLength}
 use Rattle.answers.proofs.laws.Tests.{length_wrong, length_right, left_new}
@@ -34,6 +32,7 @@ use Rattle.walker.specs.declared.Walked.{Walked}
 use Rattle.walker.proofs.laws.Tables.{received_more}
 use Rattle.walker.proofs.laws.Writes.{none_behind}
 use Rattle.walker.proofs.laws.Joined.{joined_more, joined_count, joined_bytes, joined_walk}
+use Rattle.answers.specs.Answer.{Answer, Accepted, Refused}
 
 module _ (nr : ℕ) (block : List ℕ) where
   -- ---- what is written, by the judgements of block and set

@@ -7,7 +7,6 @@ use native.Mathlib.Decide.{dec_lt}
 use native.Mathlib.Omega.{arith}
 use lib.ListN.{length, take, length-take, length-append}
 use lib.Seq.{take-append-le}
-use Rattle.answers.specs.declared.Answer.TheVariants.{Accepted, Refused}
 use Rattle.answers.specs.declared.Refusal.{Refusal}
 use Rattle.answers.proofs.laws.Tests.{differ, left_old}
 use Rattle.layout.specs.Ciphers.{reads_of}
@@ -24,6 +23,7 @@ use Rattle.evaluate.specs.declared.walk.Move.{Move}
 use Rattle.evaluate.specs.declared.walk.Walk.{Walk}
 use Rattle.streams.specs.Received.{Received, AllReceived, Front}
 use Rattle.walker.specs.Tables.{table_room, Next, AllAccepted, OverTables, Short, OverInput}
+use Rattle.answers.specs.Answer.{Accepted, Refused}
 
 -- ---- the memory that is lent for a table: its front comes back as x, as long as it was
 pub size_most : (nr n : ℕ) {p : Place} → p ≡ place_of nr n → p.size ≤ table_room

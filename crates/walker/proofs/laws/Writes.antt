@@ -4,8 +4,6 @@ use mathlib.Core.List.{List}
 use mathlib.Core.Path.{◌≡◌}
 use Prim.Native.Nat.{ℕ, ◌≤◌, ◌<◌}
 use native.Mathlib.Omega.{arith}
-use Rattle.answers.specs.declared.Answer.{Answer}
-use Rattle.answers.specs.declared.Answer.TheVariants.{Accepted, Refused}
 use Rattle.answers.specs.declared.Refusal.{Refusal}
 use Rattle.answers.specs.declared.Refusal.TheVariants.{SetLength}
 use Rattle.answers.proofs.laws.Tests.{length_wrong, length_right}
@@ -16,6 +14,7 @@ use Rattle.evaluate.specs.declared.walk.Walk.{Walk}
 use Rattle.streams.specs.Lines.{or_line, cause_line, answer_line}
 use Rattle.streams.specs.Written.{Written}
 use Rattle.walker.specs.Writes.{blank, behind_tables, line_of}
+use Rattle.answers.specs.Answer.{Answer, Accepted, Refused}
 
 -- ---- behind the last table
 -- Nothing stands there in a set: that is used in the laws about the code's own numbers, and nowhere else.

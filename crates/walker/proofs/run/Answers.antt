@@ -4,15 +4,15 @@
 use Rattle.walker.proofs.laws.Runs.{runs_refused, runs_short, runs_whole}
 use Rattle.walker.proofs.run.Goals as goal
 
-pub returns-in-Refused : goal.returns-in-Refused
-returns-in-Refused g c =
+pub returns-in-Err : goal.returns-in-Err
+returns-in-Err g c =
     runs_refused 10 c.receive-got.result c.receive-got.new.memory c.receive-got.ensures c.receive-got.auto.memory
     c.opened-opening.ensures (search) c.cause_line.ensures
 
-pub returns-in-Refused-answer : goal.returns-in-Refused-answer
-returns-in-Refused-answer g c =
+pub returns-in-Err-answer : goal.returns-in-Err-answer
+returns-in-Err-answer g c =
     runs_short 10 c.receive-got.result c.receive-got.new.memory c.receive-got.ensures c.receive-got.auto.memory
-    c.opened-opening.ensures (search) c.over_input-m.ensures (search) c.cause_line-in-Refused-answer.ensures
+    c.opened-opening.ensures (search) c.over_input-m.ensures (search) c.cause_line-in-Err-answer.ensures
 
 pub returns : goal.returns
 returns g c =

@@ -8,7 +8,6 @@ use native.Mathlib.Decide.{dec_lt}
 use native.Mathlib.Omega.{arith}
 use borrow.Author.Tests.{lt-ltb, le-ltb}
 use lib.Dec.{ltb}
-use Rattle.answers.specs.declared.Answer.TheVariants.{Accepted}
 use Rattle.bits.specs.Bytes.{Bytes}
 use Rattle.bits.specs.Encodings.{Permutation, plain_encoding}
 use Rattle.bits.proofs.laws.Encodings.{plain_permutation}
@@ -24,6 +23,7 @@ use Rattle.layout.specs.Stages as stages
 use Rattle.layout.proofs.laws.Ranges.{by_stage}
 use Rattle.whitebox.specs.Bundles.{codings_of}
 use Rattle.whitebox.specs.Codings.{GoodMatrix, Sound}
+use Rattle.answers.specs.Answer.{Accepted}
 
 identity_good : (n : ℕ) → GoodMatrix n (identity n)
 identity_good n = record { fits = identity_fits n; has = identity_invertible n }

@@ -4,8 +4,8 @@ use lib.Bits.{xor_lt}
 use native.Mathlib.Omega.{arith}
 use Rattle.xor_tables.proofs.image_of_sum.Goals as goal
 
-pub bounds-res-widened : goal.bounds-res-widened
-bounds-res-widened c =
+pub bounds-res-from : goal.bounds-res-from
+bounds-res-from c =
     let a = c.args in
     omega (arith, xor_lt 4 a.a a.b (omega arith) (omega arith))
 

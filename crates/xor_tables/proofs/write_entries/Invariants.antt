@@ -1,4 +1,3 @@
-use Prim.Native.Nat.{◌-◌}
 use lib.Bits.{bit_xor}
 use Rattle.bits.specs.Lists.{at}
 use Rattle.bits.specs.Nibbles.{packed}
@@ -7,6 +6,3 @@ use Rattle.xor_tables.proofs.write_entries.Given as goal
 
 abbrev pub invariant-loop-i : goal.invariant-loop-i
 invariant-loop-i l = Parts 16 8 (λ k. packed 8 (λ j. at l.res (bit_xor (at l.sum k) (at l.added j)))) l.initial.dst l.dst l.i
-
-abbrev pub decreases-loop-i : goal.decreases-loop-i
-decreases-loop-i l = 16 - l.i

@@ -1,5 +1,5 @@
--- `aes::turns::cipher` meets its contract. The invariant, `Rounded` of `laws.Turns`: t is the state behind n rounds. It holds behind round key 0
--- (`rounded_none`), a turn makes round n + 1 (`rounded_more`), and behind all but one the lines after the loop are the last round (`rounded_all`). The
+-- `aes::turns::cipher` meets its contract. The invariant, `Rounded` of `laws.Turns`: t is the state behind the rounds before round n. It holds behind round key 0
+-- (`rounded_none`), a turn makes round n (`rounded_more`), and behind all but the last the lines after the loop are the last round (`rounded_all`). The
 -- premises are what the calls ensure.
 -- Assumes nothing.
 use Rattle.aes.proofs.laws.Turns.{rounded_none, rounded_more, rounded_all}

@@ -1,9 +1,5 @@
-use Prim.Native.Nat.{◌-◌}
 use Rattle.aes.proofs.laws.Turns.{Rounded}
 use Rattle.aes.proofs.turns.cipher.Given as goal
 
 abbrev pub invariant-loop-n : goal.invariant-loop-n
 invariant-loop-n l = Rounded l.rounds l.w l.initial.t l.t l.n
-
-abbrev pub decreases-loop-n : goal.decreases-loop-n
-decreases-loop-n l = l.rounds - 1 - l.n

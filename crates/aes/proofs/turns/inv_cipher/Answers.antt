@@ -1,5 +1,5 @@
--- `aes::turns::inv_cipher` meets its contract. The invariant, `InvRounded` of `laws.Turns`: t is the state behind the rounds nr - 1 down to n + 1. It holds
--- behind the last round key (`inv_rounded_none`), a turn makes round n (`inv_rounded_more`), and with none left the lines after the loop are the last round
+-- `aes::turns::inv_cipher` meets its contract. The invariant, `InvRounded` of `laws.Turns`: t is the state behind the rounds nr - 1 down to n. It holds
+-- behind the last round key (`inv_rounded_none`), a turn makes round n - 1 (`inv_rounded_more`), and behind round 1 the lines after the loop are the last round
 -- (`inv_rounded_all`). The premises are what the calls ensure.
 -- Assumes nothing.
 use Rattle.aes.proofs.laws.Turns.{inv_rounded_none, inv_rounded_more, inv_rounded_all}

@@ -3,6 +3,3 @@ use Rattle.aes.proofs.turns.inv_cipher.Given as goal
 
 abbrev pub invariant-loop-n : goal.invariant-loop-n
 invariant-loop-n l = InvRounded l.rounds l.w l.initial.t l.t l.n
-
-abbrev pub decreases-loop-n : goal.decreases-loop-n
-decreases-loop-n l = l.n

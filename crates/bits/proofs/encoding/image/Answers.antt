@@ -9,4 +9,4 @@ pub returns-then-v-ge16 : goal.returns-then-v-ge16
 returns-then-v-ge16 c = (image_past _ _ (search), omega arith)
 
 pub returns : goal.returns
-returns c = (image_read _ _ _ _ (search) c.widened-q.ensures.0 c.nibble.ensures.0, c.nibble.ensures.1)
+returns c = (image_read _ _ _ _ (search) c.from-q.ensures c.nibble.ensures.0, c.nibble.ensures.1)

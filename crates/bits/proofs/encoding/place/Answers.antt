@@ -1,6 +1,6 @@
 -- `bits::encoding::place` meets its contract. The loop's invariant, `Passed` of `laws.Images`: of the first i images none is y. A turn reads
 -- image i: where it is y, i is the nibble sought (`passed_here`), else it is passed too (`passed_more`); behind the last image there is none
--- (`passed_all`). The measure is the number of images left.
+-- (`passed_all`).
 -- Assumes nothing.
 use Rattle.bits.proofs.laws.Images.{passed_none, passed_more, passed_here, passed_all}
 use Rattle.bits.proofs.encoding.place.Goals as goal

@@ -1,6 +1,6 @@
 -- `bits::vector::read` meets its contract. The loop's invariant, `Joined` of `laws.Joined`: the vector is the number of the first j bytes. It
 -- starts with no byte (`joined_none`), a turn pushes byte j at the bottom (`joined_more`), and behind the last byte the number is whole
--- (`joined_all`). Before a push there are at most 15 bytes, so the vector is below 2^120 (`joined_room`). The measure is the bytes left.
+-- (`joined_all`). Before a push there are at most 15 bytes, so the vector is below 2^120 (`joined_room`).
 -- Assumes nothing.
 use native.Mathlib.Omega.{arith}
 use Rattle.bits.proofs.laws.Joined.{joined_none, joined_more, joined_all, joined_room}

@@ -1,6 +1,6 @@
 -- `bits::vector::write` meets its contract. The loop's invariant, `Filled` of `laws.Filled`: the first i places hold the first i bytes of the
 -- number. A turn stores byte w - 1 - i from the bottom, which is byte i (`byte_from_bottom` of `laws.Bytes`, with `filled_more`); behind the
--- last place the list is the number's bytes (`filled_all`). The measure is the number of places left.
+-- last place the list is the number's bytes (`filled_all`).
 -- Assumes nothing.
 use Rattle.bits.specs.Bytes.{bytes_of}
 use Rattle.bits.proofs.laws.Bytes.{byte_from_bottom}

@@ -1,4 +1,3 @@
-use Prim.Native.Nat.{◌-◌}
 use Rattle.bits.specs.Bytes.{byte}
 use Rattle.bits.specs.Words.{value}
 use Rattle.bits.proofs.laws.Filled.{Filled}
@@ -6,6 +5,3 @@ use Rattle.bits.proofs.vector.write.Given as goal
 
 abbrev pub invariant-loop-i : goal.invariant-loop-i
 invariant-loop-i l = Filled l.w (λ k. byte l.w k (value l.v)) l.dst l.i
-
-abbrev pub decreases-loop-i : goal.decreases-loop-i
-decreases-loop-i l = l.w - l.i

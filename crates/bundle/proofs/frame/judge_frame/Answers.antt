@@ -22,13 +22,13 @@ pub returns-then-longest_of-bundle : goal.returns-then-longest_of-bundle
 returns-then-longest_of-bundle c =
     frame_long _ _ (sym c.shortest_of.ensures) (sym c.longest_of.ensures) (search) (search)
 
-pub returns-in-At : goal.returns-in-At
-returns-in-At c =
-    frame_pair _ _ (sym c.shortest_of.ensures) (sym c.longest_of.ensures) (search) (search) (search) c.in-At.is
+pub returns-in-Some : goal.returns-in-Some
+returns-in-Some c =
+    frame_pair _ _ (sym c.shortest_of.ensures) (sym c.longest_of.ensures) (search) (search) (search) c.in-Some.is
 
-pub returns-in-Nothing : goal.returns-in-Nothing
-returns-in-Nothing c =
-    frame_right _ _ (sym c.shortest_of.ensures) (sym c.longest_of.ensures) (search) (search) (search) c.in-Nothing.is
+pub returns-in-None : goal.returns-in-None
+returns-in-None c =
+    frame_right _ _ (sym c.shortest_of.ensures) (sym c.longest_of.ensures) (search) (search) (search) c.in-None.is
 
 pub shortest_of-requires : goal.shortest_of-requires
 shortest_of-requires c =

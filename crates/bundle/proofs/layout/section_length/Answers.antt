@@ -2,11 +2,7 @@
 -- most 7,840 parts of at most 2,048 bytes do not wrap.
 -- Assumes nothing.
 use Rattle.bundle.proofs.laws.Code.{section_counted}
-use native.Mathlib.Omega.{arith}
 use Rattle.bundle.proofs.layout.section_length.Goals as goal
-
-pub overflow_mul-result : goal.overflow_mul-result
-overflow_mul-result c = omega (arith, section_counted _ _ c.part_count-count.ensures c.part_size-size.ensures)
 
 pub returns : goal.returns
 returns c = section_counted _ _ c.part_count-count.ensures c.part_size-size.ensures

@@ -12,21 +12,21 @@ returns-then-s-ge5 c = section_behind _ _ _ (search)
 
 pub number_at-a-requires : goal.number_at-a-requires
 number_at-a-requires c =
-    omega (arith, pairs_there _ _ c.judge_frame.ensures c.in-Accepted.is)
+    omega (arith, pairs_there _ _ c.judge_frame.ensures c.in-Ok.is)
 
 pub section_length-requires : goal.section_length-requires
 section_length-requires c =
-    framed_rounds _ _ (sym c.judge_frame.ensures ∙ c.in-Accepted.is)
+    framed_rounds _ _ (sym c.judge_frame.ensures ∙ c.in-Ok.is)
 
-pub slice_bounds-result-end-in-Accepted : goal.slice_bounds-result-end-in-Accepted
-slice_bounds-result-end-in-Accepted c =
-    section_end _ _ _ (search) c.in-Accepted.is c.number_at-a.ensures.0
+pub slice_bounds-result-end-in-Ok : goal.slice_bounds-result-end-in-Ok
+slice_bounds-result-end-in-Ok c =
+    section_end _ _ _ (search) c.in-Ok.is c.number_at-a.ensures.0
     c.section_length.ensures.0 (search)
 
-pub returns-in-Accepted : goal.returns-in-Accepted
-returns-in-Accepted c =
-    section_cut _ _ _ (search) c.in-Accepted.is c.number_at-a.ensures.0 c.section_length.ensures.0
+pub returns-in-Ok : goal.returns-in-Ok
+returns-in-Ok c =
+    section_cut _ _ _ (search) c.in-Ok.is c.number_at-a.ensures.0 c.section_length.ensures.0
 
-pub returns-in-Refused : goal.returns-in-Refused
-returns-in-Refused c =
-    section_empty _ _ _ (search) c.in-Refused.is
+pub returns-in-Err : goal.returns-in-Err
+returns-in-Err c =
+    section_empty _ _ _ (search) c.in-Err.is

@@ -2,19 +2,21 @@
 -- (`back_done`), where demand 2 gives the block fetched, since key, bundle and block are bytes and no call refused.
 -- Assumes nothing.
 use mathlib.Core.Path.{refl}
+use Rattle.answers.proofs.laws.Tests.{handed_back}
 use Rattle.chains.proofs.laws.Whole.{back_none, back_not, back_done}
 use Rattle.chains.proofs.whole.there_and_back.Goals as goal
 
-pub returns-in_default : goal.returns-in_default
-returns-in_default c =
-    search back_none
+pub returns-in_err-present : goal.returns-in_err-present
+returns-in_err-present c =
+    back_none _ _ _ _ _ _ _ _ refl c.present.ensures (handed_back c.from_residual.ensures c.in_err-present.was) c.in_err-present.was
 
-pub returns-in_default-walked : goal.returns-in_default-walked
-returns-in_default-walked c =
-    back_not _ _ _ _ _ _ _ _ refl c.present-presented.ensures c.in-Accepted.is c.walk_over-walked.ensures c.in_default-walked.is
+pub returns-in_err-walk_over : goal.returns-in_err-walk_over
+returns-in_err-walk_over c =
+    back_not _ _ _ _ _ _ _ _ refl c.present.ensures c.in_ok-present.was c.walk_over.ensures
+    (handed_back c.from_residual-in_err-walk_over.ensures c.in_err-walk_over.was) c.in_err-walk_over.was
 
 pub returns : goal.returns
 returns c =
-    back_done _ _ _ _ _ _ _ _ refl c.present-presented.ensures c.in-Accepted.is c.walk_over-walked.ensures c.in-Accepted-walked.is
+    back_done _ _ _ _ _ _ _ _ refl c.present.ensures c.in_ok-present.was c.walk_over.ensures c.in_ok-walk_over.was
     (λ i. (c.type_inv.key i).fits) (λ i. (c.type_inv.bundle i).fits) (λ i. (c.type_inv.block i).fits)
     c.take_off.ensures

@@ -1,4 +1,3 @@
-use Prim.Native.Nat.{◌-◌}
 use Rattle.bits.specs.Lists.{at}
 use Rattle.bits.specs.Nibbles.{pack}
 use Rattle.bits.proofs.laws.Filled.{Filled}
@@ -6,6 +5,3 @@ use Rattle.encodings.proofs.bytes.write_row.Given as goal
 
 abbrev pub invariant-loop-v : goal.invariant-loop-v
 invariant-loop-v l = Filled 16 (λ i. pack l.high (at l.low i)) l.dst l.v
-
-abbrev pub decreases-loop-v : goal.decreases-loop-v
-decreases-loop-v l = 16 - l.v

@@ -28,7 +28,7 @@ bounds-p-i-in-loop-i c =
 
 pub loop-i-preserved : goal.loop-i-preserved
 loop-i-preserved c =
-    undone_more c.requires.0 c.loop-i.invariant c.loop-i-test.true c.widened-high.ensures.0 c.widened-low.ensures.0
+    undone_more c.requires.0 c.loop-i.invariant c.loop-i-test.true c.from-high.ensures c.from-low.ensures
 
 pub returns : goal.returns
 returns c =

@@ -11,7 +11,6 @@ use Rattle.lookups.specs.InPlace.{Fits}
 use Rattle.passes.proofs.laws.Places.{table_fits}
 use Rattle.evaluate.proofs.laws.Calls.{no_lookup, wrong_table, one_done}
 use native.Mathlib.Omega.{arith}
-use borrow.Author.Rules.{rules}
 use Rattle.evaluate.proofs.walk.one_lookup.Goals as goal
 
 pub returns-then-n-lookups_in : goal.returns-then-n-lookups_in
@@ -27,7 +26,7 @@ lookup_in-read-requires c =
     let left : c.args.walk.count < lookups c.args.rounds = omega arith in
     let fits : Fits c.place_of-p.result.stage c.place_of-p.result.index c.place_of-p.result.offset (length c.args.table.now) =
     table_fits _ _ left c.place_of-p.ensures c.requires c.if-table-p.false in
-    (fits, record { standing = search rules; area = search rules })
+    fits
 
 pub returns : goal.returns
 returns c =

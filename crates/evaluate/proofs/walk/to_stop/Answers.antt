@@ -5,8 +5,6 @@
 use mathlib.Core.Path.{refl}
 use Rattle.layout.proofs.laws.Rounds.{sizes_of}
 use Rattle.evaluate.proofs.laws.Calls.{wrong_set, stop_above, stop_below, stop_done}
-use native.Mathlib.Omega.{arith}
-use borrow.Author.Rules.{rules}
 use Rattle.evaluate.proofs.walk.to_stop.Goals as goal
 
 pub returns-then-set-set_bytes : goal.returns-then-set-set_bytes
@@ -20,10 +18,6 @@ returns-then-stop-lookups_in c =
 pub returns-then-stop-walk : goal.returns-then-stop-walk
 returns-then-stop-walk c =
     stop_below (sizes_of c.lookups_in.ensures c.set_bytes.ensures) _ _ _ _ (search) c.refused-then-stop-walk.ensures (search) (search)
-
-pub advance-offset-requires : goal.advance-offset-requires
-advance-offset-requires c =
-    record { sized = omega arith; not_behind = search; stop_within = omega arith; lent = record { standing = search rules; area = search rules }; rounds = c.requires }
 
 pub returns : goal.returns
 returns c =

@@ -1,6 +1,6 @@
 -- `external::block::decode_nibbles`: the loop fills the lent block, byte i with the two nibbles of the block's byte i taken out of their encodings
 -- (`byte_by` of `laws.Code`); its invariant is `Filled` of `bits`. What `decoded` asks of byte i's two encodings is what the `requires` says of all
--- (`byte_permutations`). Behind the loop these bytes are the decoded nibbles (`decode_filled`). The measure is the number of bytes left.
+-- (`byte_permutations`). Behind the loop these bytes are the decoded nibbles (`decode_filled`).
 -- Assumes nothing.
 use Rattle.bits.proofs.laws.Filled.{filled_none, filled_more}
 use Rattle.bundle.specs.Format.{encoding_of}

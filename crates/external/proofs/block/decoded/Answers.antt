@@ -16,6 +16,3 @@ overflow_add-result c =
       decoded_lt c.place-h.ensures c.encoding_part.ensures c.requires.1 (omega arith),
       decoded_lt c.place-l.ensures c.encoding_part-2.ensures c.requires.2 (omega arith),
     )
-
-pub returns : goal.returns
-returns c = cc

@@ -1,5 +1,5 @@
--- `external::block::encode_nibbles`: the loop fills the lent block, byte i with the two images of the block's byte i (`byte_by` of `laws.Code`);
--- its invariant is `Filled` of `bits`. Behind the loop these bytes are the encoded nibbles (`encode_filled`). The measure is the number of bytes left.
+-- `external::block::encode_nibbles`: the loop fills the lent block, byte i with the two images of the block's byte i (`byte_by` of `laws.Code`); its
+-- invariant is `Filled` of `bits`. Behind the loop these bytes are the encoded nibbles (`encode_filled`).
 -- Assumes nothing.
 use Rattle.bits.proofs.laws.Filled.{filled_none, filled_more}
 use Rattle.external.proofs.laws.Code.{encode_filled}

@@ -1,4 +1,3 @@
-use Prim.Native.Nat.{◌-◌}
 use Rattle.bits.specs.Encodings.{encode}
 use Rattle.bits.proofs.laws.Filled.{Filled}
 use Rattle.bundle.specs.Format.{encoding_of}
@@ -7,6 +6,3 @@ use Rattle.external.proofs.block.encode_nibbles.Given as goal
 
 abbrev pub invariant-loop-i : goal.invariant-loop-i
 invariant-loop-i l = Filled 16 (byte_by encode (encoding_of l.rounds l.bundle) l.first l.src) l.dst l.i
-
-abbrev pub decreases-loop-i : goal.decreases-loop-i
-decreases-loop-i l = 16 - l.i

@@ -1,15 +1,15 @@
--- `external::block::unmultiply`: the matrix that the bytes write is inverted, and `times` multiplies by the inverse (`multiplied_back` of
--- `laws.Code`). The `requires` says that the matrix has an inverse, so the way past the `if` is never taken (`never_singular`).
+-- `external::block::unmultiply`: the matrix that the bytes write has an inverse by the `requires`, so its inversion is not refused, and `times` multiplies by
+-- the inverse (`multiplied_back` of `laws.Code`).
 -- Assumes nothing.
-use Rattle.external.proofs.laws.Code.{multiplied_back, never_singular}
+use mathlib.Core.Path.{◌∙◌}
+use Rattle.external.proofs.laws.Code.{multiplied_back}
 use native.Mathlib.Omega.{arith}
 use Rattle.external.proofs.block.unmultiply.Goals as goal
 
-pub returns-then-invert_bytes : goal.returns-then-invert_bytes
-returns-then-invert_bytes c =
+pub unwrap-requires : goal.unwrap-requires
+unwrap-requires c = c.invert_bytes.ensures.answer ∙ c.requires.inverse
+
+pub returns : goal.returns
+returns c =
     multiplied_back _ c.requires.inverse (λ i. (c.type_inv.m i).fits) _ _ _ _ (omega arith)
     c.invert_bytes.ensures.rows c.times.ensures
-
-pub returns-else-invert_bytes : goal.returns-else-invert_bytes
-returns-else-invert_bytes c =
-    absurd (never_singular _ c.requires.inverse _ c.invert_bytes.ensures.answer c.if-invert_bytes.false)

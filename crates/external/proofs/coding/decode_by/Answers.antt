@@ -4,18 +4,18 @@
 -- (`called_encodings`).
 -- Assumes nothing.
 use mathlib.Core.Path.{refl}
-use Rattle.external.proofs.laws.Code.{accepted_ready, called_encodings, nibbles_long, decoded_by, refused}
+use Rattle.external.proofs.laws.Code.{accepted_ready, called_encodings, nibbles_long, decoded_by}
 use Rattle.external.proofs.coding.decode_by.Goals as goal
 
 pub decode_nibbles-requires : goal.decode_nibbles-requires
 decode_nibbles-requires c =
-    let ready = accepted_ready c.ready-a.ensures (search) in
+    let ready = accepted_ready c.ready.ensures c.in_ok-ready.was in
     let permutations = called_encodings _ _ (λ i. (c.type_inv.bundle i).fits) ready.judged refl _ c.requires.codes.inside in
     record { small = c.requires.codes.small; read = ready.long; written = refl; permutations = permutations }
 
 pub unmultiply-requires : goal.unmultiply-requires
 unmultiply-requires c =
-    let ready = accepted_ready c.ready-a.ensures (search) in
+    let ready = accepted_ready c.ready.ensures c.in_ok-ready.was in
     record {
       matrix = c.requires.codes.matrix ready.judged;
       read = nibbles_long _ _ _ _ c.decode_nibbles.ensures;
@@ -23,10 +23,5 @@ unmultiply-requires c =
       inverse = c.requires.inverse ready.judged;
     }
 
-pub returns-in-Accepted : goal.returns-in-Accepted
-returns-in-Accepted c =
-    let out = decoded_by c.ready-a.ensures (search) _ _ _ _ _ _ _ c.decode_nibbles.ensures c.unmultiply.ensures in
-    record { answer = c.ready-a.ensures; block = out }
-
-pub returns-in_default : goal.returns-in_default
-returns-in_default c = search refused
+pub returns-clause-block : goal.returns-clause-block
+returns-clause-block c = decoded_by c.ready.ensures c.in_ok-ready.was _ _ _ _ _ _ _ c.decode_nibbles.ensures c.unmultiply.ensures

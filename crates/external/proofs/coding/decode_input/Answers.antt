@@ -13,7 +13,5 @@ decode_by-requires c =
       inverse = input_has _ _ c.input_matrix_part.ensures (λ i. (c.type_inv.bundle i).fits);
     }
 
-pub returns : goal.returns
-returns c =
-    let out = input_decoded 10 _ c.args.block.now c.args.out.now c.input_matrix_part.ensures c.decode_by.ensures.block in
-    record { answer = c.decode_by.ensures.answer; block = out }
+pub returns-clause-block : goal.returns-clause-block
+returns-clause-block c = input_decoded 10 _ c.args.block.now c.args.out.now c.input_matrix_part.ensures c.decode_by.ensures.block

@@ -14,7 +14,5 @@ decode_by-requires c =
       inverse = output_has _ _ c.output_matrix_part.ensures (λ i. (c.type_inv.bundle i).fits);
     }
 
-pub returns : goal.returns
-returns c =
-    let out = output_decoded 10 _ c.args.block.now c.args.out.now output_first_lem c.output_matrix_part.ensures c.decode_by.ensures.block in
-    record { answer = c.decode_by.ensures.answer; block = out }
+pub returns-clause-block : goal.returns-clause-block
+returns-clause-block c = output_decoded 10 _ c.args.block.now c.args.out.now output_first_lem c.output_matrix_part.ensures c.decode_by.ensures.block

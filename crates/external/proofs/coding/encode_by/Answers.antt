@@ -3,23 +3,18 @@
 -- call is lent (`accepted_ready`): an accepted bundle and blocks of 16 bytes.
 -- Assumes nothing.
 use mathlib.Core.Path.{refl}
-use Rattle.external.proofs.laws.Code.{accepted_ready, multiply_long, encoded_by, refused}
+use Rattle.external.proofs.laws.Code.{accepted_ready, multiply_long, encoded_by}
 use Rattle.external.proofs.coding.encode_by.Goals as goal
 
 pub multiply-requires : goal.multiply-requires
 multiply-requires c =
-    let ready = accepted_ready c.ready-a.ensures (search) in
+    let ready = accepted_ready c.ready.ensures c.in_ok-ready.was in
     (c.requires.matrix ready.judged, ready.long, refl)
 
 pub encode_nibbles-requires : goal.encode_nibbles-requires
 encode_nibbles-requires c =
-    let ready = accepted_ready c.ready-a.ensures (search) in
+    let ready = accepted_ready c.ready.ensures c.in_ok-ready.was in
     (c.requires.small, multiply_long _ _ _ c.multiply.ensures, ready.room)
 
-pub returns-in-Accepted : goal.returns-in-Accepted
-returns-in-Accepted c =
-    let out = encoded_by c.ready-a.ensures (search) _ _ _ _ _ _ _ c.multiply.ensures c.encode_nibbles.ensures in
-    record { answer = c.ready-a.ensures; block = out }
-
-pub returns-in_default : goal.returns-in_default
-returns-in_default c = search refused
+pub returns-clause-block : goal.returns-clause-block
+returns-clause-block c = encoded_by c.ready.ensures c.in_ok-ready.was _ _ _ _ _ _ _ c.multiply.ensures c.encode_nibbles.ensures

@@ -9,7 +9,5 @@ pub encode_by-requires : goal.encode_by-requires
 encode_by-requires c =
     record { inside = omega arith; small = omega arith; matrix = input_long _ _ c.input_matrix_part.ensures }
 
-pub returns : goal.returns
-returns c =
-    let out = input_encoded 10 _ c.args.block.now c.args.out.now c.input_matrix_part.ensures c.encode_by.ensures.block in
-    record { answer = c.encode_by.ensures.answer; block = out }
+pub returns-clause-block : goal.returns-clause-block
+returns-clause-block c = input_encoded 10 _ c.args.block.now c.args.out.now c.input_matrix_part.ensures c.encode_by.ensures.block

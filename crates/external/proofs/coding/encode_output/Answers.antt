@@ -10,7 +10,5 @@ pub encode_by-requires : goal.encode_by-requires
 encode_by-requires c =
     record { inside = omega (arith, output_first_lem); small = omega arith; matrix = output_long _ _ c.output_matrix_part.ensures }
 
-pub returns : goal.returns
-returns c =
-    let out = output_encoded 10 _ c.args.block.now c.args.out.now output_first_lem c.output_matrix_part.ensures c.encode_by.ensures.block in
-    record { answer = c.encode_by.ensures.answer; block = out }
+pub returns-clause-block : goal.returns-clause-block
+returns-clause-block c = output_encoded 10 _ c.args.block.now c.args.out.now output_first_lem c.output_matrix_part.ensures c.encode_by.ensures.block

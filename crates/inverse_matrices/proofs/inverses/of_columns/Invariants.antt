@@ -4,7 +4,4 @@ use Rattle.inverse_matrices.specs.InverseWords.{column_words, column_inverse}
 use Rattle.inverse_matrices.proofs.inverses.of_columns.Given as goal
 
 abbrev pub invariant-loop-n : goal.invariant-loop-n
-invariant-loop-n l = Parts (4 * (l.rounds - 1)) column_words (column_inverse l.rounds l.bundle) l.initial.dst l.dst l.n
-
-abbrev pub decreases-loop-n : goal.decreases-loop-n
-decreases-loop-n l = 4 * (l.rounds - 1) - l.n
+invariant-loop-n l = Parts (4 * (l.opened.rounds - 1)) column_words (column_inverse l.opened.rounds l.opened.bundle.now) l.initial.dst l.dst l.n

@@ -8,9 +8,10 @@ use Rattle.inverse_matrices.proofs.inverses.of_input.Goals as goal
 
 pub read-requires : goal.read-requires
 read-requires c =
-    let known = input_part _ _ _ (λ i. (c.type_inv.bundle i).fits) c.requires.0.accepted c.part-matrix.ensures in
+    let opened = c.args.opened.now in
+    let known = input_part _ _ _ opened.bytes opened.accepted c.part-matrix.ensures in
     search rules
 
 pub returns : goal.returns
 returns c =
-    input_inverse_lem _ _ _ c.args.dst.now _ c.part-matrix.ensures c.requires.1 c.read.ensures
+    input_inverse_lem _ _ _ c.args.dst.now _ c.part-matrix.ensures c.requires c.read.ensures

@@ -14,19 +14,15 @@ returns-then-j-gt15 c = made_xor _ _ _ _ _ _ c.if-j-gt15.true refl
 
 pub returns-in-Entry : goal.returns-in-Entry
 returns-in-Entry c =
-    made_entry _ _ _ _ _ _ c.if-j-gt15.false c.in-Entry.is c.requires.2 c.of_input.ensures
+    made_entry _ _ _ _ _ _ c.if-j-gt15.false c.in-Entry.is c.requires.1 c.of_input.ensures
 
 pub returns-in-First : goal.returns-in-First
 returns-in-First c =
     made_none _ _ _ _ _ _ _ c.if-j-gt15.false c.in-First.is refl refl
 
-pub column_number-requires : goal.column_number-requires
-column_number-requires c =
-    omega (arith, c.requires.0, round_second _ c.in-Second.is c.requires.1)
-
 pub of_column-requires : goal.of_column-requires
 of_column-requires c =
-    (c.requires.0, column_below _ (omega (arith, c.column_number.ensures.1, round_second _ c.in-Second.is c.requires.1)), omega (arith, c.requires))
+    (column_below _ (omega (arith, c.column_number.ensures.1, round_second _ c.in-Second.is c.requires.0)), omega (arith, c.requires))
 
 pub returns-in-Second : goal.returns-in-Second
 returns-in-Second c =
@@ -35,7 +31,3 @@ returns-in-Second c =
 pub returns-in-Exit : goal.returns-in-Exit
 returns-in-Exit c =
     made_none _ _ _ _ _ _ _ c.if-j-gt15.false c.in-Exit.is refl refl
-
-pub returns-in-Beyond : goal.returns-in-Beyond
-returns-in-Beyond c =
-    made_none _ _ _ _ _ _ _ c.if-j-gt15.false c.in-Beyond.is refl refl

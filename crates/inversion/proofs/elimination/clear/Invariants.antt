@@ -1,10 +1,5 @@
-use Prim.Native.Nat.{◌-◌}
-use Rattle.bits.specs.Words.{value}
 use Rattle.inversion.proofs.laws.Loops.{Cleared}
 use Rattle.inversion.proofs.elimination.clear.Given as goal
 
 abbrev pub invariant-loop-i : goal.invariant-loop-i
-invariant-loop-i l = Cleared l.n l.k l.initial.work (value l.l) (value l.r) l.work l.i
-
-abbrev pub decreases-loop-i : goal.decreases-loop-i
-decreases-loop-i l = l.n - l.i
+invariant-loop-i g l = Cleared g.R.Row.number g.R.Augmented.inverse l.n l.k l.initial.work l.top l.work l.i

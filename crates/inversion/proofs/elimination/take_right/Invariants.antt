@@ -1,10 +1,6 @@
-use Prim.Native.Nat.{◌-◌}
 use Rattle.matrices.proofs.laws.Rows.{Stored}
-use Rattle.inversion.specs.Work.{right_at}
+use Rattle.inversion.specs.Work.{row_in}
 use Rattle.inversion.proofs.elimination.take_right.Given as goal
 
 abbrev pub invariant-loop-i : goal.invariant-loop-i
-invariant-loop-i l = Stored l.n (right_at l.work) l.initial.b l.b l.i
-
-abbrev pub decreases-loop-i : goal.decreases-loop-i
-decreases-loop-i l = l.n - l.i
+invariant-loop-i g l = Stored l.n (row_in g.R.Augmented.inverse l.work) l.initial.b l.b l.i

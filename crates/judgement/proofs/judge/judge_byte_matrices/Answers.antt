@@ -15,10 +15,10 @@ unfolding part_size
 first_bad_matrix-requires c =
     record { framed = c.requires; there = omega arith; narrow = omega arith; square = refl }
 
-pub returns-in-At : goal.returns-in-At
-returns-in-At c =
-    found_refuses _ ByteMatrix _ c.in-At.is ∙ bytes_judged _ _ c.first_bad_matrix.ensures
+pub returns-in-Some : goal.returns-in-Some
+returns-in-Some c =
+    found_refuses _ ByteMatrix _ c.in-Some.is ∙ bytes_judged _ _ c.first_bad_matrix.ensures
 
-pub returns-in-Nothing : goal.returns-in-Nothing
-returns-in-Nothing c =
-    found_passes _ ByteMatrix c.in-Nothing.is ∙ bytes_judged _ _ c.first_bad_matrix.ensures
+pub returns-in-None : goal.returns-in-None
+returns-in-None c =
+    found_passes _ ByteMatrix c.in-None.is ∙ bytes_judged _ _ c.first_bad_matrix.ensures

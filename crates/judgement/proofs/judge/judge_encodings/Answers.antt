@@ -13,13 +13,13 @@ pub first_bad_encoding-requires : goal.first_bad_encoding-requires
 first_bad_encoding-requires c =
     encodings_asked _ _ c.section.ensures c.part_count.ensures (search)
 
-pub returns-in-At : goal.returns-in-At
-returns-in-At c =
-    found_refuses _ Encoding _ c.in-At.is ∙ encodings_judged _ _ (search) (search) c.first_bad_encoding.ensures
+pub returns-in-Some : goal.returns-in-Some
+returns-in-Some c =
+    found_refuses _ Encoding _ c.in-Some.is ∙ encodings_judged _ _ (search) (search) c.first_bad_encoding.ensures
 
-pub returns-in-Nothing : goal.returns-in-Nothing
-returns-in-Nothing c =
-    found_passes _ Encoding c.in-Nothing.is ∙ encodings_judged _ _ (search) (search) c.first_bad_encoding.ensures
+pub returns-in-None : goal.returns-in-None
+returns-in-None c =
+    found_passes _ Encoding c.in-None.is ∙ encodings_judged _ _ (search) (search) c.first_bad_encoding.ensures
 
 pub part_count-requires : goal.part_count-requires
 part_count-requires c =

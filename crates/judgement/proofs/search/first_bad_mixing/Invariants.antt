@@ -1,10 +1,6 @@
-use Prim.Native.Nat.{◌-◌}
 use Rattle.answers.proofs.laws.Search.{Searched}
 use Rattle.judgement.proofs.laws.Judging.{bad_mixing_in}
 use Rattle.judgement.proofs.search.first_bad_mixing.Given as goal
 
 abbrev pub invariant-loop-k : goal.invariant-loop-k
 invariant-loop-k l = Searched l.count (bad_mixing_in l.w l.size l.s) l.k
-
-abbrev pub decreases-loop-k : goal.decreases-loop-k
-decreases-loop-k l = l.count - l.k

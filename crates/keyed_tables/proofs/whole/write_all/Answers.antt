@@ -3,7 +3,7 @@
 -- of table n, which lies within the memory (`table_room` of `laws.Set`) and comes back with the table of that stage and
 -- index, which is table n (`table_made`, `table_next`); behind the last turn the memory is all tables (`tables_all`).
 -- What is chosen for table n, from the columns lent whole (`columns_lent`) and for a round that there is (`round_at`),
--- begins with the inverse that it is made with (`inverse_chosen`). The measure is the number of tables left.
+-- begins with the inverse that it is made with (`inverse_chosen`).
 -- Assumes nothing.
 use mathlib.Core.Path.{refl, ◌∙◌}
 use Prim.Native.Nat.{◌+◌, ◌≤◌}
@@ -20,31 +20,23 @@ use Rattle.keyed_tables.proofs.whole.write_all.Goals as goal
 use Rattle.keyed_tables.proofs.whole.write_all.Goals.{After-place_of-place}
 
 -- the place of table n in a turn, whose part lies within the memory
-here : (c : After-place_of-place) → Stands c.args.rounds c.loop-n.n c.place_of-place.result
+here : (c : After-place_of-place) → Stands c.args.source.now.opened.rounds c.loop-n.n c.place_of-place.result
 here c = stands (omega arith) c.place_of-place.ensures
 
 room : (c : After-place_of-place) → c.place_of-place.result.offset + c.place_of-place.result.size ≤ length c.loop-n.memory
-room c = table_room _ refl refl c.requires.room c.loop-n.invariant (omega arith) _ c.place_of-place.ensures
+room c = table_room _ refl refl c.requires.2 c.loop-n.invariant (omega arith) _ c.place_of-place.ensures
 
 pub loop-n-init : goal.loop-n-init
 loop-n-init c = parts_at_none (first_offset _)
 
 pub overflow_add-e : goal.overflow_add-e
 overflow_add-e c =
-    omega (arith, here (goal.at.overflow_add-e c).After-place_of-place, tables_in_set c.args.rounds, most_bytes _ c.requires.sources.bundle.rounds)
+    omega (arith, here (goal.at.overflow_add-e c).After-place_of-place, tables_in_set c.args.source.now.opened.rounds, most_bytes _ c.args.source.now.opened.known)
 
 pub chosen-inverse-requires : goal.chosen-inverse-requires
 chosen-inverse-requires c =
-    let nr = c.requires.sources.bundle.rounds in
-    (nr, columns_lent _ _ _ _ (column_count _) c.requires.columns, round_at _ _ _ c.place_of-place.ensures (omega (arith, nr)) (omega arith))
-
-pub slice_bounds-write-count : goal.slice_bounds-write-count
-slice_bounds-write-count c =
-    omega (arith, room (goal.at.slice_bounds-write-count c).After-place_of-place)
-
-pub slice_bounds-write-start : goal.slice_bounds-write-start
-slice_bounds-write-start c =
-    omega (arith, room (goal.at.slice_bounds-write-start c).After-place_of-place)
+    let nr = c.args.source.now.opened.known in
+    (nr, columns_lent _ _ _ _ (column_count _) c.requires.0, round_at _ _ _ c.place_of-place.ensures (omega (arith, nr)) (omega arith))
 
 pub slice_bounds-write-end : goal.slice_bounds-write-end
 slice_bounds-write-end c =
@@ -52,32 +44,20 @@ slice_bounds-write-end c =
 
 pub write-requires : goal.write-requires
 write-requires c =
-    let p = c.requires in
+    let nr = c.args.source.now.opened.known in
     let at = here (goal.at.write-requires c).After-place_of-place in
     let within = room (goal.at.write-requires c).After-place_of-place in
-    let e = c.place_of-place.ensures in
-    let some : 1 ≤ c.args.rounds = omega (arith, p.sources.bundle.rounds) in
-    let chosen = inverse_chosen _ _ _ e _ _ _ _ some (omega arith) p.columns p.input c.chosen-inverse.ensures in
-    record {
-      inverse = chosen;
-      table = record { stage = round_at _ _ _ e some (omega arith); index = at.index; size = length_cut _ _ _ within ∙ at.kind };
-      sources = p.sources;
-    }
+    let e = c.place_of-place.ensures in (
+      inverse_chosen _ _ _ e _ _ _ _ (omega (arith, nr)) (omega arith) c.requires.0 c.requires.1 c.chosen-inverse.ensures,
+      record { stage = round_at _ _ _ e (omega (arith, nr)) (omega arith); index = at.index; size = length_cut _ _ _ within ∙ at.kind },
+    )
 
 pub loop-n-preserved : goal.loop-n-preserved
 loop-n-preserved c =
     let e = c.place_of-place.ensures in
-    table_next _ refl refl c.requires.room c.loop-n.invariant (omega arith) _ e _
+    table_next _ refl refl c.requires.2 c.loop-n.invariant (omega arith) _ e _
     (omega (arith, c.write)) (table_made _ _ _ e _ _ _ (omega arith) c.write.ensures)
 
 pub returns : goal.returns
 returns c =
-    tables_all _ refl refl c.requires.room c.loop-n.invariant (omega arith)
-
-pub place_of-place-requires : goal.place_of-place-requires
-place_of-place-requires c =
-    c.requires.sources.bundle.rounds
-
-pub lookups_in-all-requires : goal.lookups_in-all-requires
-lookups_in-all-requires c =
-    c.requires.sources.bundle.rounds
+    tables_all _ refl refl c.requires.2 c.loop-n.invariant (omega arith)

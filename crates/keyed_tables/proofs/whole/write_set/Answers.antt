@@ -1,33 +1,21 @@
--- `keyed_tables::whole::write_set` expands the key into the front of the room for round keys and has `write_tables`
--- write every table into the tables' part of the memory. The front, read again, is the round keys (`front_back` of
--- `laws.Set`), and by `set_made` of `laws.Made` the memory is then the set of the key and the bundle.
+-- `keyed_tables::whole::write_set` has the round keys written into the front of their room and has `write_tables` write
+-- every table into the tables' part of the memory. The front, read again, is the round keys (`source_of` of
+-- `laws.Made`), and by `set_made` the memory is then the set of the key and the bundle.
 -- Assumes nothing.
+use mathlib.Core.Path.{ap}
 use Rattle.round.specs.Key.{rounds_of}
+use Rattle.layout.specs.Stages.{tables_bytes}
 use Rattle.layout.proofs.laws.Lookup.{tables_in_set}
-use Rattle.keyed_tables.proofs.laws.Made.{set_made}
-use Rattle.keyed_tables.proofs.laws.Set.{front_back}
+use Rattle.keyed_tables.proofs.laws.Made.{source_of, set_made}
 use native.Mathlib.Omega.{arith}
-use borrow.Author.Rules.{rules}
 use Rattle.keyed_tables.proofs.whole.write_set.Goals as goal
 
-pub slice_bounds-write_tables-end-2 : goal.slice_bounds-write_tables-end-2
-slice_bounds-write_tables-end-2 c =
-    omega (arith, tables_in_set (rounds_of c.args.words))
-
-pub write_tables-requires : goal.write_tables-requires
-write_tables-requires c =
-    let p = c.requires in
-    record {
-      keys = search rules;
-      columns = p.columns;
-      accepted = p.given.accepted;
-      room = search rules;
-      rounds = p.given.rounds;
-    }
+pub slice_bounds-write_tables-end : goal.slice_bounds-write_tables-end
+slice_bounds-write_tables-end c =
+    omega (arith, tables_in_set (rounds_of c.args.given.now.words), ap tables_bytes c.source-source.ensures.rounds)
 
 pub returns : goal.returns
 returns c =
-    let a = c.args in
-    let p = c.requires in
-    set_made _ _ _ _ _ a.memory.now _ _ c.tables_bytes-tables.ensures p.room (omega (arith, c.write_tables)) c.write_tables.ensures
-    (front_back _ a.keys.now p.keys _ (omega (arith, c.expand)) c.expand.ensures)
+    let e = c.source-source.ensures in
+    let of = source_of _ _ e.cipher e.rounds e.bundle e.keys c.round_keys-n.ensures.front in
+    set_made of c.args.memory.now _ _ c.tables_bytes-tables.ensures c.requires.2 (omega (arith, c.write_tables)) c.write_tables.ensures

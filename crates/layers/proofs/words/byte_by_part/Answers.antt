@@ -12,10 +12,6 @@ use Rattle.layers.proofs.words.byte_by_part.Goals as goal
 pub loop-i-init : goal.loop-i-init
 loop-i-init c = joined_none refl
 
-pub overflow_cast-p : goal.overflow_cast-p
-overflow_cast-p c =
-    omega (arith, (c.type_inv.p c.loop-i.i).fits)
-
 pub push_parity-r-requires : goal.push_parity-r-requires
 push_parity-r-requires c =
     joined_room c.loop-i.invariant 63 (omega arith) (λ j. dot_lt _ _)

@@ -1,4 +1,3 @@
-use Prim.Native.Nat.{◌-◌}
 use Rattle.bits.proofs.laws.Joined.{Joined}
 use Rattle.round.specs.State.{mix_rows, inv_mix_rows, entry}
 use Rattle.layout.specs.Ciphers.{for_cipher}
@@ -7,6 +6,3 @@ use Rattle.layers.proofs.words.mixed.Given as goal
 
 abbrev pub invariant-loop-t : goal.invariant-loop-t
 invariant-loop-t l = Joined 8 4 (mixed_by (entry (for_cipher l.cipher mix_rows inv_mix_rows)) l.q l.y) l.v l.t
-
-abbrev pub decreases-loop-t : goal.decreases-loop-t
-decreases-loop-t l = 4 - l.t

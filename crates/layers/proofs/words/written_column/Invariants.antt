@@ -1,4 +1,4 @@
-use Prim.Native.Nat.{◌-◌, ◌^◌}
+use Prim.Native.Nat.{◌^◌}
 use Rattle.bits.specs.Bytes.{placed}
 use Rattle.bits.specs.Lists.{at}
 use Rattle.bits.specs.Vectors.{dot}
@@ -9,6 +9,3 @@ use Rattle.layers.proofs.words.written_column.Given as goal
 
 abbrev pub invariant-loop-r : goal.invariant-loop-r
 invariant-loop-r l = Joined 1 128 (λ j. dot (at (matrix_of 16 l.p) j) (placed 16 l.i (2 ^ l.k))) (value l.v) l.r
-
-abbrev pub decreases-loop-r : goal.decreases-loop-r
-decreases-loop-r l = 128 - l.r

@@ -7,37 +7,37 @@ use native.Mathlib.Omega.{arith}
 use Rattle.layout.proofs.stage.place_of.Goals as goal
 
 pub returns-in-0-to-495 : goal.returns-in-0-to-495
-returns-in-0-to-495 c = in_entry _ _ (omega arith) (search)
+returns-in-0-to-495 c = search in_entry
 
 pub returns-in-496-to-2511 : goal.returns-in-496-to-2511
-returns-in-496-to-2511 c = in_rounds _ _ (omega arith) (omega arith) (search)
+returns-in-496-to-2511 c = search (in_rounds, arith)
 
 pub returns-in-2512-to-3007 : goal.returns-in-2512-to-3007
-returns-in-2512-to-3007 c = in_exit _ _ 2512 643072 (omega arith) (omega arith) (search) (omega arith) (search)
+returns-in-2512-to-3007 c = search (in_exit, arith)
 
 pub returns-in_default-n : goal.returns-in_default-n
-returns-in_default-n c = beyond _ _ 3008 770048 (omega arith) (omega arith) (search) (search)
+returns-in_default-n c = search (beyond, arith)
 
 pub returns-in-0-to-495-n : goal.returns-in-0-to-495-n
-returns-in-0-to-495-n c = in_entry _ _ (omega arith) (search)
+returns-in-0-to-495-n c = search in_entry
 
 pub returns-in-496-to-2959 : goal.returns-in-496-to-2959
-returns-in-496-to-2959 c = in_rounds _ _ (omega arith) (omega arith) (search)
+returns-in-496-to-2959 c = search (in_rounds, arith)
 
 pub returns-in-2960-to-3455 : goal.returns-in-2960-to-3455
-returns-in-2960-to-3455 c = in_exit _ _ 2960 757760 (omega arith) (omega arith) (search) (omega arith) (search)
+returns-in-2960-to-3455 c = search (in_exit, arith)
 
 pub returns-in_default-n-2 : goal.returns-in_default-n-2
-returns-in_default-n-2 c = beyond _ _ 3456 884736 (omega arith) (omega arith) (search) (search)
+returns-in_default-n-2 c = search (beyond, arith)
 
 pub returns-in-0-to-495-n-2 : goal.returns-in-0-to-495-n-2
-returns-in-0-to-495-n-2 c = in_entry _ _ (omega arith) (search)
+returns-in-0-to-495-n-2 c = search in_entry
 
 pub returns-in-496-to-3407 : goal.returns-in-496-to-3407
-returns-in-496-to-3407 c = in_rounds _ _ (omega arith) (omega arith) (search)
+returns-in-496-to-3407 c = search (in_rounds, arith)
 
 pub returns-in-3408-to-3903 : goal.returns-in-3408-to-3903
-returns-in-3408-to-3903 c = in_exit _ _ 3408 872448 (omega arith) (omega arith) (search) (omega arith) (search)
+returns-in-3408-to-3903 c = search (in_exit, arith)
 
 pub returns-in_default-n-3 : goal.returns-in_default-n-3
-returns-in_default-n-3 c = beyond _ _ 3904 999424 (omega arith) (omega arith) (search) (search)
+returns-in_default-n-3 c = search (beyond, arith)

@@ -1,15 +1,11 @@
--- `lookups::area::take_sums` meets its contract. The loop's invariant, `Filled` of bits: the standing bytes before q are those of the sums. A turn
--- reads byte q from the place that `sum_at` ensures (`sums_more` of `laws.Area`); behind byte 15 the standing bytes are the sums (`sums_all`).
+-- `lookups::area::take_sums` meets its contract. Standing byte q is that of the area at the place that `sum_at` ensures (`from_fn` of bits' `laws.Arrays`): `sums`,
+-- written out.
 -- Assumes nothing.
-use Rattle.bits.proofs.laws.Filled.{filled_none}
-use Rattle.lookups.proofs.laws.Area.{sums_more, sums_all}
+use Rattle.bits.proofs.laws.Arrays.{from_fn}
+use Rattle.std.proofs.Common.{rules}
+use Rattle.network.specs.Lookups.{sums}
 use Rattle.lookups.proofs.area.take_sums.Goals as goal
 
-pub loop-q-init : goal.loop-q-init
-loop-q-init c = search filled_none
-
-pub loop-q-preserved : goal.loop-q-preserved
-loop-q-preserved c = search sums_more
-
 pub returns : goal.returns
-returns c = search sums_all
+unfolding sums
+returns c = from_fn _ (λ i y q k. search rules) c.from_fn.ensures.items

@@ -1,6 +1,6 @@
 -- `matrices::matrix::column` meets its contract. The loop's invariant, `Joined` of bits: the vector c is made of the parities of the first i
 -- rows and 2^s. A turn pushes digit s of row i, which is that parity (`column_bit` of `laws.Rows`), and there is room for it, since there are
--- at most 128 rows (`joined_bit`); behind the last row c is the product (`multiplied`). The measure is the number of rows left.
+-- at most 128 rows (`joined_bit`); behind the last row c is the product (`multiplied`).
 -- Assumes nothing.
 use Rattle.bits.proofs.laws.Joined.{joined_none, joined_bit}
 use Rattle.bits.proofs.laws.Vectors.{dot_lt}

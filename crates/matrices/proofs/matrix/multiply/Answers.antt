@@ -1,6 +1,6 @@
 -- `matrices::matrix::multiply` meets its contract. The loop's invariant, `Joined` of bits: the vector p is made of the parities of the first i
 -- rows and v. A turn pushes the parity of row i, for which there is room, since there are at most 128 rows (`joined_bit`); behind the last row
--- p is the product (`multiplied` of `laws.Rows`). The measure is the number of rows left.
+-- p is the product (`multiplied` of `laws.Rows`).
 -- Assumes nothing.
 use Rattle.bits.proofs.laws.Joined.{joined_none, joined_bit}
 use Rattle.bits.proofs.laws.Vectors.{dot_lt}

@@ -1,4 +1,3 @@
-use Prim.Native.Nat.{◌-◌}
 use Rattle.bits.specs.Vectors.{dot}
 use Rattle.bits.specs.Words.{value}
 use Rattle.bits.proofs.laws.Joined.{Joined}
@@ -7,6 +6,3 @@ use Rattle.matrices.proofs.matrix.multiply.Given as goal
 
 abbrev pub invariant-loop-i : goal.invariant-loop-i
 invariant-loop-i l = Joined 1 l.n (λ j. dot (row_at l.m j) (value l.fn.v)) (value l.p) l.i
-
-abbrev pub decreases-loop-i : goal.decreases-loop-i
-decreases-loop-i l = l.n - l.i

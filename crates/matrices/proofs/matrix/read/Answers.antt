@@ -1,7 +1,7 @@
 -- `matrices::matrix::read` meets its contract. The loop's invariant, `Stored` of `laws.Rows`: the first i rows of the matrix that the bytes
 -- write are stored, and the words have kept their length. A turn reads the w bytes of row i (`row_read` of `laws.Stored`) and stores the row
 -- (`stored_more`); behind the last row all are (`stored_all`). The bytes of a row lie within those of the matrix (`row_within`), at most 2048
--- of them, so no index wraps. The measure is the number of rows left.
+-- of them, so no index wraps.
 -- Assumes nothing.
 use Rattle.matrices.proofs.laws.Rows.{stored_none, stored_more, stored_all}
 use Rattle.matrices.proofs.laws.Stored.{row_within, row_read}

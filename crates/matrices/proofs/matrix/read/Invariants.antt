@@ -1,4 +1,3 @@
-use Prim.Native.Nat.{◌-◌}
 use Rattle.bits.specs.Lists.{at}
 use Rattle.matrices.specs.Matrices.{matrix_of}
 use Rattle.matrices.proofs.laws.Rows.{Stored}
@@ -6,6 +5,3 @@ use Rattle.matrices.proofs.matrix.read.Given as goal
 
 abbrev pub invariant-loop-i : goal.invariant-loop-i
 invariant-loop-i l = Stored l.n (at (matrix_of l.w l.s)) l.initial.m l.m l.i
-
-abbrev pub decreases-loop-i : goal.decreases-loop-i
-decreases-loop-i l = l.n - l.i

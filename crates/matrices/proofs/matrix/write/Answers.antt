@@ -1,7 +1,7 @@
 -- `matrices::matrix::write` meets its contract. The loop's invariant, `Parts` of bits: the first i parts of w bytes hold the bytes of the first
 -- i rows. A turn lends part i, into which `vector::write` writes row i (`row_written` of `laws.Stored`, with `parts_more`); behind the last
 -- part the bytes are those of the matrix (`matrix_written`). A part lies within the bytes, at most 2048 of them, so no index wraps, and is w
--- bytes long (`part_lent`). The measure is the number of rows left.
+-- bytes long (`part_lent`).
 -- Assumes nothing.
 use Rattle.bits.proofs.laws.Parts.{Part, parts_none, part_lent, parts_more}
 use Rattle.matrices.proofs.laws.Stored.{row_written, matrix_written}

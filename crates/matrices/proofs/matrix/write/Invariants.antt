@@ -1,4 +1,3 @@
-use Prim.Native.Nat.{◌-◌}
 use Rattle.bits.specs.Bytes.{bytes_of}
 use Rattle.bits.proofs.laws.Parts.{Parts}
 use Rattle.matrices.specs.Rows.{row_at}
@@ -6,6 +5,3 @@ use Rattle.matrices.proofs.matrix.write.Given as goal
 
 abbrev pub invariant-loop-i : goal.invariant-loop-i
 invariant-loop-i l = Parts l.n l.w (λ r. bytes_of l.w (row_at l.m r)) l.initial.dst l.dst l.i
-
-abbrev pub decreases-loop-i : goal.decreases-loop-i
-decreases-loop-i l = l.n - l.i

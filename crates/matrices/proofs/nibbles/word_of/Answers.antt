@@ -1,4 +1,4 @@
--- `matrices::nibbles::word_of` adds the rows of the two nibbles of y: by what `row`, `widened` and `add` ensure it is
+-- `matrices::nibbles::word_of` adds the rows of the two nibbles of y: by what `row`, `from` and `add` ensure it is
 -- `word_in` written out.
 -- Assumes nothing.
 use mathlib.Core.Path.{ap, ap₂, ◌∙◌}
@@ -12,5 +12,5 @@ pub returns : goal.returns
 returns c =
     let row : ℕ → ℕ = row_at c.args.words.now in
     c.add.ensures
-    ∙ ap₂ bit_xor (c.row-low.ensures ∙ ap row c.widened.ensures.0)
-    (one-mul _ ∙ c.row-high.ensures ∙ ap (λ (k : ℕ). row (16 + k)) c.widened-2.ensures.0)
+    ∙ ap₂ bit_xor (c.row-low.ensures ∙ ap row c.from.ensures)
+    (one-mul _ ∙ c.row-high.ensures ∙ ap (λ (k : ℕ). row (16 + k)) c.from-2.ensures)

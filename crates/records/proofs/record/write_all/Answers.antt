@@ -5,7 +5,7 @@
 use Prim.Native.Nat.{◌+◌, ◌≤◌}
 use Rattle.lookups.specs.InPlace.{offset_limit}
 use Rattle.passes.proofs.laws.Places.{place_width}
-use Rattle.records.proofs.laws.Loops.{Counted, all_some, all_within, all_fits, layer_stands, layer_lent}
+use Rattle.records.proofs.laws.Loops.{Counted, all_some, all_within, all_fits, layer_stands}
 use Rattle.records.proofs.laws.Loops.{recording_none, layer_room, layer_part, recording_more, recording_all}
 use native.Mathlib.Omega.{arith}
 use Rattle.records.proofs.record.write_all.Goals as goal
@@ -29,10 +29,6 @@ pub overflow_add-next : goal.overflow_add-next
 overflow_add-next c =
     omega (arith, fits (goal.at.overflow_add-next c).After-lookups_of)
 
-pub overflow_mul-from : goal.overflow_mul-from
-overflow_mul-from c =
-    omega (arith, fits (goal.at.overflow_mul-from c).After-lookups_of)
-
 pub overflow_mul-to : goal.overflow_mul-to
 overflow_mul-to c =
     omega (arith, fits (goal.at.overflow_mul-to c).After-lookups_of)
@@ -45,7 +41,6 @@ pub record_layer-requires : goal.record_layer-requires
 record_layer-requires c =
     let stage = counted (goal.at.record_layer-requires c).After-lookups_of in (
       layer_stands stage c.loop-n.invariant.stands c.requires.rounds c.requires.sized,
-      layer_lent stage c.loop-n.invariant.stands,
       layer_part c.loop-n.invariant stage,
     )
 

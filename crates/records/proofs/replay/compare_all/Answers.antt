@@ -8,7 +8,7 @@ use Prim.Native.Nat.{◌+◌, ◌≤◌}
 use Rattle.lookups.specs.InPlace.{offset_limit}
 use Rattle.passes.proofs.laws.Places.{place_width}
 use Rattle.records.proofs.laws.Loops.{Counted, all_some, all_within, all_fits}
-use Rattle.records.proofs.laws.Loops.{comparing_none, record_room, own_room, compare_asked, comparing_here, comparing_next, comparing_all}
+use Rattle.records.proofs.laws.Loops.{comparing_none, record_room, own_room, compare_asked, found_below, comparing_here, comparing_next, comparing_all}
 use native.Mathlib.Omega.{arith}
 use Rattle.records.proofs.replay.compare_all.Goals as goal
 use Rattle.records.proofs.replay.compare_all.Goals.{After-lookups_of-count}
@@ -22,7 +22,7 @@ fits c = all_fits (counted c) c.loop-n.invariant.stands c.requires.rounds
 
 pub loop-n-init : goal.loop-n-init
 loop-n-init c =
-    comparing_none c.requires.block_sized c.load-standing.ensures refl
+    comparing_none c.load-standing.ensures refl
 
 pub lookups_of-count-requires : goal.lookups_of-count-requires
 lookups_of-count-requires c =
@@ -36,10 +36,6 @@ pub overflow_mul-size : goal.overflow_mul-size
 overflow_mul-size c =
     omega (arith, fits (goal.at.overflow_mul-size c).After-lookups_of-count)
 
-pub overflow_mul-from : goal.overflow_mul-from
-overflow_mul-from c =
-    omega (arith, fits (goal.at.overflow_mul-from c).After-lookups_of-count)
-
 pub overflow_mul-to : goal.overflow_mul-to
 overflow_mul-to c =
     omega (arith, fits (goal.at.overflow_mul-to c).After-lookups_of-count)
@@ -52,17 +48,19 @@ pub slice_bounds-own-end : goal.slice_bounds-own-end
 slice_bounds-own-end c =
     own_room c.loop-n.invariant (counted (goal.at.slice_bounds-own-end c).After-lookups_of-count) c.requires.record_sized
 
-pub compare_layer-k-requires : goal.compare_layer-k-requires
-compare_layer-k-requires c =
-    compare_asked c.loop-n.invariant (counted (goal.at.compare_layer-k-requires c).After-lookups_of-count) c.requires.record_sized c.requires.rounds c.requires.sized
+pub compare_layer-other-requires : goal.compare_layer-other-requires
+compare_layer-other-requires c =
+    compare_asked c.loop-n.invariant (counted (goal.at.compare_layer-other-requires c).After-lookups_of-count) c.requires.record_sized c.requires.rounds c.requires.sized
 
-pub overflow_add-other : goal.overflow_add-other
-overflow_add-other c =
-    omega (arith, fits (goal.at.overflow_add-other c).After-lookups_of-count)
+pub overflow_add-result : goal.overflow_add-result
+overflow_add-result c =
+    let stage = counted (goal.at.overflow_add-result c).After-lookups_of-count in
+    let below = found_below c.loop-n.invariant stage c.requires.record_sized c.compare_layer-other.ensures c.in-Some.is in
+    omega (arith, fits (goal.at.overflow_add-result c).After-lookups_of-count, below)
 
-pub returns-then-k-count : goal.returns-then-k-count
-returns-then-k-count c =
-    comparing_here c.loop-n.invariant (counted (goal.at.returns-then-k-count c).After-lookups_of-count) c.requires.record_sized c.compare_layer-k.ensures (search)
+pub returns-in-Some : goal.returns-in-Some
+returns-in-Some c =
+    comparing_here c.loop-n.invariant (counted (goal.at.returns-in-Some c).After-lookups_of-count) c.requires.record_sized c.compare_layer-other.ensures c.in-Some.is
 
 pub loop-n-smaller : goal.loop-n-smaller
 loop-n-smaller c =
@@ -71,7 +69,7 @@ loop-n-smaller c =
 
 pub loop-n-preserved : goal.loop-n-preserved
 loop-n-preserved c =
-    comparing_next c.loop-n.invariant (counted (goal.at.loop-n-preserved c).After-lookups_of-count) c.requires.record_sized c.compare_layer-k.ensures (search) (search)
+    comparing_next c.loop-n.invariant (counted (goal.at.loop-n-preserved c).After-lookups_of-count) c.requires.record_sized c.compare_layer-other.ensures c.in_default.is (search)
 
 pub returns : goal.returns
 returns c =

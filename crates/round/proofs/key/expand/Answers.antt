@@ -1,6 +1,6 @@
 -- `round::key::expand` meets its contract. The invariant, `Expanded` of `laws.Expansion`: the first i words, the key's among them, are those of the
 -- expansion. It holds behind `lay` (`expanded_none`); a turn makes word i of the words i - 1 and i - nk and writes it (`expanded_more`); behind the last
--- turn the whole is the expansion (`expanded_all`). The measure is the words left. Each word that is read or written lies in w, which has room for all.
+-- turn the whole is the expansion (`expanded_all`). Each word that is read or written lies in w, which has room for all.
 -- Assumes nothing.
 use Prim.Native.Nat.{◌≤◌}
 use Rattle.round.proofs.laws.Expansion.{expanded_none, expanded_more, expanded_all}

@@ -1,15 +1,12 @@
--- `round::state::inv_sub_bytes` meets its contract. The invariant, `Filled` of the crate bits: the first i bytes are those of s behind the inverse
--- S-box. A turn writes one byte more (`filled_more`); behind the last they are `InvSubBytes` cell by cell (`inv_sub_filled` of `laws.State`).
+-- `round::state::inv_sub_bytes` meets its contract. Byte i of the array is that of s behind the inverse S-box (`mapped` of bits' `laws.Arrays`), which is the
+-- definition, cell by cell (`inv_sub_is` of `laws.State`).
 -- Assumes nothing.
-use Rattle.bits.proofs.laws.Filled.{filled_none, filled_more}
-use Rattle.round.proofs.laws.State.{inv_sub_filled}
+use mathlib.Core.Path.{◌∙◌}
+use Rattle.bits.proofs.laws.Arrays.{mapped}
+use Rattle.std.proofs.Common.{rules}
+use Rattle.field.specs.Sbox.{inv_sbox_of}
+use Rattle.round.proofs.laws.State.{inv_sub_is}
 use Rattle.round.proofs.state.inv_sub_bytes.Goals as goal
 
-pub loop-i-init : goal.loop-i-init
-loop-i-init c = search filled_none
-
-pub loop-i-preserved : goal.loop-i-preserved
-loop-i-preserved c = search filled_more
-
 pub returns : goal.returns
-returns c = search inv_sub_filled
+returns c = mapped inv_sbox_of (λ x y q k. search rules) c.map.ensures.items ∙ inv_sub_is _

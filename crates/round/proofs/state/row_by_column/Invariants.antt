@@ -1,4 +1,3 @@
-use Prim.Native.Nat.{◌-◌}
 use Rattle.bits.proofs.laws.Summed.{Summed}
 use Rattle.field.specs.Field.{mul}
 use Rattle.round.specs.State.{cell, entry}
@@ -6,6 +5,3 @@ use Rattle.round.proofs.state.row_by_column.Given as goal
 
 abbrev pub invariant-loop-q : goal.invariant-loop-q
 invariant-loop-q l = Summed 4 (λ p. mul (entry l.m l.r p) (cell l.s p l.c)) l.sum l.q
-
-abbrev pub decreases-loop-q : goal.decreases-loop-q
-decreases-loop-q l = 4 - l.q

@@ -2,11 +2,8 @@
 -- one more (`tenth_more`, `more_digits` of `laws.Digits`), and where nothing is left k digits hold n (`digits_hold`).
 -- Assumes nothing.
 use native.Mathlib.Omega.{arith}
-use Rattle.streams.proofs.laws.Digits.{tenth, tenth_more, more_digits, digits_hold}
+use Rattle.streams.proofs.laws.Digits.{tenth_more, more_digits, digits_hold}
 use Rattle.streams.proofs.line.digit_count.Goals as goal
-
-pub loop-rest-init : goal.loop-rest-init
-loop-rest-init c = (omega arith, omega arith, tenth c.args.n, omega arith)
 
 pub loop-rest-preserved : goal.loop-rest-preserved
 loop-rest-preserved c =

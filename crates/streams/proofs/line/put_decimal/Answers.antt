@@ -4,7 +4,6 @@
 use mathlib.Core.Path.{sym}
 use Prim.Native.Nat.{◌≤◌}
 use native.Mathlib.Omega.{arith}
-use lib.ListN.{length-take}
 use lib.Seq.{length-take-le}
 use Rattle.streams.specs.Lines.{number_room}
 use Rattle.streams.proofs.laws.Digits.{few_digits, number_put}
@@ -22,11 +21,6 @@ pub slice_bounds-put-end : goal.slice_bounds-put-end
 slice_bounds-put-end c =
     let few : c.digit_count-k.result ≤ number_room = few_digits c.args.n c.digit_count-k.result (omega arith) c.digit_count-k.ensures in
     sym (length-take-le c.digit_count-k.result c.write_digits.new.out (omega (arith, few, c.write_digits.auto.out)))
-
-pub put-requires : goal.put-requires
-put-requires c =
-    let few : c.digit_count-k.result ≤ number_room = few_digits c.args.n c.digit_count-k.result (omega arith) c.digit_count-k.ensures in
-    simp length-take (omega (arith, few))
 
 pub returns : goal.returns
 returns c =

@@ -6,7 +6,6 @@
 -- Assumes nothing.
 use mathlib.Core.Path.{sym, ap, ◌∙◌}
 use Prim.Native.Nat.{ℕ}
-use Rattle.bits.specs.Bytes.{Bytes}
 use Rattle.whitebox.specs.Parts.{parts_for}
 use Rattle.whitebox.proofs.laws.Ciphers.{parts_substitute, parts_read}
 use Rattle.substitution.proofs.laws.Values.{byte_part_room, byte_part_invertible, behind_is}
@@ -15,15 +14,18 @@ use Rattle.substitution.proofs.values.behind_sbox.Goals as goal
 
 pub read-requires : goal.read-requires
 read-requires c =
-    let bytes : Bytes c.args.bundle.now = λ i. (c.type_inv.bundle i).fits in
+    let opened = c.args.source.now.opened in
+    let bytes = opened.bytes in
+    let accepted = opened.accepted in
     search (rules, byte_part_room, byte_part_invertible)
 
 pub returns : goal.returns
 returns c =
-    let keys = c.args.keys.now in
-    let cipher = c.args.cipher in
-    let nr = c.args.rounds in
-    let at = c.requires.place in
+    let source = c.args.source.now in
+    let keys = source.keys.now in
+    let cipher = source.cipher in
+    let nr = source.opened.rounds in
+    let at = c.requires.0 in
     behind_is nr _ _ _ _ at.least at.most c.reads_of-j.ensures.1 c.part.ensures
     (parts_for cipher nr keys) _ c.args.read.now _ _ _ _ _ _ (parts_substitute nr keys cipher)
     (c.reads_of-j.ensures.0 ∙ ap (λ (reads : ℕ → ℕ). reads c.args.p) (sym (parts_read nr keys cipher)))

@@ -1,25 +1,13 @@
 -- `substitution::values::columns` stores the 8 columns, a row each. The loop's invariant, `Stored` of matrices: the
 -- first k rows are stored. A turn stores what `column` gives, which is the product with 2^k (`stored_more`); behind the
--- last all are stored (`stored_all`).
+-- last all are stored.
 -- Assumes nothing.
-use Rattle.matrices.proofs.laws.Rows.{stored_none, stored_more, stored_all}
-use native.Mathlib.Omega.{arith}
+use Rattle.matrices.proofs.laws.Rows.{stored_none, stored_more}
 use Rattle.substitution.proofs.values.columns.Goals as goal
 
 pub loop-k-init : goal.loop-k-init
 loop-k-init c = stored_none
 
-pub set_row-requires : goal.set_row-requires
-set_row-requires c =
-    omega (arith, c.loop-k.invariant.long)
-
-pub shape_of-basis : goal.shape_of-basis
-shape_of-basis c =
-    c.loop-k.invariant.long
-
 pub loop-k-preserved : goal.loop-k-preserved
 loop-k-preserved c =
     stored_more c.loop-k.invariant c.loop-k-test.true c.set_row.ensures c.column.ensures
-
-pub returns : goal.returns
-returns c = search stored_all

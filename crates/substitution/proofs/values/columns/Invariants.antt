@@ -1,4 +1,4 @@
-use Prim.Native.Nat.{◌-◌, ◌^◌}
+use Prim.Native.Nat.{◌^◌}
 use Rattle.matrices.specs.Matrices.{product}
 use Rattle.matrices.specs.Rows.{rows_of}
 use Rattle.matrices.proofs.laws.Rows.{Stored}
@@ -6,6 +6,3 @@ use Rattle.substitution.proofs.values.columns.Given as goal
 
 abbrev pub invariant-loop-k : goal.invariant-loop-k
 invariant-loop-k l = Stored 8 (λ i. product 8 (rows_of 8 l.m) (2 ^ i)) l.initial.basis l.basis l.k
-
-abbrev pub decreases-loop-k : goal.decreases-loop-k
-decreases-loop-k l = 8 - l.k

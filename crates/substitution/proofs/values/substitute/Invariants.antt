@@ -1,4 +1,3 @@
-use Prim.Native.Nat.{◌-◌}
 use Rattle.bits.proofs.laws.Filled.{Filled}
 use Rattle.field.specs.Sbox.{sbox_of, inv_sbox_of}
 use Rattle.layout.specs.Ciphers.{for_cipher}
@@ -8,6 +7,3 @@ use Rattle.substitution.proofs.values.substitute.Given as goal
 abbrev pub invariant-loop-x : goal.invariant-loop-x
 invariant-loop-x l =
     Filled 256 (behind_at (for_cipher l.cipher sbox_of inv_sbox_of) l.inverse l.before l.behind l.read) l.dst l.x
-
-abbrev pub decreases-loop-x : goal.decreases-loop-x
-decreases-loop-x l = 256 - l.x
