@@ -33,7 +33,7 @@ fn judged(key: &[u8], block_in: &[u8], block_out: &[u8]) -> Result<(), Refusal>
     }
 }
 
-// Two calls, by C's names; they differ in the function that is applied, not in a type, a size or a constant.
+// Two calls, on which two of C's stand; they differ in the function that is applied, not in a type, a size or a constant.
 
 // Enciphers a block under a key; a refused call leaves block_out as it was.
 pub fn encipher(key: &[u8], block_in: &[u8], block_out: &mut [u8]) -> Result<(), Refusal>

@@ -95,7 +95,7 @@ pub fn second(a: Result<(), Refusal>) -> u32
 fn joined(cause: u32, second: u32) -> u64
     ensures { result ≡ joined cause second }
 {
-    cause as u64 * 4294967296 + second as u64
+    u64::from(cause) * 4294967296 + u64::from(second)
 }
 
 // An answer as one number, for C.

@@ -17,7 +17,7 @@ pub struct Vector {
 pub fn parity(a: Vector, b: Vector) -> u64
     ensures { result ≡ dot (value a) (value b) }
 {
-    u64::count_ones((a.hi & b.hi) ^ (a.lo & b.lo)) as u64 % 2
+    u64::from(u64::count_ones((a.hi & b.hi) ^ (a.lo & b.lo))) % 2
 }
 
 // Digit s, from the bottom; 0 above the vector.
@@ -66,7 +66,7 @@ fn push_byte(v: Vector, b: u8) -> Vector
     let rest = v.lo % 72057594037927936;
     Vector {
         hi: v.hi * 256 + top,
-        lo: rest * 256 + b as u64,
+        lo: rest * 256 + u64::from(b),
     }
 }
 

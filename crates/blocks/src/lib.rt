@@ -18,7 +18,7 @@ fn block_number(p: &[u8], w: usize, i: usize, j: usize) -> u16
     let mut number = 0;
     for r in 0..SIDE {
         let row = encoding::nibble(p, 2 * ((SIDE * i + r) * w) + j);
-        number = number * VECTORS + row as usize;
+        number = number * VECTORS + usize::from(row);
     }
     number as u16
 }

@@ -49,7 +49,7 @@ pub fn is_invertible(number: u16) -> bool
     ensures { result ≡ is_invertible side number }
 {
     let kernels = KERNELS;
-    let v = number as usize;
+    let v = usize::from(number);
     let first = WHOLE & kernels[v / VECTORS / VECTORS / VECTORS];
     let second = first & kernels[v / VECTORS / VECTORS % VECTORS];
     let third = second & kernels[v / VECTORS % VECTORS];

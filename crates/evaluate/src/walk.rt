@@ -50,7 +50,7 @@ fn begun(cipher: u64, standing: [u8; 16]) -> Walk
     Walk {
         cipher: number,
         count: 0,
-        standing: standing,
+        standing,
         area: [0u8; 256],
     }
 }
@@ -62,9 +62,9 @@ fn changed(walk: Walk, count: usize, standing: [u8; 16], area: [u8; 256]) -> Wal
     let handed = kept(walk.cipher);
     Walk {
         cipher: handed,
-        count: count,
-        standing: standing,
-        area: area,
+        count,
+        standing,
+        area,
     }
 }
 
@@ -76,7 +76,7 @@ fn refused(rounds: usize, walk: Walk, refusal: Refusal) -> Move
     let nowhere = tables_bytes(rounds);
     Move {
         answer: Err(refusal),
-        walk: walk,
+        walk,
         offset: nowhere,
     }
 }
@@ -126,7 +126,7 @@ pub fn to_stop(rounds: usize, walk: Walk, set: &[u8], stop: usize) -> Move
     Move {
         answer: Ok(()),
         walk: changed(walk, stop, standing, area),
-        offset: offset,
+        offset,
     }
 }
 

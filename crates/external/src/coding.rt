@@ -77,7 +77,7 @@ fn decode_by(
     Ok(())
 }
 
-// Four calls over the two functions above: C calls them by these names, and each contract names its own coding.
+// Four calls over the two functions above, on which four of C's stand; each contract names its own coding.
 
 // The input coding of a block ("coding").
 pub fn encode_input(bundle: &[u8], block: &[u8], out: &mut [u8]) -> Result<(), Refusal>

@@ -23,8 +23,7 @@ const INV_SBOX: [u8; 256] = [
 pub fn inv_sub(x: u8) -> u8
     ensures { result ≡ inv_sbox_of x }
 {
-    let i = x as usize;
-    INV_SBOX[i]
+    INV_SBOX[usize::from(x)]
 }
 
 // The inverse S-box as a table, as `sbox_table` hands out the S-box.

@@ -23,8 +23,7 @@ const SBOX: [u8; 256] = [
 pub fn sub(x: u8) -> u8
     ensures { result ≡ sbox_of x }
 {
-    let i = x as usize;
-    SBOX[i]
+    SBOX[usize::from(x)]
 }
 
 // S(0), S(1), .., S(255), for a loop that reads the table often: each read of the constant itself copies it.

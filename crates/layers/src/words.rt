@@ -13,6 +13,7 @@ use bits::vector::Vector;
 use bits::{slices, vector};
 use matrices::matrix;
 use round::state::{INV_MIX, MIX};
+use std::array;
 use view::opened::Opened;
 
 // Row t, column q of MixColumns, or of InvMixColumns.
@@ -38,7 +39,7 @@ fn push_parity(r: u64, a: u64, b: u64) -> u64
     requires { r < 2 ^ 63 }
     ensures { result ≡ r * 2 + dot a b }
 {
-    r * 2 + u64::count_ones(a & b) as u64 % 2
+    r * 2 + u64::from(u64::count_ones(a & b)) % 2
 }
 
 // The product of the matrix of 8 rows that bytes write and a byte.
@@ -70,11 +71,7 @@ fn words_of(p: &[u8]) -> [u64; 32]
     requires { 128 ≤ length p.now }
     ensures { result ≡ matrix_of 4 p.now }
 {
-    let mut rows = [0u64; 32];
-    for i in 0..32 {
-        rows[i] = slices::number_at(p, i * 4) as u64;
-    }
-    rows
+    array::from_fn(|i| slices::number_at(p, i * 4) as u64)
 }
 
 // The product of 32 rows, a word to a row, and a vector.

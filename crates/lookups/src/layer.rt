@@ -136,7 +136,7 @@ pub fn word_in(width: usize, g: usize, t: usize) -> Word
     let sum = g * width * width;
     let turns = g * (width - 1) + t - 1;
     Word {
-        sum: sum,
+        sum,
         added: sum + t * width,
         tables: SPREAD_WORDS * width + turns * (PAIR_BYTES * width),
     }

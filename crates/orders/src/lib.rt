@@ -58,11 +58,11 @@ pub fn serve_orders(walk: Walk, set: &[u8], orders: &mut [u64], block: &mut [u8]
         orders.new block.new }
 {
     let mut w = walk;
-    for i in 0..orders.len() {
-        let m = serve_one(w, set, orders[i], block);
+    for order in orders.iter_mut() {
+        let m = serve_one(w, set, *order, block);
         w = m.walk;
         let answer = m.answer;
-        orders[i] = number(answer);
+        *order = number(answer);
     }
     w
 }

@@ -57,7 +57,7 @@ pub fn look_up_at(
     let read = layer::lookup_in(cipher, standing, area, &set[from..to], from, stage, index);
     Lookup {
         offset: read.offset,
-        index: index,
+        index,
         half: read.half,
         width: width_of(stage),
     }

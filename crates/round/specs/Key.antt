@@ -1,7 +1,8 @@
 -- FIPS 197, section 5.2: the key expansion, for a key of nk words, nk = 4, 6 or 8. A word is the list of its 4 bytes, and words are
 -- written one after the other. Definitions only.
-use Rattle.std.specs.Prelude.{ℕ, zero, suc, ◌+◌, ◌-◌, ◌*◌, ◌/◌, ◌%◌, cond, ◌&&◌, List, [], ◌∷◌, ◌++◌, eqb, ltb, take, drop, set}
+use Rattle.std.specs.Prelude.{ℕ, zero, suc, ◌+◌, ◌-◌, ◌*◌, ◌/◌, ◌%◌, cond, ◌&&◌, List, [], ◌∷◌, ◌++◌, eqb, ltb, take, drop}
 use Rattle.std.specs.Int.Bits.{bit_xor}
+use Rattle.std.proofs.Math.Seq.{paste}
 use Rattle.bits.specs.Lists.{at, tabulate}
 use Rattle.field.specs.Field.{xtime}
 use Rattle.field.specs.Sbox.{sbox_of}
@@ -60,6 +61,6 @@ KeyExpansion nk key = expand nk key (4 * (rounds_of nk + 1) - nk)
 unfoldable pub key_of : List ℕ → ℕ → List ℕ
 key_of w r = take 16 (drop (16 * r) w)
 
--- A word x, written over word i of w, its four bytes one after the other.
+-- A word x, written over word i of w.
 abbrev pub put_word : List ℕ → ℕ → List ℕ → List ℕ
-put_word w i x = set (set (set (set w (4 * i) (at x 0)) (4 * i + 1) (at x 1)) (4 * i + 2) (at x 2)) (4 * i + 3) (at x 3)
+put_word w i x = paste w (4 * i) x 4

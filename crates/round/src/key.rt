@@ -3,6 +3,8 @@ ghost use Rattle.std.specs.Prelude.{◌≡◌, ◌+◌, ◌*◌, ◌<◌, ◌≤
 ghost use Rattle.rounds.specs.Rounds.{Rounds};
 ghost use Rattle.round.specs.Key.{Rcon, word_at, RotWord, SubWord, xor_word, temp, put_word, rounds_of, KeyExpansion};
 
+use std::array;
+
 // The first bytes of the round constants; Rcon begins at 1.
 const RCON: [u8; 11] = [0, 1, 2, 4, 8, 16, 32, 64, 128, 27, 54];
 
@@ -36,19 +38,14 @@ fn rot_word(t: [u8; 4]) -> [u8; 4]
 fn sub_word(t: [u8; 4]) -> [u8; 4]
     ensures { result ≡ SubWord t }
 {
-    [
-        field::sub(t[0]),
-        field::sub(t[1]),
-        field::sub(t[2]),
-        field::sub(t[3]),
-    ]
+    t.map(|x| field::sub(x))
 }
 
 // The xor of two words.
 fn xor_word(a: [u8; 4], b: [u8; 4]) -> [u8; 4]
     ensures { result ≡ xor_word a b }
 {
-    [a[0] ^ b[0], a[1] ^ b[1], a[2] ^ b[2], a[3] ^ b[3]]
+    array::from_fn(|q| a[q] ^ b[q])
 }
 
 // What becomes of temp = w[i-1], for a key of so many words.
@@ -74,8 +71,7 @@ fn word_at(w: &[u8], i: usize) -> [u8; 4]
     requires { 4 * i + 4 ≤ length w.now }
     ensures { result ≡ word_at w.now i }
 {
-    let a = 4 * i;
-    [w[a], w[a + 1], w[a + 2], w[a + 3]]
+    array::from_fn(|q| w[4 * i + q])
 }
 
 // Writes word i of w.
@@ -83,11 +79,8 @@ fn put_word(w: &mut [u8], i: usize, x: [u8; 4])
     requires { 4 * i + 4 ≤ length w.old }
     ensures { w.new ≡ put_word w.old i x }
 {
-    let a = 4 * i;
-    w[a] = x[0];
-    w[a + 1] = x[1];
-    w[a + 2] = x[2];
-    w[a + 3] = x[3];
+    let from = 4 * i;
+    w[from..from + 4].copy_from_slice(&x);
 }
 
 // The key, laid out in front of the room for the other words.

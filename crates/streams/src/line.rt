@@ -127,7 +127,7 @@ pub fn matrix_line(matrix: u16, line: &mut [u8]) -> usize
     ensures { Written (matrix_line matrix) line.old result line.new }
 {
     let mut digits = [0u8; MATRIX_DIGITS];
-    write_digits(matrix as u32, 16, MATRIX_DIGITS, &mut digits);
+    write_digits(u32::from(matrix), 16, MATRIX_DIGITS, &mut digits);
     let end = put(line, 0, &digits);
     put(line, end, b"\n")
 }

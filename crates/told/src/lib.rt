@@ -67,7 +67,7 @@ pub fn tell_entry(position: usize, matrix: &mut usize) -> u64
 {
     match entry_at(position) {
         Ok(v) => {
-            *matrix = v as usize;
+            *matrix = usize::from(v);
             number(Ok(()))
         }
         Err(r) => number(Err(r)),

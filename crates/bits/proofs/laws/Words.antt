@@ -6,8 +6,8 @@ use native.Mathlib.Nat.{mul_assoc, mul-add, zero-mul, one-mul, mod-eq_of_lt, zer
 use native.Mathlib.Nat.{mul-mod_left, mod-lt, div-eq_of_lt, lt_of_lt_of_le}
 use native.Mathlib.Omega.{arith}
 use lib.Arith.{digits_lt}
-use lib.Bits.{bit_and, bit_xor, and_block, xor_block, and_lt, xor_lt, and_zero_r, and_mask}
-use lib.Count.{ones, ones_cat, ones-le}
+use lib.Bits.{bit_and, bit_xor, and_block, xor_block, and_lt, and_zero_r, and_mask}
+use lib.Count.{ones, ones_cat}
 use lib.Dec.{lit<}
 use lib.Pow.{high, low, mod-pow-add, split, shr-shr, shr_lt, pow_pos, pow-lt, pow_mono, pow-add}
 use Rattle.bits.specs.Vectors.{dot}
@@ -28,12 +28,6 @@ dot_wide hi lo vhi vlo h k =
 pub wide_alone : (lo : ℕ) → wide 0 lo ≡ lo
 unfolding wide
 wide_alone lo = omega arith
-
--- The ones of one word that hold those of two.
-pub ones_both : (hi lo vhi vlo : ℕ) → hi < 2 ^ 64 → lo < 2 ^ 64 → vhi < 2 ^ 64 → vlo < 2 ^ 64
-    → ones (bit_xor (bit_and hi vhi) (bit_and lo vlo)) ≤ 64
-ones_both hi lo vhi vlo h l vh vl =
-    ones-le 64 (bit_xor (bit_and hi vhi) (bit_and lo vlo)) (xor_lt 64 _ _ (and_lt 64 hi vhi h vh) (and_lt 64 lo vlo l vl))
 
 -- m bits at place s that lie in the low word, or in the high one.
 pub bits_low : (m hi lo s : ℕ) → s + m ≤ 64 → lo / 2 ^ s % 2 ^ m ≡ wide hi lo / 2 ^ s % 2 ^ m

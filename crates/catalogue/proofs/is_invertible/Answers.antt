@@ -10,4 +10,5 @@ use Rattle.catalogue.proofs.is_invertible.Goals as goal
 pub returns : goal.returns
 unfolding kernel_table
 returns c =
-    number_tested c.args.number (omega arith) (with_row _ _ (omega arith)) (with_row _ _ (omega arith)) (with_row _ _ (omega arith)) (with_row _ _ (omega arith))
+    rw c.from-v.ensures (
+    number_tested c.args.number (omega arith) (with_row _ _ (omega arith)) (with_row _ _ (omega arith)) (with_row _ _ (omega arith)) (with_row _ _ (omega arith)))

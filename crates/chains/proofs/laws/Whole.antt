@@ -1,5 +1,5 @@
 -- Laws, not definitions: there and back by the cipher c, call by call. Each law is one way out of a function, its premises what the calls ensure. Where a call
--- refuses, its answer is handed on (h).
+-- refuses, `?` hands its answer on (h).
 -- Assumes nothing.
 use mathlib.Core.Bool.{not}
 use mathlib.Core.List.{List}
@@ -10,7 +10,7 @@ use lib.ListN.{length}
 use Rattle.answers.specs.Answers.{refused_if, wants_length, and_then, if_accepted}
 use Rattle.answers.specs.declared.Refusal.{Refusal}
 use Rattle.answers.specs.declared.Refusal.TheVariants.{BlockLength, Unfinished}
-use Rattle.answers.proofs.laws.Tests.{Both, both, length_was, lengths_were, left_old, left_new, twice, stops, keeps, decides, by_later}
+use Rattle.answers.proofs.laws.Tests.{handed_back, Both, both, length_was, lengths_were, left_old, left_new, twice, stops, keeps, decides, by_later}
 use Rattle.bits.specs.Bytes.{Bytes}
 use Rattle.aes.specs.Answers.{answer_of, enciphered, deciphered}
 use Rattle.judgement.specs.Judge.{judge}
@@ -33,13 +33,14 @@ use Rattle.evaluate.specs.declared.walk.Opening.{Opening}
 use Rattle.evaluate.proofs.laws.Whole.{whole_walk}
 use Rattle.chains.specs.Whole.{present_answer, over_answer, off_answer, coded_answer, whole_answer, Presents, Walks, TakesOff, ThereAndBack}
 use Rattle.answers.specs.Answer.{Answer, Accepted, Refused}
+use Rattle.std.specs.Prelude.{IsErrAnd}
 
 -- ---- the set and the block under the input coding
 module _ (c : ℕ) (key l block set x : List ℕ) {a : Answer} {set' : List ℕ} (e : a ≡ set_answer (length key) l (length set))
     (m : set' ≡ set_left c 4 key l set) where
-  pub not_made : {b : Answer} {r : Refusal} → b ≡ a → a ≡ Refused r → Presents c key l block set x b set' x
+  pub not_made : {P : Type 0} {b : Answer} {r : Refusal} → P × IsErrAnd b (λ y. y ≡ r) → a ≡ Refused r → Presents c key l block set x b set' x
   unfolding present_answer
-  not_made h f = record { answer = h ∙ stops e f _; made = m; coded = keeps e f _ (encode_input 10 l block) x }
+  not_made h f = record { answer = handed_back h f ∙ stops e f _; made = m; coded = keeps e f _ (encode_input 10 l block) x }
 
   pub presented : {b : Answer} {x' : List ℕ} → a ≡ Accepted → b ≡ external.answer 10 l (length block) (length x)
       → x' ≡ external.leaves 10 l (encode_input 10 l) block x → Presents c key l block set x b set' x'
@@ -48,9 +49,9 @@ module _ (c : ℕ) (key l block set x : List ℕ) {a : Answer} {set' : List ℕ}
 
 -- ---- the walk
 module _ (c : ℕ) (set x lent : List ℕ) {o : Opening} (s : Opens c x o) where
-  pub not_started : {b : Answer} {r : Refusal} → b ≡ o.answer → o.answer ≡ Refused r → Walks c set x lent b lent
+  pub not_started : {P : Type 0} {b : Answer} {r : Refusal} → P × IsErrAnd b (λ y. y ≡ r) → o.answer ≡ Refused r → Walks c set x lent b lent
   unfolding over_answer
-  not_started h f = record { answer = h ∙ stops s.answer f _; block = keeps s.answer f _ (walked_over c 10 set x lent) lent }
+  not_started h f = record { answer = handed_back h f ∙ stops s.answer f _; block = keeps s.answer f _ (walked_over c 10 set x lent) lent }
 
   module _ (f : o.answer ≡ Accepted) {m : Move} (h : Moves 10 (to_stop set ten_lookups) o.walk m) where
     -- The move is the definition's, from the walk that the start gave.
@@ -60,11 +61,11 @@ module _ (c : ℕ) (set x lent : List ℕ) {o : Opening} (s : Opens c x o) where
     moves : m.answer ≡ answer 10 (to_stop set (lookups 10)) (started c x)
     moves = all_moves.answer ∙ ap (answer 10 (to_stop set (lookups 10))) s.walk
 
-    pub not_moved : {b : Answer} {r : Refusal} → b ≡ m.answer → m.answer ≡ Refused r → Walks c set x lent b lent
+    pub not_moved : {P : Type 0} {b : Answer} {r : Refusal} → P × IsErrAnd b (λ y. y ≡ r) → m.answer ≡ Refused r → Walks c set x lent b lent
     unfolding over_answer
     not_moved h g =
         record {
-          answer = h ∙ stops moves g _ ∙ decides s.answer f _;
+          answer = handed_back h g ∙ stops moves g _ ∙ decides s.answer f _;
           block = keeps moves g _ (walked_over c 10 set x lent) lent ∙ by_later s.answer f _ (walked_over c 10 set x lent) lent;
         }
 
@@ -93,9 +94,9 @@ module _ (c : ℕ) (key l coded again : List ℕ) {room : ℕ} (long : room ≡ 
   abbrev undone : List ℕ → List ℕ
   undone = cipher_block (other c) 4 key
 
-  pub not_uncoded : {b : Answer} {r : Refusal} → b ≡ a → a ≡ Refused r → TakesOff c key l coded again b again
+  pub not_uncoded : {P : Type 0} {b : Answer} {r : Refusal} → P × IsErrAnd b (λ y. y ≡ r) → a ≡ Refused r → TakesOff c key l coded again b again
   unfolding off_answer
-  not_uncoded h f = record { answer = h ∙ stops is_answer f _; block = keeps is_answer f _ (undone (decode_output 10 l coded)) again }
+  not_uncoded h f = record { answer = handed_back h f ∙ stops is_answer f _; block = keeps is_answer f _ (undone (decode_output 10 l coded)) again }
 
   module _ (z : List ℕ) {t : List ℕ} {b : Answer} {left : List ℕ} (f : a ≡ Accepted)
       (h : t ≡ if_accepted (external.answer 10 l (length coded) room) (decode_output 10 l coded) z) (g : b ≡ answer_of key t again) where
@@ -146,12 +147,12 @@ module _ (c : ℕ) (key l block set coded again x : List ℕ) (long : length x �
   first : a ≡ present_answer key l block set 16
   first = P.answer ∙ ap (present_answer key l block set) long
 
-  pub back_none : {b : Answer} {r : Refusal} → b ≡ a → a ≡ Refused r → ThereAndBack c key l block set coded again b set' coded again
+  pub back_none : {P : Type 0} {b : Answer} {r : Refusal} → P × IsErrAnd b (λ y. y ≡ r) → a ≡ Refused r → ThereAndBack c key l block set coded again b set' coded again
   unfolding coded_answer whole_answer
   back_none h f =
       let out : List ℕ = encode_output 10 l (cipher_block c 4 key block) in
       let none : a ≡ coded_answer c key l block set coded = stops first f _ in
-      record { answer = h ∙ stops none f _; made = P.made; walked = keeps first f _ out coded; back = keeps none f _ block again }
+      record { answer = handed_back h f ∙ stops none f _; made = P.made; walked = keeps first f _ out coded; back = keeps none f _ block again }
 
   module _ (f : a ≡ Accepted) {b : Answer} {coded' : List ℕ} (W : Walks c set' x' coded b coded') where
     present_accepts : present_answer key l block set (length x) ≡ Accepted
@@ -178,12 +179,12 @@ module _ (c : ℕ) (key l block set coded again x : List ℕ) (long : length x �
     unfolding coded_answer
     second = walks ∙ decides first f _
 
-    pub back_not : {d : Answer} {r : Refusal} → d ≡ b → b ≡ Refused r → ThereAndBack c key l block set coded again d set' coded' again
+    pub back_not : {P : Type 0} {d : Answer} {r : Refusal} → P × IsErrAnd d (λ y. y ≡ r) → b ≡ Refused r → ThereAndBack c key l block set coded again d set' coded' again
     unfolding whole_answer
     back_not {d} {r} h g =
         let out : List ℕ = encode_output 10 l (cipher_block c 4 key block) in
         record {
-          answer = h ∙ stops second g _;
+          answer = handed_back h g ∙ stops second g _;
           made = P.made;
           walked = W.block ∙ sym (left_old _ r _ coded (sym W.answer ∙ g)) ∙ left_old _ r out coded (sym second ∙ g);
           back = keeps second g _ block again;

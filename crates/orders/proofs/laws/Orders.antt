@@ -2,18 +2,16 @@
 -- Assumes nothing.
 use mathlib.Core.List.{List, [], ◌∷◌, ◌++◌, append-nil, append_assoc}
 use mathlib.Core.Path.{◌≡◌, refl, sym, ap, ap₂, ◌∙◌, subst}
-use Prim.Native.Nat.{ℕ, ◌+◌, ◌-◌, ◌≤◌, ◌<◌}
+use Prim.Native.Nat.{ℕ, ◌+◌, ◌≤◌, ◌<◌}
 use native.Mathlib.Numerals.{add-one}
 use native.Mathlib.Omega.{arith}
 use borrow.Author.Tests.{eq-eqb, ne_eqb}
-use lib.ListN.{length, get_or, set, take, drop, length-drop, length-set, drop_of_length-le}
-use lib.Seq.{take_all, take-nil, drop-cons, drop-drop, take-suc-set, drop-set-lt}
+use lib.ListN.{length, get_or, set, take, drop, length-set, drop_of_length-le}
+use lib.Seq.{take_all, drop-cons, drop-drop, take-suc-set, drop-set-lt}
 use Rattle.answers.specs.Answers.{reply_of, returned}
 use Rattle.answers.specs.Numbers.{number_of}
 use Rattle.answers.proofs.laws.Numbers.{number_is}
-use Rattle.bits.proofs.laws.Lists.{cut, cut_is}
-use Rattle.layout.specs.Stages.{nowhere, place_of}
-use Rattle.layout.specs.declared.stage.Place.{Place}
+use Rattle.layout.specs.Stages.{nowhere}
 use Rattle.calls.specs.Calls.{Held, table_part, Call, to_stop, one_lookup, fetch, reply, handed, passed_on, block_left, serve, last_walk}
 use Rattle.evaluate.specs.Promises.{Moves, Fetches}
 use Rattle.evaluate.specs.Held.{held}
@@ -21,23 +19,6 @@ use Rattle.evaluate.specs.declared.walk.Move.{Move}
 use Rattle.evaluate.specs.declared.walk.Walk.{Walk}
 use Rattle.orders.specs.Orders.{one_order, fetch_order, call_for, block_behind, last_block, numbers_of, calls_of, OneServed, AllServed}
 use Rattle.answers.specs.Answer.{Answer}
-
--- ---- the part of the memory where a table stands: nothing, all that is left, or the table
-module _ (nr n : ℕ) (mem : List ℕ) (p : Place) (e : p ≡ place_of nr n) where
-  is_place : table_part nr mem n ≡ take p.size (drop p.offset mem)
-  is_place = ap (λ (p : Place). take p.size (drop p.offset mem)) (sym e)
-
-  pub no_part : length mem ≤ p.offset → cut mem 0 0 ≡ table_part nr mem n
-  no_part h = sym (is_place ∙ ap (take p.size) (drop_of_length-le mem h) ∙ take-nil p.size)
-
-  pub rest_part : length mem - p.offset ≤ p.size → cut mem p.offset (length mem) ≡ table_part nr mem n
-  rest_part h =
-      let l : length (drop p.offset mem) ≡ length mem - p.offset = length-drop p.offset mem in
-      take_all (length mem - p.offset) (drop p.offset mem) (omega arith)
-      ∙ sym (is_place ∙ take_all p.size (drop p.offset mem) (omega arith))
-
-  pub table_part_lem : cut mem p.offset (p.offset + p.size) ≡ table_part nr mem n
-  table_part_lem = cut_is mem p.offset p.size ∙ sym is_place
 
 -- ---- one order
 module _ {nr : ℕ} {mem : List ℕ} {order : ℕ} {w : Walk} {lent : List ℕ} where
@@ -91,9 +72,6 @@ pub record Serving (nr : ℕ) (mem : List ℕ) (w₀ : Walk) (orders lent : List
   pub walk : walk_of nr mem (held w₀) lent orders ≡ walk_of nr mem (held w) block (drop i orders)
   pub numbers : written_of nr mem (held w₀) lent orders ≡ take i t ++ written_of nr mem (held w) block (drop i orders)
   pub left : block_of nr mem (held w₀) lent orders ≡ block_of nr mem (held w) block (drop i orders)
-
-pub serving_none : {nr : ℕ} {mem : List ℕ} {w : Walk} {orders lent : List ℕ} → Serving nr mem w orders lent w orders lent 0
-serving_none = record { within = omega arith; kept = refl; sized = refl; rest = refl; walk = refl; numbers = refl; left = refl }
 
 module _ {nr : ℕ} {mem : List ℕ} {w₀ : Walk} {orders lent : List ℕ} {w : Walk} {t block : List ℕ} {i : ℕ}
     (I : Serving nr mem w₀ orders lent w t block i) where

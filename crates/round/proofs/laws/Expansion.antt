@@ -1,36 +1,26 @@
 -- Laws, not definitions: of the loop that expands the key, from what each call ensures.
 -- Assumes nothing.
-use mathlib.Core.Path.{◌≡◌, sym, ap, ap₂, ◌∙◌}
-use mathlib.Core.List.{List, [], ◌∷◌, ◌++◌, append_assoc}
+use mathlib.Core.Path.{◌≡◌, sym, ap, ◌∙◌}
+use mathlib.Core.List.{List, ◌++◌}
 use Prim.Native.Nat.{ℕ, suc, ◌+◌, ◌-◌, ◌*◌, ◌≤◌, ◌<◌}
 use native.Mathlib.Omega.{arith}
-use lib.ListN.{length, take, set, length-set}
-use lib.Seq.{take_all}
-use Rattle.bits.specs.Lists.{at, tabulate}
-use Rattle.bits.proofs.laws.Lists.{put_one, tabulate_at}
+use lib.ListN.{length, take, drop}
+use lib.Seq.{take_all, length-paste, length_paste_head, take-append_seam}
+use Rattle.bits.proofs.laws.Lists.{length_tabulate}
 use Rattle.round.specs.Key.{word_at, xor_word, temp, next_word_of, expand, put_word, rounds_of, KeyExpansion}
 use Rattle.round.proofs.laws.Key.{word_take}
 
 -- ---- A word of four bytes, written over word i: what then stands up to its end.
-put_four : (w : List ℕ) (i : ℕ) (x : List ℕ) → 4 * i + 4 ≤ length w
-    → take (4 * i + 4) (put_word w i x) ≡ take (4 * i) w ++ (at x 0 ∷ at x 1 ∷ at x 2 ∷ at x 3 ∷ [])
-put_four w i x h =
-    let a = 4 * i in
-    let w1 = set w a (at x 0) in
-    let w2 = set w1 (a + 1) (at x 1) in
-    let w3 = set w2 (a + 2) (at x 2) in
-    let l1 = length-set w a (at x 0) in
-    let l2 = length-set w1 (a + 1) (at x 1) in
-    let l3 = length-set w2 (a + 2) (at x 2) in
-    let s1 = put_one w a (at x 0) (a + 1) (omega arith) (omega arith) in
-    let s2 = put_one w1 (a + 1) (at x 1) (a + 2) (omega arith) (omega arith) in
-    let s3 = put_one w2 (a + 2) (at x 2) (a + 3) (omega arith) (omega arith) in
-    let s4 = put_one w3 (a + 3) (at x 3) (a + 4) (omega arith) (omega arith) in
-    rw (s4, s3, s2, s1) (simp append_assoc)
+put_four : (w : List ℕ) (i : ℕ) (x : List ℕ) → 4 * i + 4 ≤ length w → length x ≡ 4 → take (4 * i + 4) (put_word w i x) ≡ take (4 * i) w ++ x
+put_four w i x h e =
+    let head : length (take (4 * i) w ++ take 4 x) ≡ 4 * i + 4 = length_paste_head w (4 * i) x 4 (omega arith) (omega arith) in
+    ap (λ (n : ℕ). take n (put_word w i x)) (sym head)
+    ∙ take-append_seam (take (4 * i) w ++ take 4 x) (drop (4 * i + 4) w)
+    ∙ ap (λ (l : List ℕ). take (4 * i) w ++ l) (take_all 4 x (omega arith))
 
-word_eta : (a b x : List ℕ) → x ≡ xor_word a b → at x 0 ∷ at x 1 ∷ at x 2 ∷ at x 3 ∷ [] ≡ x
-unfolding xor_word tabulate
-word_eta a b x e = tabulate_at 4 x (ap length e)
+word_long : (a b x : List ℕ) → x ≡ xor_word a b → length x ≡ 4
+unfolding xor_word
+word_long a b x e = ap length e ∙ length_tabulate 4 _
 
 -- ---- The loop that expands a key of nk words.
 -- Its invariant: the first i words, the key's among them, are those of the expansion.
@@ -73,11 +63,11 @@ module _ {nk : ℕ} {key w : List ℕ} {i : ℕ} (some : 1 ≤ nk) (E : Expanded
       rw d (record {
         least = omega (arith, E.least);
         within = omega arith;
-        long = simp length-set E.long;
+        long = length-paste w (4 * i) x 4 (omega (arith, E.long)) (omega (arith, word_long p t x sum)) ∙ E.long;
         front =
             ap (λ (z : ℕ). take z (put_word w i x)) k
-            ∙ put_four w i x (omega (arith, E.long))
-            ∙ ap₂ (λ (u v : List ℕ). u ++ v) E.front (word_eta p t x sum)
+            ∙ put_four w i x (omega (arith, E.long)) (word_long p t x sum)
+            ∙ ap (λ (u : List ℕ). u ++ x) E.front
             ∙ one_more;
       })
 

@@ -4,7 +4,6 @@ use mathlib.Core.Path.{◌≡◌, sym, ap, ◌∙◌}
 use mathlib.Core.Bool.{Bool, true, false, cond, ◌&&◌}
 use mathlib.Core.List.{List, [], ◌∷◌}
 use Prim.Native.Nat.{ℕ, zero, suc, ◌+◌, ◌-◌, ◌*◌, ◌/◌, ◌%◌, ◌≤◌, ◌<◌}
-use native.Mathlib.Nat.{add-zero}
 use native.Mathlib.Omega.{arith}
 use native.Mathlib.Decide.{dec_lt, ℕ_discrete}
 use Rattle.rounds.specs.Rounds.{Rounds}
@@ -72,10 +71,6 @@ rcon_small nk i R h = go (ℕ_discrete nk 4) (ℕ_discrete nk 6)
     go (no a) (no b) = let e : nk ≡ 8 = omega (arith, R) in rw e (omega arith)
 
 -- ---- Words and round keys in a list of words.
-pub word_is : (w : List ℕ) (j : ℕ) → at w (4 * j) ∷ at w (4 * j + 1) ∷ at w (4 * j + 2) ∷ at w (4 * j + 3) ∷ [] ≡ word_at w j
-unfolding word_at tabulate
-word_is w j = rw add-zero
-
 pub word_take : (w : List ℕ) (m j : ℕ) → 4 * j + 4 ≤ m → word_at (take m w) j ≡ word_at w j
 unfolding word_at
 word_take w m j h = tabulate_ext 4 _ _ (λ q l. get_or-take m w (4 * j + q) 0 (omega arith))

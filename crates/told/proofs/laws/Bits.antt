@@ -1,4 +1,4 @@
--- Laws, not definitions: what the next bit for C returns and leaves behind the pointer, and the statements of specs/Bits.antt.
+-- Laws, not definitions: the statements of specs/Bits.antt, on what the next bit for C leaves behind the pointer.
 -- Assumes nothing.
 use mathlib.Core.List.{List}
 use mathlib.Core.Path.{◌≡◌, refl, sym, ap, ◌∙◌}
@@ -6,41 +6,30 @@ use Prim.Native.Nat.{ℕ}
 use native.Mathlib.Nat.{le_refl}
 use native.Mathlib.Omega.{arith}
 use lib.ListN.{length}
-use Rattle.answers.specs.Numbers.{number_of}
 use Rattle.answers.proofs.laws.Tests.{differ, left_new}
 use Rattle.bits.specs.Flips.{flipped}
 use Rattle.rounds.specs.Rounds.{Rounds}
 use Rattle.round.specs.Key.{rounds_of}
 use Rattle.layout.specs.Ciphers.{reads_of}
 use Rattle.layout.proofs.laws.Ranges.{by_stage}
-use Rattle.calls.specs.Calls.{judge_whole}
 use Rattle.calls.specs.Calls.{walked_over}
 use Rattle.whitebox.specs.Bundles.{made_set}
 use Rattle.sensitivity.specs.Reads.{bits_read}
 use Rattle.sensitivity.specs.Theorems.{Lendable}
 use Rattle.sensitivity.proofs.laws.Calls.{flipped_lent}
 use Rattle.sensitivity.proofs.laws.Proved.{sensitivity}
-use Rattle.next_bit.specs.Promises.{Finds}
 use Rattle.next_bit.specs.NextBit.{bit_answer, next_bit_of}
 use Rattle.next_bit.specs.Search.{Tells}
 use Rattle.next_bit.proofs.laws.Calls.{next_answers, finds}
 use Rattle.next_bit.proofs.laws.Proved.{bits_had}
 use Rattle.told.specs.Bits.{bit_left, BitsTold, RefusedKeepsBit, BitsCount}
-use Rattle.told.specs.Told.{none, told_left}
+use Rattle.told.specs.Told.{none}
 use Rattle.one_call.specs.Walks.{walk_leaves_for}
 use Rattle.told.proofs.laws.Pointers.{kept}
 use Rattle.one_call.proofs.laws.Walks.{good}
-use Rattle.answers.specs.Answer.{Accepted, answer_in}
+use Rattle.answers.specs.Answer.{Accepted}
 use Rattle.next_bit.specs.NextBit.{NextBit}
 use Rattle.std.specs.Prelude.{Ok, Err, Some, None}
-
--- ---- the call, where the search handed back r, and n is its answer's number: what is returned and what is left behind the pointer
-module _ (c nr : ℕ) (set block : List ℕ) (from : ℕ) {r : NextBit} (e : Finds c nr set block from r) where
-  pub search_told : {n : ℕ} → n ≡ number_of (answer_in r) → n ≡ number_of (judge_whole nr (length set) (length block))
-  search_told g = g ∙ ap (λ (s : NextBit). number_of (answer_in s)) e.result ∙ ap number_of (next_answers c nr set block from)
-
-  pub found_left : (old : ℕ) {left : ℕ} → left ≡ told_left r old → left ≡ bit_left (next_bit_of c nr set block from) old
-  found_left old g = g ∙ ap (λ (s : NextBit). told_left s old) e.result
 
 -- ---- what a host reads off
 module _ (c nr : ℕ) (set block : List ℕ) (from old : ℕ) (R : Rounds nr) (lent : Lendable nr set block) where

@@ -1,34 +1,23 @@
--- Laws, not definitions: what the replay for C returns and leaves behind the pointer, and the statements of specs/Told.antt.
+-- Laws, not definitions: the statements of specs/Told.antt, on what the replay for C leaves behind the pointer.
 -- Assumes nothing.
 use mathlib.Core.List.{List}
 use mathlib.Core.Path.{◌≡◌, refl, sym, ap, ◌∙◌}
 use Prim.Native.Nat.{ℕ, ◌<◌}
 use native.Mathlib.Omega.{arith}
 use lib.ListN.{length}
-use Rattle.answers.specs.Numbers.{number_of}
 use Rattle.answers.proofs.laws.Tests.{differ}
 use Rattle.rounds.specs.Rounds.{Rounds}
 use Rattle.layout.specs.Stages.{lookups}
 use Rattle.layout.proofs.laws.Ranges.{by_stage}
-use Rattle.records.specs.Promises.{Replays}
 use Rattle.records.specs.Replay.{judge_record, verdict_answer, replayed}
 use Rattle.records.specs.Theorems.{Exact}
 use Rattle.records.proofs.laws.Proved.{records_and_replays}
 use Rattle.told.proofs.laws.Pointers.{kept}
-use Rattle.told.specs.Told.{none, told_left, differs_left, TellsExactly, RefusedKeeps}
-use Rattle.answers.specs.Answer.{Accepted, answer_in}
+use Rattle.told.specs.Told.{none, differs_left, TellsExactly, RefusedKeeps}
+use Rattle.answers.specs.Answer.{Accepted}
 use Rattle.records.specs.Replay.{Verdict}
 use Rattle.std.specs.Prelude.{Ok, Err, Some, None}
 
--- ---- the call, where the replay handed back v, and n is its answer's number: what is returned and what is left behind the pointer
-module _ (c nr : ℕ) (set block rec : List ℕ) {v : Verdict} (e : Replays c nr set block rec v) where
-  pub replay_told : {n : ℕ} → n ≡ number_of (answer_in v) → n ≡ number_of (judge_record nr (length set) (length block) (length rec))
-  replay_told g = g ∙ ap (λ (w : Verdict). number_of (answer_in w)) e.result ∙ ap number_of (records_and_replays.answers c nr set block rec)
-
-  pub lookup_left : (old : ℕ) {left : ℕ} → left ≡ told_left v old → left ≡ differs_left (replayed c nr set block rec) old
-  lookup_left old g = g ∙ ap (λ (w : Verdict). told_left w old) e.result
-
--- ---- what a host reads off
 -- A lookup's number is not the one that tells of none.
 below_none : (nr k : ℕ) → Rounds nr → k < lookups nr → k ≡ none → ⊥
 below_none nr k R h e = omega (arith, (by_stage nr).all_lookups)

@@ -5,8 +5,7 @@ use mathlib.Core.Path.{◌≡◌, refl, sym, ap, ◌∙◌}
 use Prim.Native.Nat.{ℕ, suc, ◌≤◌, ◌<◌}
 use native.Mathlib.Decide.{dec_lt}
 use native.Mathlib.Omega.{arith}
-use lib.ListN.{length, take, length-take, length-append}
-use lib.Seq.{take-append-le}
+use lib.ListN.{length, take, length-take}
 use Rattle.answers.specs.declared.Refusal.{Refusal}
 use Rattle.answers.proofs.laws.Tests.{differ, left_old}
 use Rattle.layout.specs.Ciphers.{reads_of}
@@ -18,33 +17,19 @@ use Rattle.calls.specs.Calls.{Held, judge_one, one_lookup, answer, handed, last_
 use Rattle.calls.proofs.laws.Calls.{one_handed, step_count}
 use Rattle.calls.proofs.laws.Judged.{accepted_was, refused_was}
 use Rattle.evaluate.specs.Held.{held}
-use Rattle.evaluate.specs.Promises.{Moves}
 use Rattle.evaluate.specs.declared.walk.Move.{Move}
 use Rattle.evaluate.specs.declared.walk.Walk.{Walk}
-use Rattle.streams.specs.Received.{Received, AllReceived, Front}
+use Rattle.streams.specs.Received.{Received, AllReceived}
 use Rattle.walker.specs.Tables.{table_room, Next, AllAccepted, OverTables, Short, OverInput}
 use Rattle.answers.specs.Answer.{Accepted, Refused}
 
--- ---- the memory that is lent for a table: its front comes back as x, as long as it was
+-- ---- the memory for a table has room for each
 pub size_most : (nr n : ℕ) {p : Place} → p ≡ place_of nr n → p.size ≤ table_room
 size_most nr n {p} e = go (dec_lt n (lookups nr))
   where
     go : Dec (n < lookups nr) → p.size ≤ table_room
     go (yes h) = (stands h e).most
     go (no h) = omega (arith, ap (λ (q : Place). q.size) e, (by_stage nr).size_none n (omega arith))
-
--- The table of the walk's count: `got` bytes at the front of x were read, and y stands behind x in the memory.
-pub next_read : (nr : ℕ) {w : Walk} {r : Move} (size got : ℕ) (x y : List ℕ)
-    → size ≡ table_size nr w.count → Front got x → length x ≤ size → Moves nr (one_lookup (take got (x ++ y))) w r → Next nr w r (x ++ y)
-next_read nr size got x y e f h m =
-    let part : take got (x ++ y) ≡ take got x = take-append-le got x y f.counts.0 in
-    record {
-      got = got;
-      read = rw part f.received;
-      most = omega (arith, f.counts);
-      within = omega (arith, f.counts, length-append x y);
-      moves = m;
-    }
 
 -- What was read for a table has that many bytes.
 pub table_long : (nr : ℕ) {w : Walk} {r : Move} {left : List ℕ} (n : Next nr w r left) → length (take n.got left) ≤ table_size nr w.count

@@ -2,7 +2,7 @@
 -- for a table has kept its length. A turn makes one lookup more (`going_more`), after which the count has grown (`going_on`), or it is refused
 -- (`gone_short`); behind the last lookup the set is whole (`gone_whole`). The measure is the number of lookups left.
 -- Assumes nothing.
-use mathlib.Core.Path.{sym, ◌∙◌}
+use mathlib.Core.Path.{◌∙◌}
 use native.Mathlib.Omega.{arith}
 use Rattle.layout.proofs.laws.Ten.{ten, in_set}
 use Rattle.walker.proofs.laws.Tables.{going_none, going_more, going_on, gone_short, gone_whole}
@@ -11,10 +11,6 @@ use Rattle.walker.proofs.over_input.Goals as goal
 pub loop-w-init : goal.loop-w-init
 loop-w-init g c =
     going_none 10 c.requires
-
-pub over_next-m-requires : goal.over_next-m-requires
-over_next-m-requires g c =
-    c.loop-w.invariant.long
 
 pub loop-w-smaller : goal.loop-w-smaller
 loop-w-smaller g c =
@@ -32,11 +28,3 @@ returns-in_default g c =
 pub returns : goal.returns
 returns g c =
     gone_whole 10 c.loop-w.invariant (omega (arith, ten.all_lookups))
-
-pub shape_of-table-in_default : goal.shape_of-table-in_default
-shape_of-table-in_default g c =
-    c.over_next-m.auto.table ∙ c.loop-w.invariant.long ∙ sym c.requires
-
-pub shape_of-table : goal.shape_of-table
-shape_of-table g c =
-    c.loop-w.invariant.long ∙ sym c.requires

@@ -2,13 +2,12 @@
 -- forward one (`by_deciphering`) and `encipher` else (`by_enciphering`). The premises are the test of the cipher and what the two calls ensure.
 -- Assumes nothing.
 use mathlib.Core.Path.{refl}
-use Rattle.answers.proofs.laws.Tests.{handed_back}
 use Rattle.chains.proofs.laws.Whole.{not_uncoded, by_deciphering, by_enciphering}
 use Rattle.chains.proofs.whole.take_off.Goals as goal
 
 pub returns-in_err-decode_output : goal.returns-in_err-decode_output
 returns-in_err-decode_output c =
-    not_uncoded _ _ _ _ _ refl c.decode_output.ensures.answer (handed_back c.from_residual.ensures c.in_err-decode_output.was) c.in_err-decode_output.was
+    not_uncoded _ _ _ _ _ refl c.decode_output.ensures.answer c.from_residual.ensures c.in_err-decode_output.was
 
 pub returns-then-cipher-eq0 : goal.returns-then-cipher-eq0
 returns-then-cipher-eq0 c =

@@ -1,7 +1,10 @@
--- `round::key::word_at` meets its contract. The four bytes from 4 i on are word i (`word_is` of `laws.Key`).
+-- `round::key::word_at` meets its contract. Byte q of the array is the one at 4 i + q (`from_fn` of bits' `laws.Arrays`), which is `word_at`.
 -- Assumes nothing.
-use Rattle.round.proofs.laws.Key.{word_is}
+use Rattle.bits.proofs.laws.Arrays.{from_fn}
+use Rattle.std.proofs.Common.{rules}
+use Rattle.round.specs.Key.{word_at}
 use Rattle.round.proofs.key.word_at.Goals as goal
 
 pub returns : goal.returns
-returns c = word_is _ _
+unfolding word_at
+returns c = from_fn _ (λ i y q k. search rules) c.from_fn.ensures.items

@@ -1,9 +1,0 @@
--- `host::tazhikko_encipher`: FIPS 197's cipher, by the crate `aes`. The number returned is that of the definition's answer,
--- since the call's answer is it, and the block is as the call leaves it.
--- Assumes nothing.
-use Rattle.host.proofs.laws.Numbered.{numbered}
-use Rattle.host.proofs.tazhikko_encipher.Goals as goal
-
-pub returns : goal.returns
-returns c =
-    record { answer = numbered c.number.ensures c.encipher.ensures.answer; block = c.encipher.ensures.block }
