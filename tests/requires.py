@@ -1,6 +1,6 @@
 #!/usr/bin/env python3
-"""docs/DECISIONS.md lists every public function that asks for something: each `pub fn` with a `requires` that another crate can name stands in
-its section by its path, and each function that stands there is one. A call for C has no `requires`.
+"""docs/DECISIONS.md lists every public function that asks for something: each `pub fn` with a `requires` that another crate can name, and each such
+method of a `pub trait`, stands in its section by its path, and each function that stands there is one. A call for C has no `requires`.
 
 usage: tests/requires.py     ends with 1 and a line for each function that is not listed, or listed and none
 """
@@ -11,13 +11,19 @@ import sys
 ROOT = pathlib.Path(__file__).resolve().parent.parent
 HEADING = "## Public functions that ask for something"
 FUNCTION = re.compile(r"^ *(?P<pub>pub )?(?P<c>extern \"C\" )?fn (?P<name>\w+)(?P<head>.*?)\{\}?$", re.M | re.S)
+METHOD = re.compile(FUNCTION.pattern.replace(r"\{\}?$", r"(?:\{\}?|;)$"), re.M | re.S)
+TRAIT = re.compile(r"^pub trait [^\n]*\{$.*?^\}", re.M | re.S)
 PASSED_ON = re.compile(r"^pub use (?:crate::)?(\w+)::(\w+|\{[^}]*\});", re.M)
 
 
 def functions(path):
     """Of each function of a file: whether it is public, whether it is for C, its name, and whether it asks for something."""
-    for found in FUNCTION.finditer(path.read_text()):
-        yield bool(found["pub"]), bool(found["c"]), found["name"], bool(re.search(r"^ +requires\b", found["head"], re.M))
+    text = path.read_text()
+    traits = TRAIT.findall(text)
+    for part, pattern in [(TRAIT.sub("", text), FUNCTION), *((trait, METHOD) for trait in traits)]:
+        for found in pattern.finditer(part):
+            public = bool(found["pub"]) or pattern is METHOD
+            yield public, bool(found["c"]), found["name"], bool(re.search(r"^ +requires\b", found["head"], re.M))
 
 
 def asking(crate):

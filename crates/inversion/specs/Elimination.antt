@@ -1,6 +1,6 @@
 -- The inverse of a bit matrix by Gauss-Jordan elimination, as a definition over the number n of rows. What it answers is said
 -- without it in Inverses.antt. Here f and g are functions from a row's number to the row. Definitions only.
-use Rattle.std.specs.Prelude.{Bool, true, false, List, [], ℕ, zero, suc, ◌-◌, ◌*◌}
+use Rattle.std.specs.Prelude.{Bool, true, false, List, [], ℕ, zero, suc, ◌-◌, ◌*◌, Option, Some, None}
 use Rattle.std.specs.Int.Bits.{bit_xor}
 use Rattle.bits.specs.Lists.{at, tabulate}
 use Rattle.bits.specs.Vectors.{bit, delta}
@@ -37,6 +37,14 @@ choose (suc x) a b = a
 unfoldable pub pivot_from : ℕ → ℕ → (ℕ → ℕ) → ℕ → ℕ → ℕ
 pivot_from n k f zero i = i
 pivot_from n k f (suc d) i = choose (bit n k (f i)) i (pivot_from n k f d (suc i))
+
+-- The pivot that a search in column k of n rows tells: the row, or none where the d rows left from it on are none.
+abbrev pub told : ℕ → ℕ → Option ℕ
+told zero p = None
+told (suc d) p = Some p
+
+unfoldable pub pivot_in : ℕ → ℕ → (ℕ → ℕ) → Option ℕ
+pivot_in n k f = told (n - pivot_from n k f (n - k) k) (pivot_from n k f (n - k) k)
 
 -- The inverse, or that there is none.
 pub data Inversion : Type 0 where

@@ -32,7 +32,7 @@ fn spread_all<const WIDTH: usize>(
         ≡ spreads_in (shape_at (reads_of cipher) stage) set.now from standing.now 16 area.old }
 {
     for p in 0..SPREADS {
-        layer::spread_in::<WIDTH>(cipher, standing, area, set, from, stage, p);
+        layer::spread_of_width::<WIDTH>(cipher, standing, area, set, from, stage, p);
     }
 }
 

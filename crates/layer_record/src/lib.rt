@@ -61,7 +61,7 @@ fn record_spreads<const WIDTH: usize>(
     for p in 0..SPREADS {
         let at = p * ENTRY_BYTES;
         let to = at + ENTRY_BYTES;
-        let offset = layer::spread_in::<WIDTH>(cipher, standing, area, set, from, stage, p);
+        let offset = layer::spread_of_width::<WIDTH>(cipher, standing, area, set, from, stage, p);
         put_entry(&mut recorded[at..to], offset, set[offset]);
     }
 }

@@ -1,9 +1,11 @@
 // The spread area, changed in place.
 ghost use Rattle.std.specs.Prelude.{◌≡◌, ◌+◌, ◌*◌, ◌/◌, ◌%◌, ◌<◌, ◌≤◌, length};
 ghost use Rattle.network.specs.Lookups.{sums, zero_area};
+ghost use Rattle.layout.specs.Stages.{width_of};
 ghost use Rattle.lookups.specs.InPlace.{Width, SpreadIn, with_half, SpreadRead, XorRead};
 
 use crate::pair::{half_of, index_of, joined, xor_entry};
+use layout::stage::{Stage, width_of};
 use std::array;
 
 // The byte x with the half replaced by v that is nibble q of a list.
@@ -37,16 +39,33 @@ pub fn xor(area: &mut [u8; 256], table: &[u8], sum: usize, added: usize) -> usiz
 // A spread lookup: the byte s picks a word of the table, which becomes word p of the area. It is read whole before it is
 // written: the compiler cannot know that the table and the area lie apart, and would test it or move the word byte by
 // byte. Hands back the byte of the table where it begins.
-pub fn spread(area: &mut [u8; 256], table: &[u8], width: usize, p: usize, s: u8) -> usize
-    requires { SpreadIn width p (length table.now) }
-    ensures { SpreadRead table.now width p s area.old result area.new }
+pub fn spread<const WIDTH: usize>(area: &mut [u8; 256], table: &[u8], p: usize, s: u8) -> usize
+    requires { SpreadIn WIDTH p (length table.now) }
+    ensures { SpreadRead table.now WIDTH p s area.old result area.new }
 {
-    let to = p * width;
-    let from = usize::from(s) * width;
+    let to = p * WIDTH;
+    let from = usize::from(s) * WIDTH;
     let mut word = [0u8; 16];
-    word[..width].copy_from_slice(&table[from..from + width]);
-    area[to..to + width].copy_from_slice(&word[..width]);
+    word[..WIDTH].copy_from_slice(&table[from..from + WIDTH]);
+    area[to..to + WIDTH].copy_from_slice(&word[..WIDTH]);
     from
+}
+
+// That of a stage. The compiler so knows how wide the words are: one of any width would be moved by the C library's
+// `memmove`, which a host without it could not link.
+pub fn spread_at(area: &mut [u8; 256], table: &[u8], stage: Stage, p: usize, s: u8) -> usize
+    requires { SpreadIn (width_of stage) p (length table.now) }
+    ensures { SpreadRead table.now (width_of stage) p s area.old result area.new }
+{
+    let width = width_of(stage);
+    if width == 16 {
+        return spread::<16>(area, table, p, s);
+    }
+    if width == 4 {
+        return spread::<4>(area, table, p, s);
+    }
+    // Behind the exit there are no words.
+    spread::<0>(area, table, p, s)
 }
 
 // Where byte q of the sums stands: in word 0 of its group.

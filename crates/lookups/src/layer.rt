@@ -89,7 +89,7 @@ pub fn lookup_in(
     let width = width_of(stage);
     if j < SPREADS {
         let i = source_of(cipher, stage, j);
-        let word = area::spread(area, table, width, j, standing[i]);
+        let word = area::spread_at(area, table, stage, j, standing[i]);
         let at = from + word;
         return EntryPlace {
             offset: at,
@@ -107,7 +107,7 @@ pub fn lookup_in(
 
 // Spread lookup p of a stage or half, whose tables begin at byte `from` of the set, where the compiler knows the width:
 // the word is moved at once. Hands back the byte of the set where the word begins that was read.
-pub fn spread_in<const WIDTH: usize>(
+pub fn spread_of_width<const WIDTH: usize>(
     cipher: u64,
     standing: &[u8; 16],
     area: &mut [u8; 256],
@@ -124,8 +124,29 @@ pub fn spread_in<const WIDTH: usize>(
     let start = from + p * size;
     let end = start + size;
     let i = source_of(cipher, stage, p);
-    let word = area::spread(area, &set[start..end], WIDTH, p, standing[i]);
+    let word = area::spread::<WIDTH>(area, &set[start..end], p, standing[i]);
     start + word
+}
+
+// The same, for a caller that has the stage alone.
+pub fn spread_in(
+    cipher: u64,
+    standing: &[u8; 16],
+    area: &mut [u8; 256],
+    set: &[u8],
+    from: usize,
+    stage: Stage,
+    p: usize,
+) -> usize
+    requires { SpreadAsked stage p from (length set.now) }
+    ensures { SpreadMade (shape_at (reads_of cipher) stage) set.now from p
+        standing.now area.old result area.new }
+{
+    if width_of(stage) == 16 {
+        spread_of_width::<16>(cipher, standing, area, set, from, stage, p)
+    } else {
+        spread_of_width::<4>(cipher, standing, area, set, from, stage, p)
+    }
 }
 
 // Word t of group g: "rounds, column, then word 1 to 3", each of its bytes two tables.

@@ -83,12 +83,15 @@ fn put_word(w: &mut [u8], i: usize, x: [u8; 4])
     w[from..from + 4].copy_from_slice(&x);
 }
 
-// The key, laid out in front of the room for the other words.
+// The key, laid out in front of the room for the other words. It is copied byte by byte: `copy_from_slice`, of a length that
+// the compiler does not know, would be a call of the C library's `memmove`, which a host without it could not link.
 fn lay(key: &[u8], w: &mut [u8])
     requires { length key.now ≤ length w.old }
     ensures { take (length key.now) w.new ≡ key.now }
 {
-    w[..key.len()].copy_from_slice(key);
+    for i in 0..key.len() {
+        w[i] = key[i];
+    }
 }
 
 // The round keys of a key of so many words, one after the other: 4 (Nr + 1) words, where Nr is six more than the words

@@ -6,6 +6,7 @@
 ghost use Rattle.std.specs.Prelude.{◌≡◌};
 ghost use Rattle.view.specs.Views.{view_of, served_by, part_in};
 
+pub mod found;
 pub mod opened;
 pub mod part;
 pub mod starts;

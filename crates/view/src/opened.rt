@@ -10,7 +10,7 @@ ghost use Rattle.view.specs.Views.{starts_of, part_in};
 
 use crate::part::Part;
 use crate::starts::Starts;
-use crate::{part, starts};
+use crate::{found, starts};
 
 // A bundle that is accepted for a number of rounds, with the starts that were found for it.
 #[derive(Clone, Copy)]
@@ -41,20 +41,20 @@ impl<'a> Opened<'a> {
     pub fn encodings(&self) -> &'a [u8]
         ensures { result.now ≡ section_of self.now.rounds self.now.bundle.now 0 }
     {
-        part::section_from(self.rounds, self.bundle, 0, self.starts.encodings)
+        found::encodings(self.rounds, self.bundle, self.starts)
     }
 
     // The section of the byte matrices.
     pub fn byte_matrices(&self) -> &'a [u8]
         ensures { result.now ≡ section_of self.now.rounds self.now.bundle.now 1 }
     {
-        part::section_from(self.rounds, self.bundle, 1, self.starts.bytes)
+        found::byte_matrices(self.rounds, self.bundle, self.starts)
     }
 
     // The part that holds what p names.
     pub fn part(&self, p: Part) -> &'a [u8]
         ensures { result.now ≡ part_in self.now.rounds self.now.bundle.now p }
     {
-        part::part_in(self.rounds, self.bundle, self.starts, p)
+        found::part(self.rounds, self.bundle, self.starts, p)
     }
 }

@@ -5,9 +5,9 @@ use mathlib.Core.List.{List}
 use Prim.Native.Nat.{ℕ, ◌+◌, ◌≤◌, ◌<◌}
 use native.Mathlib.Omega.{arith}
 use lib.ListN.{length, set, take, length-set}
-use lib.Seq.{get_or-take}
+use lib.Seq.{get_or-take, length-take-le}
 use Rattle.bits.specs.Lists.{at, tabulate}
-use Rattle.bits.proofs.laws.Lists.{fill_more, fill_all, at_tabulate}
+use Rattle.bits.proofs.laws.Lists.{fill_more, fill_all, at_tabulate, length_tabulate, ext_at}
 
 -- The loop's invariant: the first i of the n places of t are filled.
 pub record Filled (n : ℕ) (f : ℕ → ℕ) (t : List ℕ) (i : ℕ) : Type 0 where
@@ -31,6 +31,12 @@ filled_more {f = f} {t = t} {i = i} {v = v} g h e =
 pub filled_all : {n : ℕ} {f : ℕ → ℕ} {t : List ℕ} {i : ℕ} → Filled n f t i → n ≤ i → t ≡ tabulate n f
 filled_all {n} {f} {t} {i} g h = fill_all n t i f g.long (omega arith) g.front
 
--- What is filled: place j.
-pub filled_at : {n : ℕ} {f : ℕ → ℕ} {t : List ℕ} {i : ℕ} → Filled n f t i → (j : ℕ) → j < i → at t j ≡ f j
-filled_at {f = f} {t = t} {i = i} g j h = sym (get_or-take i t j 0 h) ∙ ap (λ (u : List ℕ). at u j) g.front ∙ at_tabulate i f j h
+-- What is filled: place j, and the first k places.
+module _ {n : ℕ} {f : ℕ → ℕ} {t : List ℕ} {i : ℕ} (g : Filled n f t i) where
+  pub filled_at : (j : ℕ) → j < i → at t j ≡ f j
+  filled_at j h = sym (get_or-take i t j 0 h) ∙ ap (λ (u : List ℕ). at u j) g.front ∙ at_tabulate i f j h
+
+  pub filled_front : {k : ℕ} → k ≤ i → take k t ≡ tabulate k f
+  filled_front {k} h =
+      ext_at k (take k t) (tabulate k f) (length-take-le k t (omega (arith, g.within, g.long))) (length_tabulate k f)
+      (λ j l. get_or-take k t j 0 l ∙ filled_at j (omega arith) ∙ sym (at_tabulate k f j l))

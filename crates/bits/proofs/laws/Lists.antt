@@ -93,7 +93,7 @@ set_below b (x ∷ xs) (suc i) v p h (suc j) = set_below b xs i v (λ k. p (suc 
 
 -- ---- a list that is filled from the front: element i is f i
 -- One element written at a: what then stands up to its end.
-put_one : (w : List ℕ) (a b k : ℕ) → a < length w → k ≡ suc a → take k (set w a b) ≡ take a w ++ (b ∷ [])
+pub put_one : (w : List ℕ) (a b k : ℕ) → a < length w → k ≡ suc a → take k (set w a b) ≡ take a w ++ (b ∷ [])
 put_one w a b k h e = ap (λ (z : ℕ). take z (set w a b)) e ∙ take-suc-set w a b h
 
 pub fill_more : (t : List ℕ) (i : ℕ) (f : ℕ → ℕ) (v : ℕ) → i < length t → take i t ≡ tabulate i f → v ≡ f i

@@ -6,12 +6,14 @@ use mathlib.Core.Bool.{Bool, true, false}
 use mathlib.Core.List.{List}
 use mathlib.Core.Logic.{◌≢◌}
 use mathlib.Core.Path.{◌≡◌, refl, sym, ap, ap₂, ◌∙◌, subst}
-use Prim.Native.Nat.{ℕ, suc, ◌+◌, ◌-◌, ◌*◌, ◌/◌, ◌%◌, ◌^◌, ◌≤◌, ◌<◌}
+use Prim.Native.Nat.{ℕ, zero, suc, ◌+◌, ◌-◌, ◌*◌, ◌/◌, ◌%◌, ◌^◌, ◌≤◌, ◌<◌}
 use native.Mathlib.Decide.{ℕ_discrete}
 use native.Mathlib.Nat.{mod-eq_of_lt}
 use native.Mathlib.Omega.{arith}
 use lib.Bits.{bit_xor}
 use lib.ListN.{length, get_or, set, length-set}
+use Rattle.std.specs.Prelude.{Some, None}
+use Rattle.std.proofs.lemmas.Option.{none-some, same_Some}
 use Rattle.bits.specs.Lists.{at, tabulate}
 use Rattle.bits.specs.Vectors.{bit, unit}
 use Rattle.bits.proofs.laws.Lists.{tabulate_ext, at_tabulate}
@@ -19,7 +21,7 @@ use Rattle.bits.proofs.laws.Vectors.{bit_lt}
 use Rattle.matrices.specs.Matrices.{identity}
 use Rattle.matrices.specs.Rows.{row_at, rows_of, stored}
 use Rattle.matrices.proofs.laws.Rows.{stored_same}
-use Rattle.inversion.specs.Elimination.{add_row, pivot_by, clear_by, pivot_from, Inversion, inverse, singular, columns, invert, has_inverse, with_inverse}
+use Rattle.inversion.specs.Elimination.{add_row, pivot_by, clear_by, pivot_from, told, pivot_in, Inversion, inverse, singular, columns, invert, has_inverse, with_inverse}
 use Rattle.inversion.specs.Work.{row_in, Stepped, ended}
 use Rattle.inversion.proofs.laws.Elimination.{clear_by_pivot}
 use Rattle.inversion.proofs.laws.Inverses.{pivot_found}
@@ -80,6 +82,42 @@ module _ {n k : ℕ} {f : ℕ → ℕ} {i : ℕ} (g : Sought n k f i) where
   sought_all h =
       let upto = g.within in
       g.same ∙ sym (pivot_end n k f i (omega arith))
+
+-- What it tells: the row, if that is one of the n, else none; and what a caller learns from either.
+told_here : (d p : ℕ) → 0 < d → told d p ≡ Some p
+told_here zero p h = absurd (omega arith)
+told_here (suc d) p h = refl
+
+told_some : (d q p : ℕ) → told d q ≡ Some p → (p ≡ q) × (0 < d)
+told_some zero q p e = absurd (none-some p e)
+told_some (suc d) q p e = (sym (same_Some q p e), omega arith)
+
+told_none : (d q : ℕ) → told d q ≡ None → d ≡ 0
+told_none zero q e = refl
+told_none (suc d) q e = absurd (none-some q (sym e))
+
+module _ (n k : ℕ) (f : ℕ → ℕ) where
+  pub pivot_told : {p : ℕ} → p ≡ pivot_from n k f (n - k) k → p < n → Some p ≡ pivot_in n k f
+  unfolding pivot_in
+  pivot_told {p} e h = sym (subst (λ (q : ℕ). told (n - q) q ≡ Some p) e (told_here (n - p) p (omega arith)))
+
+  pub none_told : pivot_from n k f (n - k) k ≡ n → None ≡ pivot_in n k f
+  unfolding pivot_in
+  none_told e =
+      let none_left : n - pivot_from n k f (n - k) k ≡ 0 = omega (arith, e) in
+      sym (ap (λ (d : ℕ). told d (pivot_from n k f (n - k) k)) none_left)
+
+  pub pivot_given : {p : ℕ} → Some p ≡ pivot_in n k f → (p ≡ pivot_from n k f (n - k) k) × (p < n)
+  unfolding pivot_in
+  pivot_given {p} e =
+      let given = told_some (n - pivot_from n k f (n - k) k) (pivot_from n k f (n - k) k) p (sym e) in
+      (given.0, omega (arith, given.0, given.1))
+
+  pub none_given : k < n → None ≡ pivot_in n k f → pivot_from n k f (n - k) k ≡ n
+  unfolding pivot_in
+  none_given h e =
+      let found = pivot_found n k f (n - k) k (omega arith) in
+      omega (arith, found.upto, told_none (n - pivot_from n k f (n - k) k) (pivot_from n k f (n - k) k) (sym e))
 
 -- ---- the clearing of column k: `top`, which is row k of m₀, has been added to those of the first i rows that have bit k, row k too
 -- Bit k of row i, of every row.

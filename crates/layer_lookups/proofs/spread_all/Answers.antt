@@ -8,4 +8,4 @@ loop-p-init g c = spreads_none
 
 pub loop-p-preserved : goal.loop-p-preserved
 loop-p-preserved g c =
-    spreads_more c.loop-p.invariant (search) c.spread_in.ensures
+    spreads_more c.loop-p.invariant (search) c.spread_of_width.ensures

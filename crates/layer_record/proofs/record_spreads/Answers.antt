@@ -10,4 +10,4 @@ loop-p-init g c =
 
 pub loop-p-preserved : goal.loop-p-preserved
 loop-p-preserved g c =
-    spreads_more c.loop-p.invariant (search) c.spread_in-offset.ensures (search) c.put_entry.ensures
+    spreads_more c.loop-p.invariant (search) c.spread_of_width-offset.ensures (search) c.put_entry.ensures

@@ -39,7 +39,7 @@ xor_made m x p q t a e a' f g r =
     }
 
 -- Entry and exit: one group of 16 words.
-below_480 : {m x : ℕ} → XorIn m x → m ≡ 16 → x < 480
+pub below_480 : {m x : ℕ} → XorIn m x → m ≡ 16 → x < 480
 below_480 k e = ⊎_elim (λ p. p.1) (λ p. absurd (omega arith)) k
 
 pub xor_16 : {m x : ℕ} {t a a' : List ℕ} {i : ℕ} → XorIn m x → m ≡ 16 → XorRead t (x % 32) (x + 32) a i a' → XorMade m x t a i a'
@@ -48,7 +48,7 @@ xor_16 {x = x} {t} {a} {a'} {i} k e r =
     rw e (xor_made 16 x (x % 32) (x + 32) t a i a' (omega arith) (omega arith) r)
 
 -- A half: four groups of 4 words.
-is_4 : {m x : ℕ} → XorIn m x → (m ≡ 16 → ⊥) → (m ≡ 4) × (x < 96)
+pub is_4 : {m x : ℕ} → XorIn m x → (m ≡ 16 → ⊥) → (m ≡ 4) × (x < 96)
 is_4 k n = ⊎_elim (λ p. absurd (n p.0)) (λ p. p) k
 
 pub xor_4 : {m x : ℕ} {t a a' : List ℕ} {i : ℕ} → XorIn m x → (m ≡ 16 → ⊥)

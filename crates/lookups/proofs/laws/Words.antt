@@ -58,7 +58,7 @@ spread_made {S} {set} {from} {m} {p} e r h f g =
     }
 
 -- ---- word t of group g: what `word_in` works out
-record Room (m g t : ℕ) : Type 0 where
+pub record Room (m g t : ℕ) : Type 0 where
   pub behind : m ≤ t * m
   pub inside : g * m * m + t * m + m ≤ 256
   pub tables : (g * (m - 1) + t - 1) * (256 * m) ≡ 128 * word_first m g t
@@ -90,7 +90,7 @@ room_16 g t h s k =
       ends = omega (arith, bytes_16);
     }
 
-word_room : {m g t : ℕ} → WordIn m g t → Room m g t
+pub word_room : {m g t : ℕ} → WordIn m g t → Room m g t
 word_room {m} {g} {t} w =
     ⊎_elim
     (λ e. subst (λ (m : ℕ). Room m g t) (sym e) (room_4 g t (subst (λ (m : ℕ). g < 16 / m) e w.group) w.some (subst (λ (m : ℕ). t < m) e w.within)))

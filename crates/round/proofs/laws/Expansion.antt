@@ -1,14 +1,20 @@
--- Laws, not definitions: of the loop that expands the key, from what each call ensures.
+-- Laws, not definitions: of the loop that lays out the key and of the one that expands it, from what each call ensures.
 -- Assumes nothing.
-use mathlib.Core.Path.{◌≡◌, sym, ap, ◌∙◌}
+use mathlib.Core.Path.{◌≡◌, refl, sym, ap, ◌∙◌}
 use mathlib.Core.List.{List, ◌++◌}
 use Prim.Native.Nat.{ℕ, suc, ◌+◌, ◌-◌, ◌*◌, ◌≤◌, ◌<◌}
 use native.Mathlib.Omega.{arith}
 use lib.ListN.{length, take, drop}
 use lib.Seq.{take_all, length-paste, length_paste_head, take-append_seam}
-use Rattle.bits.proofs.laws.Lists.{length_tabulate}
+use Rattle.bits.specs.Lists.{at}
+use Rattle.bits.proofs.laws.Filled.{Filled, filled_front}
+use Rattle.bits.proofs.laws.Lists.{length_tabulate, tabulate_at}
 use Rattle.round.specs.Key.{word_at, xor_word, temp, next_word_of, expand, put_word, rounds_of, KeyExpansion}
 use Rattle.round.proofs.laws.Key.{word_take}
+
+-- ---- The loop that lays out the key fills the front of the memory.
+pub laid : {m : ℕ} {key w : List ℕ} {i : ℕ} → Filled m (at key) w i → length key ≤ i → take (length key) w ≡ key
+laid {key = key} F h = filled_front F h ∙ tabulate_at (length key) key refl
 
 -- ---- A word of four bytes, written over word i: what then stands up to its end.
 put_four : (w : List ℕ) (i : ℕ) (x : List ℕ) → 4 * i + 4 ≤ length w → length x ≡ 4 → take (4 * i + 4) (put_word w i x) ≡ take (4 * i) w ++ x

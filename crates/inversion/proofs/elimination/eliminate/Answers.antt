@@ -3,16 +3,20 @@
 -- clears the column (`reduced_next`); without a pivot the matrix is singular (`reduced_singular`); behind the last column the right side is the
 -- inverse (`reduced_all`).
 -- Assumes nothing.
-use Rattle.inversion.proofs.laws.Loops.{reduced_singular, reduced_next, reduced_all}
+use Rattle.inversion.proofs.laws.Loops.{pivot_given, none_given, reduced_singular, reduced_next, reduced_all}
 use Rattle.inversion.proofs.elimination.eliminate.Goals as goal
 
 pub returns-in_default : goal.returns-in_default
 returns-in_default g c =
-    reduced_singular c.loop-k.invariant c.loop-k-test.true c.in_default.ensures.none
+    reduced_singular c.loop-k.invariant c.loop-k-test.true (none_given _ _ _ c.loop-k-test.true c.in_default.ensures)
+
+pub pivot-requires-clause-row : goal.pivot-requires-clause-row
+pivot-requires-clause-row g c = (pivot_given _ _ _ c.in-Some.ensures).1
 
 pub loop-k-preserved : goal.loop-k-preserved
 loop-k-preserved g c =
-    reduced_next c.loop-k.invariant c.loop-k-test.true c.in-Some.ensures.some.0 c.in-Some.ensures.some.1 c.pivot.ensures c.clear.ensures (search) (search)
+    let given = pivot_given _ _ _ c.in-Some.ensures in
+    reduced_next c.loop-k.invariant c.loop-k-test.true given.0 given.1 c.pivot.ensures c.clear.ensures (search) (search)
 
 pub returns : goal.returns
 returns g c =

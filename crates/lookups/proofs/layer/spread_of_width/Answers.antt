@@ -1,4 +1,4 @@
--- `lookups::layer::spread_in` meets its contract. Lookup p is made over its table, a part of the set, at the standing byte that `source_of` ensures for the
+-- `lookups::layer::spread_of_width` meets its contract. Lookup p is made over its table, a part of the set, at the standing byte that `source_of` ensures for the
 -- cipher (`spread_made` of `laws.Words`). The table ends within the set (`table_ends`).
 -- Assumes nothing.
 use Prim.Native.Nat.{◌+◌, ◌*◌, ◌≤◌}
@@ -6,9 +6,9 @@ use lib.ListN.{length}
 use Rattle.network.specs.Sizes.{layer_bytes}
 use Rattle.lookups.proofs.laws.Words.{table_ends, spread_made}
 use native.Mathlib.Omega.{arith}
-use Rattle.lookups.proofs.layer.spread_in.Goals as goal
-use Rattle.lookups.proofs.layer.spread_in.Goals.{Start}
-use Rattle.lookups.proofs.layer.spread_in.Given.{Over}
+use Rattle.lookups.proofs.layer.spread_of_width.Goals as goal
+use Rattle.lookups.proofs.layer.spread_of_width.Goals.{Start}
+use Rattle.lookups.proofs.layer.spread_of_width.Given.{Over}
 
 -- the tables end within the set, and so does that of lookup p
 room : {g : Over} (c : Start g) → c.args.from + layer_bytes g.row.WIDTH ≤ length c.args.set.now

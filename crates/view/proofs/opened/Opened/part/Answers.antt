@@ -1,8 +1,0 @@
--- `view::opened::Opened::part` has the part from the starts; as they were found for the bundle, it is the bundle's (`part_found` of `laws.Serving`).
--- Assumes nothing.
-use Rattle.view.proofs.laws.Serving.{part_found}
-use Rattle.view.proofs.opened.Opened.part.Goals as goal
-
-pub returns : goal.returns
-returns c =
-    part_found _ _ c.args.self.now.found c.args.p c.part_in.ensures
