@@ -38,11 +38,12 @@ unfoldable pub pivot_from : ℕ → ℕ → (ℕ → ℕ) → ℕ → ℕ → �
 pivot_from n k f zero i = i
 pivot_from n k f (suc d) i = choose (bit n k (f i)) i (pivot_from n k f d (suc i))
 
--- The pivot that a search in column k of n rows tells: the row, or none where the d rows left from it on are none.
+-- What a search tells that came to row p, where d of the rows stand from there on: row p, or none where it came behind the last.
 abbrev pub told : ℕ → ℕ → Option ℕ
 told zero p = None
 told (suc d) p = Some p
 
+-- The pivot of column k of n rows: the first row from k on that has bit k, or none.
 unfoldable pub pivot_in : ℕ → ℕ → (ℕ → ℕ) → Option ℕ
 pivot_in n k f = told (n - pivot_from n k f (n - k) k) (pivot_from n k f (n - k) k)
 

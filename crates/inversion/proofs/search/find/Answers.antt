@@ -1,5 +1,6 @@
 -- `inversion::search::find` meets its contract. The loop's invariant, `Sought` of `laws.Loops`: of the rows from k on, none before row i has bit k. A turn reads bit
--- k of row i: where it is 1, row i is the pivot (`sought_here`), else the search goes on (`sought_more`); behind the last row there is none (`sought_all`).
+-- k of row i: where it is 1, row i is the pivot (`sought_here`), which is told (`pivot_told`), else the search goes on (`sought_more`); behind the last row there
+-- is none (`sought_all`), and none is told (`none_told`).
 -- Assumes nothing.
 use Rattle.inversion.proofs.laws.Loops.{sought_here, sought_more, sought_all, pivot_told, none_told}
 use Rattle.inversion.proofs.laws.Rows.{row_is}
